@@ -1,0 +1,3 @@
+mod Loss
+mod Power
+mod Zero

@@ -1,0 +1,24 @@
+use Rattle.std.proofs.Common.{◌≡◌, [], ◌∷◌, sym, ◌∙◌, ap, subst, rules, get_or, List, length, arith, refl}
+use Rattle.std.proofs.lemmas.List.{get_or_read, length-reverse}
+use Rattle.sector_device.specs.declared.memory.Call.{Call}
+use Rattle.sector_device.specs.declared.memory.Call.TheVariants.{Wrote}
+use Rattle.sector_device.specs.Image.{Image, IsSector, sector_at, with_sector}
+use Rattle.sector_device.specs.MemoryDevice.{state_of, calls_of}
+use Rattle.sector_device.specs.MemoryLaws.{memory_sound}
+use Rattle.sector_device.proofs.Loss.{torn_nothing, same_record, write_torn}
+use Rattle.sector_device.proofs.memory.MemoryDeviceDevice.write.Goals as goal
+
+pub returns-in_err-record-clause-torn : goal.returns-in_err-record-clause-torn
+returns-in_err-record-clause-torn c honest =
+    torn_nothing c.args.at (state_of c.args.self.now) (state_of c.record.new.self) (memory_sound c.args.self.now) c.requires
+    (same_record c.args.self.now c.record.new.self c.record.ensures.sectors c.in_err-record.ensures.err)
+
+pub returns-clause-torn : goal.returns-clause-torn
+returns-clause-torn c honest =
+    let reads = c.args.self.now.sectors.items in
+    let before : c.index-before.result.now ≡ sector_at reads c.args.at = get_or_read reads c.args.at c.index-before.result.now c.requires c.index-before.ensures [] in
+    write_torn c.args.self.now (state_of c.put.new.self).reads (calls_of c.put.new.self) (length c.put.new.self.calls.items) c.put.new.self.faults c.args.at c.args.from.now
+    (record { size = c.told-from; values = c.fits-from }) c.requires
+    (c.put.ensures.put ∙ ap (λ (image : Image). with_sector image c.args.at c.args.from.now) c.record.ensures.sectors)
+    (c.put.ensures.calls ∙ c.in_ok-record.ensures.ok.0 ∙ ap (λ (bytes : _). Wrote c.args.at bytes ∷ calls_of c.args.self.now) before)
+    (sym (length-reverse c.put.new.self.calls.items))

@@ -1,0 +1,69 @@
+-- What a crash may leave before, within and after the calls of an honest device.
+use Rattle.std.specs.Prelude.{◌≡◌, ◌⊎◌, ◌≤◌, ℕ, List, length}
+use Rattle.std.proofs.Common.{inl, inr, ⊎_elim, arith}
+use Rattle.sector_device.specs.Image.{Image, DiffersAt}
+use Rattle.sector_device.specs.Device.{DeviceState, IsSound}
+
+-- A call took its time: a crash since an earlier moment might have left what it might have left before the
+-- call, or what it may leave now; and none of it is forgotten.
+pub record Elapses (old new : DeviceState) : Type 0 where
+  pub later : old.moment ≤ new.moment
+  pub nothing_else : (since : ℕ) (image : Image) → since ≤ old.moment → new.left_since since image → old.left_since since image ⊎ new.may_leave image
+  pub nothing_forgotten : (since : ℕ) (image : Image) → since ≤ old.moment → old.left_since since image → new.left_since since image
+
+-- A read or a sync, whether it failed or not: reads give the same, and a crash may leave nothing more than before.
+pub record IsSame (old new : DeviceState) : Type 0 where
+  pub time : Elapses old new
+  pub reads : new.reads ≡ old.reads
+  pub nothing_more : (image : Image) → new.may_leave image → old.may_leave image
+
+-- A write to one sector, whether it failed or not: reads give some 512 bytes there, and what a crash may leave
+-- is what it might have left before, but for any 512 bytes there.
+pub record IsTorn (at : ℕ) (old new : DeviceState) : Type 0 where
+  pub time : Elapses old new
+  pub reads : DiffersAt at old.reads new.reads
+  pub torn : (image : Image) → new.may_leave image → (before : Image) × old.may_leave before × DiffersAt at before image
+
+-- A crash now leaves what reads give, and nothing else: no sector is pending.
+abbrev pub IsDurable : DeviceState → Type 0
+IsDurable state = (image : Image) → state.may_leave image → image ≡ state.reads
+
+-- Over a run of calls: an image that a crash at any moment since old leaves has P.
+pub record LeavesOnly (old new : DeviceState) (P : Image → Type 0) : Type 0 where
+  pub later : old.moment ≤ new.moment
+  pub each : (image : Image) → new.left_since old.moment image → P image
+  -- for a run that began earlier
+  pub before : (since : ℕ) (image : Image) → since ≤ old.moment → new.left_since since image → old.left_since since image ⊎ P image
+
+-- before the first call
+pub nothing_happened : (state : DeviceState) (P : Image → Type 0) → IsSound state → ((image : Image) → state.may_leave image → P image) → LeavesOnly state state P
+nothing_happened state P sound here = record {
+  later = omega arith;
+  each = λ image left. here image (sound.only_now image left);
+  before = λ since image le left. inl left;
+}
+
+-- one call
+pub one_call : (old new : DeviceState) (P : Image → Type 0) → IsSound old → Elapses old new
+    → ((image : Image) → old.may_leave image → P image) → ((image : Image) → new.may_leave image → P image) → LeavesOnly old new P
+one_call old new P sound time here after = record {
+  later = time.later;
+  each = λ image left. ⊎_elim (λ was. here image (sound.only_now image was)) (after image) (time.nothing_else old.moment image (omega arith) left);
+  before = λ since image le left. ⊎_elim (λ was. inl was) (λ now. inr (after image now)) (time.nothing_else since image le left);
+}
+
+-- two runs, one after the other
+pub joined : (old mid new : DeviceState) (P : Image → Type 0) → LeavesOnly old mid P → LeavesOnly mid new P → LeavesOnly old new P
+joined old mid new P first second = record {
+  later = omega (arith, first.later, second.later);
+  each = λ image left. ⊎_elim (first.each image) (λ has. has) (second.before old.moment image first.later left);
+  before = λ since image le left. ⊎_elim (first.before since image le) (λ has. inr has) (second.before since image (omega (arith, le, first.later)) left);
+}
+
+-- a weaker property
+pub weakened : (old new : DeviceState) (P Q : Image → Type 0) → ((image : Image) → P image → Q image) → LeavesOnly old new P → LeavesOnly old new Q
+weakened old new P Q implies run = record {
+  later = run.later;
+  each = λ image left. implies image (run.each image left);
+  before = λ since image le left. ⊎_elim (λ was. inl was) (λ has. inr (implies image has)) (run.before since image le left);
+}

@@ -1,0 +1,41 @@
+-- What is to be known of a device at one moment, and what one call changes.
+use Rattle.std.specs.Prelude.{◌≡◌, ◌⊎◌, ◌+◌, ◌<◌, ◌≤◌, ◌^◌, ◌-◌, ℕ, List, length}
+use Rattle.sector_device.specs.Image.{Image, IsImage, DiffersAt}
+
+-- A device at one moment. Time is counted in moments: each call may pass some.
+pub record DeviceState : Type 1 where
+  -- the sectors that reads give
+  pub reads : Image
+  -- the images that a crash now may leave
+  pub may_leave : Image → Type 0
+  -- the present moment, a number that never falls
+  pub moment : ℕ
+  -- the images that a crash at some moment from that one up to now might have left
+  pub left_since : ℕ → Image → Type 0
+  -- the device loses only as these facts say, and nobody else writes it
+  pub honest : Type 0
+  -- how many calls have failed; at 2^64 - 1 the count stands
+  pub faults : ℕ
+
+-- What holds of an honest device at each moment.
+pub record IsSound (state : DeviceState) : Type 0 where
+  -- losing nothing is one of the outcomes
+  pub nothing_lost : state.may_leave state.reads
+  -- a crash leaves as many sectors, each of 512 bytes
+  pub images : (image : Image) → state.may_leave image → IsImage image × (length image ≡ length state.reads)
+  -- this moment is one of those since any earlier one
+  pub counts_now : (since : ℕ) (image : Image) → since ≤ state.moment → state.may_leave image → state.left_since since image
+  -- since this moment there is no other
+  pub only_now : (image : Image) → state.left_since state.moment image → state.may_leave image
+
+-- Where fault holds, the count of failures rose, or stands at its greatest value.
+abbrev pub HasCause : ℕ → ℕ → Type 0 → Type 0
+HasCause before after fault = fault → (before < after) ⊎ (2 ^ 64 - 1 ≤ after)
+
+-- What any call, and any run of calls, keeps on every device, honest or not.
+pub record IsCall (old new : DeviceState) (fault : Type 0) : Type 0 where
+  pub sectors : length new.reads ≡ length old.reads
+  pub stays_honest : old.honest → new.honest
+  pub was_honest : new.honest → old.honest
+  pub faults : old.faults ≤ new.faults
+  pub cause : HasCause old.faults new.faults fault

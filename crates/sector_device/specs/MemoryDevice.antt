@@ -1,0 +1,29 @@
+-- A device in memory at one moment.
+use Rattle.std.specs.Prelude.{ℕ, List, length, reverse}
+use Rattle.sector_device.specs.Image.{Image}
+use Rattle.sector_device.specs.Device.{DeviceState}
+use Rattle.sector_device.specs.Memory.{MayLeave, LeftSince, IsPending}
+use Rattle.sector_device.specs.declared.memory.Call.{Call}
+use Rattle.sector_device.specs.declared.memory.MemoryDevice.{MemoryDevice}
+
+-- its record of writes and syncs, the newest first
+abbrev pub calls_of : MemoryDevice → List Call
+calls_of device = reverse device.calls.items
+
+-- It is honest, and moments are counted by its record.
+abbrev pub memory_state : Image → List Call → ℕ → ℕ → DeviceState
+memory_state reads calls moment faults = record {
+  reads = reads;
+  may_leave = MayLeave reads calls;
+  moment = moment;
+  left_since = LeftSince reads calls;
+  honest = Unit {0};
+  faults = faults;
+}
+
+abbrev pub state_of : MemoryDevice → DeviceState
+state_of device = memory_state device.sectors.items (calls_of device) (length device.calls.items) device.faults
+
+-- A write to the sector answered Ok since the last sync that answered Ok.
+abbrev pub IsPendingIn : MemoryDevice → ℕ → Type 0
+IsPendingIn device at = IsPending (calls_of device) at

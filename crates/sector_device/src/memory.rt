@@ -1,0 +1,184 @@
+ghost use Rattle.std.specs.Prelude.{◌≡◌, ◌⊎◌, ◌<◌, ◌≤◌, ◌↔◌, [], ◌∷◌, ℕ, replicate, reverse, length, IsTrue, IsOk, IsErr, IfOk, OnOk, OnErr};
+ghost use Rattle.sector_device.specs.Image.{IsImage, sector_at, with_sector};
+ghost use Rattle.sector_device.specs.Device.{HasCause, IsCall};
+ghost use Rattle.sector_device.specs.Crash.{IsSame, IsTorn, IsDurable};
+ghost use Rattle.sector_device.specs.Picks.{TakesPicks};
+ghost use Rattle.sector_device.specs.Memory.{IsPending};
+
+use crate::{Device, DeviceFault, SECTOR, Sector};
+use std::alloc::{AllocError, Global};
+
+/// An entry of the record that a memory device keeps of its calls.
+#[derive(Clone, Copy, Debug)]
+enum Call {
+    /// A write to sector `at`, and the bytes that stood there before.
+    Wrote { at: u64, before: Sector },
+    Synced,
+}
+
+/// What a power loss is to leave in sectors that are pending: sector numbers with their bytes. The last pick for a
+/// sector counts, and picks for sectors that aren't pending are ignored.
+#[derive(Debug, Drop)]
+pub struct Picks {
+    pub list: Vec<(u64, Sector)>,
+}
+
+/// A device in memory, which is honest: it keeps every fact of `Device`.
+///
+/// It remembers each write and sync that answered `Ok`, as the loss model has to see what a crash at an earlier
+/// moment might have left. Its reads never fail. A write or a sync fails only where that record can't grow, and then
+/// changes no byte and no pending sector.
+#[derive(Debug, Drop)]
+pub struct MemoryDevice {
+    sectors: Vec<Sector>,
+    calls: Vec<Call>,
+    faults: u64,
+    ghost whole: { IsImage sectors.items },
+}
+
+impl MemoryDevice {
+    ghost use Rattle.sector_device.specs.MemoryDevice.{state_of, calls_of, IsPendingIn};
+
+    /// A device of so many sectors, all zero, with nothing pending.
+    pub fn new(alloc: Global, sectors: u64) -> Result<MemoryDevice, AllocError>
+        ensures zero { IfOk result (λ device. (state_of device).reads ≡ replicate sectors (replicate 512 0)) }
+        ensures durable { IfOk result (λ device. IsDurable (state_of device)) }
+        ensures settled { IfOk result (λ device. (at : ℕ) → IsPendingIn device at → ⊥) }
+    {
+        Ok(MemoryDevice {
+            sectors: vec![in alloc; [0; SECTOR]; sectors as usize]?,
+            calls: Vec::new(alloc),
+            faults: 0,
+        })
+    }
+
+    /// Whether a write to the sector answered `Ok` since the last sync that answered `Ok`.
+    pub fn pending(&self, at: u64) -> bool
+        requires { at < length (state_of self.now).reads }
+        ensures { IsTrue result ↔ IsPendingIn self.now at }
+    {
+        is_pending(&self.calls, at)
+    }
+
+    // Adds an entry to the record, or counts a failure where it can't grow.
+    fn record(&mut self, call: Call) -> Result<(), DeviceFault>
+        ensures sectors { self.new.sectors.items ≡ self.old.sectors.items }
+        ensures ok { OnOk result ((calls_of self.new ≡ call ∷ calls_of self.old) × (self.new.faults ≡ self.old.faults)) }
+        ensures err { OnErr result (calls_of self.new ≡ calls_of self.old) }
+        ensures cause { HasCause self.old.faults self.new.faults (IsErr result) }
+        ensures count { self.old.faults ≤ self.new.faults }
+    {
+        if self.calls.push(call).is_err() {
+            self.faults = self.faults.saturating_add(1);
+            return Err(DeviceFault);
+        }
+        Ok(())
+    }
+
+    /// Loses power. A pending sector takes the bytes of its last pick, or without one keeps what reads give. Afterwards
+    /// nothing is pending.
+    pub fn crash(mut self, picks: &Picks) -> MemoryDevice
+        ensures picked { TakesPicks (state_of self).reads picks.now.list.items (IsPendingIn self) (state_of result).reads }
+        ensures lawful { (state_of self).may_leave (state_of result).reads }
+        ensures durable { IsDurable (state_of result) }
+        ensures settled { (at : ℕ) → IsPendingIn result at → ⊥ }
+        ensures faults { (state_of result).faults ≡ (state_of self).faults }
+    {
+        for pick in &picks.list {
+            self.take_pick(pick);
+        }
+        self.calls.clear();
+        self
+    }
+
+    // Puts the bytes of the pick where its sector is pending.
+    fn take_pick(&mut self, pick: &(u64, Sector))
+        ensures picked { TakesPicks (state_of self.old).reads (pick.now ∷ []) (IsPendingIn self.old) (state_of self.new).reads }
+        ensures calls { calls_of self.new ≡ calls_of self.old }
+        ensures faults { self.new.faults ≡ self.old.faults }
+    {
+        let (at, bytes) = pick;
+        if *at < self.sectors() && is_pending(&self.calls, *at) {
+            self.put(*at as usize, bytes);
+        }
+    }
+
+    fn put(&mut self, at: usize, bytes: &Sector)
+        requires { at < length (state_of self.old).reads }
+        ensures put { (state_of self.new).reads ≡ with_sector (state_of self.old).reads at bytes.now }
+        ensures calls { calls_of self.new ≡ calls_of self.old }
+        ensures faults { self.new.faults ≡ self.old.faults }
+    {
+        self.sectors[at] = *bytes;
+    }
+}
+
+impl Device for MemoryDevice {
+    ghost use Rattle.sector_device.specs.MemoryDevice.{state_of, IsPendingIn};
+    ghost use Rattle.sector_device.specs.MemoryLaws.{memory_sound};
+
+    ghost state = { state_of };
+
+    fn sectors(&self) -> u64 {
+        self.sectors.len() as u64
+    }
+
+    fn read(&mut self, at: u64, into: &mut Sector) -> Result<(), DeviceFault>
+        requires { at < length (state_of self.old).reads }
+        ensures call { IsCall (state_of self.old) (state_of self.new) (IsErr result) }
+        ensures same { (state_of self.old).honest → IsSame (state_of self.old) (state_of self.new) }
+        ensures bytes { (state_of self.old).honest → OnOk result (into.new ≡ sector_at (state_of self.old).reads at) }
+        ensures never_fails { IsOk result }
+        ensures pending { (sector : ℕ) → IsPendingIn self.new sector ↔ IsPendingIn self.old sector }
+    {
+        *into = self.sectors[at as usize];
+        Ok(())
+    }
+
+    fn write(&mut self, at: u64, from: &Sector) -> Result<(), DeviceFault>
+        requires { at < length (state_of self.old).reads }
+        ensures call { IsCall (state_of self.old) (state_of self.new) (IsErr result) }
+        ensures torn { (state_of self.old).honest → IsTorn at (state_of self.old) (state_of self.new) }
+        ensures written { (state_of self.old).honest → OnOk result ((state_of self.new).reads ≡ with_sector (state_of self.old).reads at from.now) }
+        ensures pending { OnOk result ((sector : ℕ) → IsPendingIn self.new sector ↔ ((at ≡ sector) ⊎ IsPendingIn self.old sector)) }
+        ensures unwritten { OnErr result ((state_of self.new).reads ≡ (state_of self.old).reads) }
+        ensures not_pending { OnErr result ((sector : ℕ) → IsPendingIn self.new sector ↔ IsPendingIn self.old sector) }
+    {
+        let before = self.sectors[at as usize];
+        self.record(Call::Wrote { at, before })?;
+        self.put(at as usize, from);
+        Ok(())
+    }
+
+    fn sync(&mut self) -> Result<(), DeviceFault>
+        ensures call { IsCall (state_of self.old) (state_of self.new) (IsErr result) }
+        ensures same { (state_of self.old).honest → IsSame (state_of self.old) (state_of self.new) }
+        ensures durable { (state_of self.old).honest → OnOk result (IsDurable (state_of self.new)) }
+        ensures settled { OnOk result ((sector : ℕ) → IsPendingIn self.new sector → ⊥) }
+        ensures still_pending { OnErr result ((sector : ℕ) → IsPendingIn self.new sector ↔ IsPendingIn self.old sector) }
+    {
+        self.record(Call::Synced)?;
+        Ok(())
+    }
+
+    ghost sound = { λ device _. memory_sound device };
+}
+
+// Whether a write to the sector stands in the record after the last sync.
+fn is_pending(calls: &[Call], at: u64) -> bool
+    ensures { IsTrue result ↔ IsPending (reverse calls.now) at }
+{
+    let mut earlier = calls;
+    while let [before @ .., last] = earlier {
+        match last {
+            Call::Synced => return false,
+            Call::Wrote { at: place, .. } => {
+                if *place == at {
+                    return true;
+                }
+            }
+        }
+        earlier = before;
+    }
+    false
+}
