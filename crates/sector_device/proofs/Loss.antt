@@ -2,7 +2,7 @@
 use Rattle.std.proofs.Common.{◌≡◌, ◌≢◌, ◌⊎◌, inl, inr, ⊎_elim, ℕ, ◌+◌, ◌<◌, ◌≤◌, List, [], ◌∷◌, length, get_or, set, refl, sym, ◌∙◌, ap, subst, arith, All, replicate}
 use Rattle.std.proofs.lemmas.List.{ext_get_or, set-set, set-get_or, length-set, get_or-set_same, get_or-set_other, length-reverse, length-replicate, get_or-replicate}
 use Rattle.std.proofs.lemmas.Bool.{cases_eq}
-use Rattle.sector_device.specs.Image.{Image, IsImage, IsSector, sector_at, with_sector, DiffersAt}
+use Rattle.sector_device.specs.Image.{Image, IsImage, IsSector, sector_at, with_sector, DiffersAt, differs_nowhere}
 use Rattle.sector_device.specs.Device.{DeviceState, IsSound}
 use Rattle.sector_device.specs.Crash.{Elapses, IsSame, IsTorn, IsDurable}
 use Rattle.sector_device.specs.Memory.{MayLeave, LeftSince, IsPending}
@@ -10,9 +10,6 @@ use Rattle.sector_device.specs.MemoryDevice.{state_of, memory_state, calls_of}
 use Rattle.sector_device.specs.declared.memory.Call.{Call}
 use Rattle.sector_device.specs.declared.memory.Call.TheVariants.{Wrote, Synced}
 use Rattle.sector_device.specs.declared.memory.MemoryDevice.{MemoryDevice}
-
-pub differs_nowhere : (at : ℕ) (image : Image) → IsImage image → at < length image → DiffersAt at image image
-differs_nowhere at image is lt = record { bytes = sector_at image at; sector = is.each at lt; is = sym (set-get_or image at []) }
 
 -- a call that changed nothing is a write that changed nothing
 pub torn_nothing : (at : ℕ) (old new : DeviceState) → IsSound old → at < length old.reads → IsSame old new → IsTorn at old new
@@ -50,8 +47,7 @@ module _ (reads : Image) (calls : List Call) (at : ℕ) (from : List ℕ) (lt : 
   torn_write is image left =
       let old = with_sector image at (sector_at reads at) in
       let size : length image ≡ length reads = left.sectors ∙ length-set reads at from in
-      let same : with_sector old at (sector_at image at) ≡ image = set-set image at (sector_at reads at) (sector_at image at) ∙ set-get_or image at [] in
-      (
+      let same : with_sector old at (sector_at image at) ≡ image = set-set image at (sector_at reads at) (sector_at image at) ∙ set-get_or image at [] in (
         old,
         record {
           sectors = length-set image at (sector_at reads at) ∙ size;
@@ -91,7 +87,7 @@ write_torn old reads calls moment faults at from sector lt reads_are calls_are c
       time = record {
         later = omega (arith, old_moment, new_moment);
         nothing_else = λ since image le left. ⊎_elim (λ earlier. inl earlier) (λ now. inr (coe_back (same_now image) now))
-          (since_write was (calls_of old) at from lt since image (omega (arith, le, old_moment)) (coe_along (same since image) left));
+            (since_write was (calls_of old) at from lt since image (omega (arith, le, old_moment)) (coe_along (same since image) left));
         nothing_forgotten = λ since image le earlier. coe_back (same since image) (kept_write was (calls_of old) at from lt since image (omega (arith, le, old_moment)) earlier);
       };
       reads = record { bytes = from; sector = sector; is = reads_are };
@@ -100,6 +96,7 @@ write_torn old reads calls moment faults at from sector lt reads_are calls_are c
   where
     coe_along : {A B : Type 0} → A ≡ B → A → B
     coe_along same a = subst (λ (T : Type 0). T) same a
+
     coe_back : {A B : Type 0} → A ≡ B → B → A
     coe_back same b = subst (λ (T : Type 0). T) (sym same) b
 
@@ -107,9 +104,9 @@ write_torn old reads calls moment faults at from sector lt reads_are calls_are c
 pub same_record : (old new : MemoryDevice) → new.sectors.items ≡ old.sectors.items → calls_of new ≡ calls_of old → IsSame (state_of old) (state_of new)
 same_record old new reads calls =
     let forth : (since : ℕ) (image : Image) → LeftSince new.sectors.items (calls_of new) since image → LeftSince old.sectors.items (calls_of old) since image = λ since image left.
-        subst (λ (made : List Call). LeftSince old.sectors.items made since image) calls (subst (λ (sectors : Image). LeftSince sectors (calls_of new) since image) reads left) in
+    subst (λ (made : List Call). LeftSince old.sectors.items made since image) calls (subst (λ (sectors : Image). LeftSince sectors (calls_of new) since image) reads left) in
     let back : (since : ℕ) (image : Image) → LeftSince old.sectors.items (calls_of old) since image → LeftSince new.sectors.items (calls_of new) since image = λ since image left.
-        subst (λ (sectors : Image). LeftSince sectors (calls_of new) since image) (sym reads) (subst (λ (made : List Call). LeftSince old.sectors.items made since image) (sym calls) left) in
+    subst (λ (sectors : Image). LeftSince sectors (calls_of new) since image) (sym reads) (subst (λ (made : List Call). LeftSince old.sectors.items made since image) (sym calls) left) in
     record {
       time = record {
         later = omega (arith, sym (length-reverse new.calls.items) ∙ ap length calls ∙ length-reverse old.calls.items);

@@ -1,7 +1,7 @@
 -- What a crash may leave before, within and after the calls of an honest device.
-use Rattle.std.specs.Prelude.{◌≡◌, ◌⊎◌, ◌≤◌, ℕ, List, length}
-use Rattle.std.proofs.Common.{inl, inr, ⊎_elim, arith}
-use Rattle.sector_device.specs.Image.{Image, DiffersAt}
+use Rattle.std.specs.Prelude.{◌≡◌, ◌⊎◌, ◌<◌, ◌≤◌, ℕ, List, length}
+use Rattle.std.proofs.Common.{inl, inr, ⊎_elim, refl, sym, ◌∙◌, subst, arith}
+use Rattle.sector_device.specs.Image.{Image, DiffersAt, differs_nowhere}
 use Rattle.sector_device.specs.Device.{DeviceState, IsSound}
 
 -- A call took its time: a crash since an earlier moment might have left what it might have left before the
@@ -67,3 +67,43 @@ weakened old new P Q implies run = record {
   each = λ image left. implies image (run.each image left);
   before = λ since image le left. ⊎_elim (λ was. inl was) (λ has. inr (implies image has)) (run.before since image le left);
 }
+
+-- A run of reads and syncs: reads give the same at its end, and a crash at any moment since it began leaves what a
+-- crash might have left at its start.
+pub record OnlyLooks (old new : DeviceState) : Type 0 where
+  pub reads : new.reads ≡ old.reads
+  pub nothing_more : (image : Image) → new.may_leave image → old.may_leave image
+  pub crash : LeavesOnly old new old.may_leave
+
+pub looked_nowhere : (state : DeviceState) → IsSound state → OnlyLooks state state
+looked_nowhere state sound = record {
+  reads = refl;
+  nothing_more = λ image left. left;
+  crash = nothing_happened state state.may_leave sound (λ image left. left);
+}
+
+pub looked_once : (old new : DeviceState) → IsSound old → IsSame old new → OnlyLooks old new
+looked_once old new sound same = record {
+  reads = same.reads;
+  nothing_more = same.nothing_more;
+  crash = one_call old new old.may_leave sound same.time (λ image left. left) same.nothing_more;
+}
+
+pub looks_joined : (old mid new : DeviceState) → OnlyLooks old mid → OnlyLooks mid new → OnlyLooks old new
+looks_joined old mid new first second = record {
+  reads = second.reads ∙ first.reads;
+  nothing_more = λ image left. first.nothing_more image (second.nothing_more image left);
+  crash = joined old mid new old.may_leave first.crash (weakened mid new mid.may_leave old.may_leave first.nothing_more second.crash);
+}
+
+-- A write to a device with nothing pending: a crash within it, or after it, leaves what reads gave, but for some 512
+-- bytes in that sector.
+pub write_leaves : (at : ℕ) (old new : DeviceState) → IsSound old → at < length old.reads → IsDurable old → IsTorn at old new
+    → LeavesOnly old new (DiffersAt at old.reads) × ((image : Image) → new.may_leave image → DiffersAt at old.reads image)
+write_leaves at old new sound lt durable torn =
+    let before : (image : Image) → old.may_leave image → DiffersAt at old.reads image = λ image left.
+        subst (DiffersAt at old.reads) (sym (durable image left)) (differs_nowhere at old.reads (sound.images old.reads sound.nothing_lost).0 lt) in
+    let after : (image : Image) → new.may_leave image → DiffersAt at old.reads image = λ image left.
+        let was = torn.torn image left in
+        subst (λ (first : Image). DiffersAt at first image) (durable was.0 was.1) was.2 in
+    (one_call old new (DiffersAt at old.reads) sound torn.time before after, after)

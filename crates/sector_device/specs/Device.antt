@@ -1,6 +1,7 @@
 -- What is to be known of a device at one moment, and what one call changes.
 use Rattle.std.specs.Prelude.{◌≡◌, ◌⊎◌, ◌+◌, ◌<◌, ◌≤◌, ◌^◌, ◌-◌, ℕ, List, length}
-use Rattle.sector_device.specs.Image.{Image, IsImage, DiffersAt}
+use Rattle.std.proofs.Common.{refl, ◌∙◌, inl, inr, ⊎_elim, arith}
+use Rattle.sector_device.specs.Image.{Image, IsImage}
 
 -- A device at one moment. Time is counted in moments: each call may pass some.
 pub record DeviceState : Type 1 where
@@ -39,3 +40,34 @@ pub record IsCall (old new : DeviceState) (fault : Type 0) : Type 0 where
   pub was_honest : new.honest → old.honest
   pub faults : old.faults ≤ new.faults
   pub cause : HasCause old.faults new.faults fault
+
+-- no call at all
+pub not_called : (state : DeviceState) (fault : Type 0) → (fault → ⊥) → IsCall state state fault
+not_called state fault none = record {
+  sectors = refl;
+  stays_honest = λ honest. honest;
+  was_honest = λ honest. honest;
+  faults = omega arith;
+  cause = λ fault. absurd (none fault);
+}
+
+later_cause : (before mid after : ℕ) → mid ≤ after → (before < mid) ⊎ (2 ^ 64 - 1 ≤ mid) → (before < after) ⊎ (2 ^ 64 - 1 ≤ after)
+later_cause before mid after le (inl rose) = inl (omega arith)
+later_cause before mid after le (inr last) = inr (omega arith)
+
+earlier_cause : (before mid after : ℕ) → before ≤ mid → (mid < after) ⊎ (2 ^ 64 - 1 ≤ after) → (before < after) ⊎ (2 ^ 64 - 1 ≤ after)
+earlier_cause before mid after le (inl rose) = inl (omega arith)
+earlier_cause before mid after le (inr last) = inr last
+
+-- two runs of calls, one after the other
+pub calls_joined : (old mid new : DeviceState) (first second either : Type 0) → (either → first ⊎ second) → IsCall old mid first → IsCall mid new second → IsCall old new either
+calls_joined old mid new first second either which before after = record {
+  sectors = after.sectors ∙ before.sectors;
+  stays_honest = λ honest. after.stays_honest (before.stays_honest honest);
+  was_honest = λ honest. before.was_honest (after.was_honest honest);
+  faults = omega (arith, before.faults, after.faults);
+  cause = λ fault. ⊎_elim
+      (λ one. later_cause old.faults mid.faults new.faults after.faults (before.cause one))
+      (λ two. earlier_cause old.faults mid.faults new.faults before.faults (after.cause two))
+      (which fault);
+}

@@ -1,5 +1,7 @@
 -- What a device holds: a row of sectors.
 use Rattle.std.specs.Prelude.{◌≡◌, ◌<◌, ℕ, List, [], length, slice_index, slice_index_or, slice_set}
+use Rattle.std.proofs.Common.{sym}
+use Rattle.std.proofs.lemmas.List.{set-get_or}
 
 -- 512 bytes
 pub record IsSector (bytes : List ℕ) : Type 0 where
@@ -27,3 +29,7 @@ pub record DiffersAt (at : ℕ) (old new : Image) : Type 0 where
   pub bytes : List ℕ
   pub sector : IsSector bytes
   pub is : new ≡ with_sector old at bytes
+
+-- an image differs nowhere from itself
+pub differs_nowhere : (at : ℕ) (image : Image) → IsImage image → at < length image → DiffersAt at image image
+differs_nowhere at image is lt = record { bytes = sector_at image at; sector = is.each at lt; is = sym (set-get_or image at []) }

@@ -10,3 +10,6 @@ mod memory;
 
 pub use device::{Device, DeviceFault, SECTOR, Sector};
 pub use memory::{MemoryDevice, Picks};
+
+#[cfg(test)]
+mod tests;

@@ -16,7 +16,7 @@ loop-pick-preserved c =
     let same = c.deref-pick-items.ensures.value in
     let inside : c.loop-pick.pick-index < length list = omega (arith, ap length same, c.loop-pick-test.true) in
     let picked = subst (λ (picks : List (ℕ × List ℕ)). TakesPicks mid (get_or picks c.loop-pick.pick-index (0, []) ∷ []) (IsPendingIn c.args.self) after) same
-        (subst (λ (calls : _). TakesPicks mid (get_or c.deref-pick-items.result.now c.loop-pick.pick-index (0, []) ∷ []) (IsPending calls) after) c.loop-pick.invariant.calls c.take_pick.ensures.picked) in
+    (subst (λ (calls : _). TakesPicks mid (get_or c.deref-pick-items.result.now c.loop-pick.pick-index (0, []) ∷ []) (IsPending calls) after) c.loop-pick.invariant.calls c.take_pick.ensures.picked) in
     record {
       picked = subst (λ (picks : _). TakesPicks before picks (IsPendingIn c.args.self) after)
           (sym (take_more list c.loop-pick.pick-index (0, []) inside))
