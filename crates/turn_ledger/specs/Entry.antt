@@ -1,5 +1,5 @@
 -- The verdict of an entry on a state, and the state after it.
-use Rattle.std.specs.Prelude.{◌≡◌, ℕ, ◌+◌, Bool, true, false, ◌||◌, ◌==◌, not, nat_lt, if◌then◌else◌, List, [], ◌∷◌, ◌++◌, Result, Ok, Err}
+use Rattle.std.specs.Prelude.{ℕ, ◌+◌, Bool, false, ◌==◌, not, nat_lt, if◌then◌else◌, List, [], ◌∷◌, ◌++◌, Result, Ok, Err}
 use Rattle.std.specs.List.{list_all}
 use Rattle.turn_ledger.specs.declared.limits.TheConstants.{TOTAL_LIMIT}
 use Rattle.turn_ledger.specs.declared.entry.Entry.{Entry}
@@ -44,7 +44,7 @@ is_over_limit state (Transfer from to amount reference) = false
 -- the checks of an entry that don't look at the state, in their order: where one holds, its refusal
 abbrev pub own_checks : Entry → List (Bool × EntryRefusal)
 own_checks entry =
-      (amount_of entry == 0, ZeroAmount)
+    (amount_of entry == 0, ZeroAmount)
     ∷ (not (list_all is_account (accounts_of entry)), NoAccount)
     ∷ (is_to_itself entry, SameAccount)
     ∷ []

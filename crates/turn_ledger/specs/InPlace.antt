@@ -16,11 +16,12 @@ filled filler items = items ++ replicate (BATCH_LIMIT - length items) filler
 
 pub filled-take : {X : Type 0} (filler : X) (places : List X) (count : ℕ) → IsFilled filler places count → (filled filler (take count places) ≡ places) × (length (take count places) ≡ count)
 filled-take {X} filler places count h =
-    let size : length (take count places) ≡ count = length-take-le count places (omega arith) in
-    (ap (λ (n : ℕ). take count places ++ replicate (BATCH_LIMIT - n) filler) size
-     ∙ ap (λ (rest : List X). take count places ++ rest) (sym h.unused)
-     ∙ take-append-drop count places,
-     size)
+    let size : length (take count places) ≡ count = length-take-le count places (omega arith) in (
+      ap (λ (n : ℕ). take count places ++ replicate (BATCH_LIMIT - n) filler) size
+          ∙ ap (λ (rest : List X). take count places ++ rest) (sym h.unused)
+          ∙ take-append-drop count places,
+      size,
+    )
 
 -- items written over the first of the unused places
 pub IsFilled-over : {X : Type 0} (filler : X) (items : List X) → length items ≤ BATCH_LIMIT → IsFilled filler (items ++ drop (length items) (replicate BATCH_LIMIT filler)) (length items)
@@ -36,8 +37,8 @@ IsFilled-push {X} filler item places count h room = record {
   all_places = length-set places count item ∙ h.all_places;
   count_fits = omega arith;
   unused = drop-set-lt (count + 1) places count item (omega arith)
-    ∙ sym (drop-drop 1 count places)
-    ∙ ap (λ (rest : List X). drop 1 rest) h.unused
-    ∙ drop-replicate 1 (BATCH_LIMIT - count) filler
-    ∙ ap (λ (n : ℕ). replicate n filler) (omega arith);
+      ∙ sym (drop-drop 1 count places)
+      ∙ ap (λ (rest : List X). drop 1 rest) h.unused
+      ∙ drop-replicate 1 (BATCH_LIMIT - count) filler
+      ∙ ap (λ (n : ℕ). replicate n filler) (omega arith);
 }

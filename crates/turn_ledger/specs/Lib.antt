@@ -8,3 +8,6 @@ pub mod Scratch
 pub mod ScratchState
 pub mod StateLaws
 pub mod EntryLaws
+pub mod LedgerLaws
+pub mod ScreenLaws
+pub mod Laws

@@ -1,7 +1,7 @@
 -- A state with some balances written over, as the screening of a batch keeps it.
-use Rattle.std.specs.Prelude.{◌≡◌, ℕ, ◌≤◌, List, fold, slice_set, length, sum}
+use Rattle.std.specs.Prelude.{◌≡◌, ℕ, List, fold, slice_set, sum}
 use Rattle.turn_ledger.specs.declared.scratch.Change.{Change}
-use Rattle.turn_ledger.specs.State.{LedgerState, IsLedger}
+use Rattle.turn_ledger.specs.State.{IsLedger}
 
 -- the balances after the changes, in order
 abbrev pub changed : List ℕ → List Change → List ℕ

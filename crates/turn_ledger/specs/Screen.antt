@@ -1,5 +1,5 @@
 -- The screening of a list of entries.
-use Rattle.std.specs.Prelude.{◌≡◌, Bool, if◌then◌else◌, List, [], ◌∷◌, Ok, is_ok}
+use Rattle.std.specs.Prelude.{◌≡◌, if◌then◌else◌, List, [], ◌∷◌, Ok, is_ok}
 use Rattle.turn_ledger.specs.declared.entry.Entry.{Entry}
 use Rattle.turn_ledger.specs.State.{LedgerState}
 use Rattle.turn_ledger.specs.Entry.{Verdict, verdict, posted}

@@ -1,7 +1,7 @@
 -- What a change of one balance does to the balances and to their total.
-use Rattle.std.specs.Prelude.{◌≡◌, ◌≢◌, ℕ, ◌+◌, ◌-◌, ◌≤◌, ◌<◌, List, length, sum, slice_index, slice_set, refl, replicate}
-use Rattle.std.proofs.Common.{◌∙◌, ap, sym, arith, get_or, set}
-use Rattle.std.proofs.lemmas.List.{length-set, length-replicate, get_or-set_same, get_or-set_other, get_or-replicate}
+use Rattle.std.specs.Prelude.{◌≡◌, ◌≢◌, ℕ, ◌+◌, ◌-◌, ◌≤◌, length, refl}
+use Rattle.std.proofs.Common.{◌∙◌, arith}
+use Rattle.std.proofs.lemmas.List.{length-set, get_or-set_same, get_or-set_other, get_or-replicate}
 use Rattle.std.proofs.lemmas.List.Sums.{sum_by-set, get_or-le-sum_by}
 use Rattle.turn_ledger.specs.declared.limits.TheConstants.{ACCOUNTS, TOTAL_LIMIT}
 use Rattle.turn_ledger.specs.State.{LedgerState, IsAccount, balance_of, total_of, IsLedger, empty_ledger, with_balance, credited, debited}

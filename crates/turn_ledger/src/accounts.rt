@@ -128,7 +128,10 @@ fn settle<A: Accounts>(accounts: &mut A, entry: &Entry)
         Entry::Deposit { to, amount, .. } => accounts.credit(to, amount),
         Entry::Withdraw { from, amount, .. } => accounts.debit(from, amount),
         Entry::Transfer {
-            from, to, amount, ..
+            from,
+            to,
+            amount,
+            ..
         } => {
             accounts.debit(from, amount);
             accounts.credit(to, amount);

@@ -1,5 +1,5 @@
 -- What an entry's yes says is what its changes need.
-use Rattle.std.proofs.Common.{◌≡◌, ℕ, ◌+◌, ◌∙◌, ap, sym, arith}
+use Rattle.std.proofs.Common.{◌∙◌, ap, sym, arith}
 use Rattle.turn_ledger.specs.State.{LedgerState, total_of, credited}
 use Rattle.turn_ledger.specs.StateLaws.{total_of-debited}
 use Rattle.turn_ledger.specs.EntryLaws.{passes_as, posted-deposit, posted-withdraw, posted-transfer}
@@ -29,8 +29,12 @@ credit-requires-in-Transfer-clause-account g c = (passes_as _ _ _ c.in-Transfer.
 pub credit-requires-in-Transfer-clause-within_limit : goal.credit-requires-in-Transfer-clause-within_limit
 credit-requires-in-Transfer-clause-within_limit g c =
     let p = passes_as _ _ _ c.in-Transfer.is c.requires.accepted in
-    omega (arith, c.requires.ledger.within_limit, ap total_of c.debit-in-Transfer.ensures.state,
-      total_of-debited (g.A.Accounts.state c.args.accounts.now) c.in-Transfer.from c.in-Transfer.amount c.requires.ledger.accounts p.1 p.4)
+    omega (
+      arith,
+      c.requires.ledger.within_limit,
+      ap total_of c.debit-in-Transfer.ensures.state,
+      total_of-debited (g.A.Accounts.state c.args.accounts.now) c.in-Transfer.from c.in-Transfer.amount c.requires.ledger.accounts p.1 p.4,
+    )
 
 pub returns-in-Deposit-clause-state : goal.returns-in-Deposit-clause-state
 returns-in-Deposit-clause-state g c = c.credit.ensures.state ∙ sym (posted-deposit _ _ _ _ _ c.in-Deposit.is)
