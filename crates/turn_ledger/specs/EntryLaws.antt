@@ -1,6 +1,7 @@
 -- What a yes means, and that a posted entry leaves a ledger.
 use Rattle.std.specs.Prelude.{◌≡◌, ◌≢◌, ℕ, ◌+◌, ◌≤◌, ◌<◌, Bool, true, false, ◌==◌, ◌&&◌, not, nat_lt, if◌then◌else◌, List, ◌++◌, [], ◌∷◌, length, Ok, Err, refl}
 use Rattle.std.proofs.Common.{◌∙◌, ap, sym, arith}
+use Rattle.std.proofs.lemmas.Bool.{ne_eqb}
 use Rattle.std.proofs.lemmas.Bool.Decides.{nat_tests}
 use Rattle.turn_ledger.specs.declared.limits.TheConstants.{TOTAL_LIMIT}
 use Rattle.turn_ledger.specs.declared.entry.Entry.{Entry}
@@ -125,3 +126,39 @@ verdict-own_ok state entry ok = first_refusal-append_ok (own_checks entry) (stat
 pub verdict-own_err : (state : LedgerState) (entry : Entry) (refusal : EntryRefusal) → first_refusal (own_checks entry) ≡ Err refusal → verdict state entry ≡ Err refusal
 unfolding verdict
 verdict-own_err state entry refusal err = first_refusal-append_err (own_checks entry) (state_checks state entry) refusal err
+
+-- the other way: an entry that keeps all rules has a yes
+not_held : (test : Bool) (refusal : EntryRefusal) (rest : Verdict) → test ≡ false → rest ≡ Ok tt → (if test then Err refusal else rest) ≡ Ok tt
+not_held true refusal rest h k = cc
+not_held false refusal rest h k = k
+
+test_above_zero : (n : ℕ) → 0 < n → (n == 0) ≡ false
+test_above_zero n h = grind (arith, nat_tests)
+
+test_account : (n : ℕ) → IsAccount n → not (is_account n && true) ≡ false
+test_account n h = grind (arith, nat_tests)
+
+test_two_accounts : (m n : ℕ) → IsAccount m → IsAccount n → not (is_account m && (is_account n && true)) ≡ false
+test_two_accounts m n h k = grind (arith, nat_tests)
+
+test_at_most : (m n : ℕ) → n ≤ m → nat_lt m n ≡ false
+test_at_most m n h = grind (arith, nat_tests)
+
+test_differ : (m n : ℕ) → m ≢ n → (m == n) ≡ false
+test_differ m n h = ne_eqb m n h
+
+pub yes-from_passes : (state : LedgerState) (entry : Entry) → Passes state entry → verdict state entry ≡ Ok tt
+unfolding verdict
+yes-from_passes state (Deposit to amount reference) p =
+    not_held (amount == 0) _ _ (test_above_zero amount p.0)
+    (not_held (not (is_account to && true)) _ _ (test_account to p.1)
+    (not_held (nat_lt TOTAL_LIMIT (total_of state + amount)) _ _ (test_at_most _ _ p.2) refl))
+yes-from_passes state (Withdraw from amount reference) p =
+    not_held (amount == 0) _ _ (test_above_zero amount p.0)
+    (not_held (not (is_account from && true)) _ _ (test_account from p.1)
+    (not_held (nat_lt (balance_of state from) amount) _ _ (test_at_most _ _ p.2) refl))
+yes-from_passes state (Transfer from to amount reference) p =
+    not_held (amount == 0) _ _ (test_above_zero amount p.0)
+    (not_held (not (is_account from && (is_account to && true))) _ _ (test_two_accounts from to p.1 p.2)
+    (not_held (from == to) _ _ (test_differ from to p.3)
+    (not_held (nat_lt (balance_of state from) amount) _ _ (test_at_most _ _ p.4) refl)))

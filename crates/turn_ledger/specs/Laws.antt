@@ -1,6 +1,8 @@
 -- The laws of the rules, as statements that public functions carry.
-use Rattle.std.specs.Prelude.{◌≡◌, ℕ, ◌+◌, List, [], ◌∷◌, ◌++◌, sum_by}
+use Rattle.std.specs.Prelude.{◌≡◌, ℕ, ◌+◌, List, [], ◌∷◌, ◌++◌, sum_by, ◌↔◌, Ok}
 use Rattle.turn_ledger.specs.declared.entry.Entry.{Entry}
+use Rattle.turn_ledger.specs.Entry.{verdict}
+use Rattle.turn_ledger.specs.EntryLaws.{Passes}
 use Rattle.turn_ledger.specs.State.{LedgerState, IsAccount, IsLedger, balance_of}
 use Rattle.turn_ledger.specs.Screen.{screened, accepted, AreAccepted, posted_in_turn}
 use Rattle.turn_ledger.specs.Ledger.{into, out_of, entries_of, ledger_after}
@@ -39,3 +41,7 @@ abbrev pub LaterEntriesSeeTheAccepted : Type 0
 LaterEntriesSeeTheAccepted =
     (state : LedgerState) (first second : List Entry)
     → screened state (first ++ second) ≡ screened state first ++ screened (posted_in_turn state (accepted state first)) second
+
+-- An entry has a yes exactly where it keeps all rules.
+abbrev pub AYesMeansAllRules : Type 0
+AYesMeansAllRules = (state : LedgerState) (entry : Entry) → (verdict state entry ≡ Ok tt) ↔ Passes state entry

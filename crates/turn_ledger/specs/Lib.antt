@@ -11,3 +11,4 @@ pub mod EntryLaws
 pub mod LedgerLaws
 pub mod ScreenLaws
 pub mod Laws
+pub mod PlaceLaws

@@ -1,5 +1,12 @@
 //! Laws of the rules, each as the contract of a function that does nothing.
-ghost use Rattle.turn_ledger.specs.Laws.{PostingGivesTheSums, NothingIsLostOrMade, BatchesCompose, AcceptedEntriesArePosted, LaterEntriesSeeTheAccepted};
+ghost use Rattle.turn_ledger.specs.Laws.{AYesMeansAllRules, PostingGivesTheSums, NothingIsLostOrMade, BatchesCompose, AcceptedEntriesArePosted, LaterEntriesSeeTheAccepted};
+
+/// An entry has a yes exactly where it keeps all rules: its amount isn't zero, the accounts that it
+/// names are accounts, a transfer names two, its source holds enough, and the total stays within its
+/// limit.
+pub fn a_yes_means_all_rules()
+    ensures { AYesMeansAllRules }
+{}
 
 /// Entries that have a yes each in their turn, posted one after another, leave the ledger after their
 /// batches: each account has what it held and what came in, less what went out.

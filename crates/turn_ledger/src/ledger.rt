@@ -56,7 +56,7 @@ impl Ledger {
         ensures value { result ≡ total_of self.now }
         ensures ledger { IsLedger self.now }
     {
-        self.total
+        self.held_by_all()
     }
 
     /// Posts an entry, or refuses it with the first rule that it breaks.
