@@ -27,4 +27,4 @@ balance_after state entries account = balance_of state account + sum_by (into ac
 
 -- the ledger after batches: each account has that balance
 unfoldable pub ledger_after : LedgerState → List (List Entry) → LedgerState
-ledger_after state batches = record { balances = map (balance_after state (entries_of batches)) (range_with_len 1 (length state.balances)) }
+ledger_after state batches = record state { balances = map (balance_after state (entries_of batches)) (range_with_len 1 (length state.balances)) }

@@ -1,8 +1,9 @@
 -- The accepted entries of a list have a yes each in their turn.
-use Rattle.std.specs.Prelude.{◌≡◌, ℕ, suc, ◌≤◌, if◌then◌else◌, List, [], ◌∷◌, ◌++◌, map, length, count_by, Ok, Err, is_ok, refl}
-use Rattle.std.proofs.Common.{◌∙◌, ap, arith, cond}
+use Rattle.std.specs.Prelude.{◌≡◌, ℕ, zero, suc, ◌+◌, ◌≤◌, ◌<◌, if◌then◌else◌, List, [], ◌∷◌, ◌++◌, map, length, count_by, Some, Ok, Err, is_ok, slice_get, refl}
+use Rattle.std.proofs.Common.{◌∙◌, ap, arith, cond, drop, get_or, add-one}
 use Rattle.std.proofs.lemmas.List.Sums.{sum_by-cons}
 use Rattle.turn_ledger.specs.declared.entry.Entry.{Entry}
+use Rattle.turn_ledger.specs.declared.refusal.EntryRefusal.{EntryRefusal}
 use Rattle.turn_ledger.specs.State.{LedgerState, IsLedger}
 use Rattle.turn_ledger.specs.Entry.{Verdict, verdict, posted}
 use Rattle.turn_ledger.specs.Screen.{after_entry, screened, with_yes, accepted, AreAccepted, posted_in_turn}
@@ -101,3 +102,30 @@ unfolding accepted_given
 accepted-append state [] second = refl
 accepted-append state (entry ∷ first) second =
     accepted_append_step state entry first second (verdict state entry) (accepted-append (posted state entry) first second) (accepted-append state first second)
+
+-- the entries with a yes from a place on: with that at the place, where its verdict is a yes, and else
+-- without it
+with_yes_from_yes : (entries : List Entry) (verdicts : List Verdict) (i : ℕ) (d : Entry) → i < length entries → slice_get verdicts i ≡ Some (Ok tt) → with_yes (drop i entries) (drop i verdicts) ≡ get_or entries i d ∷ with_yes (drop (suc i) entries) (drop (suc i) verdicts)
+with_yes_from_yes [] verdicts i d h ok = absurd (omega arith)
+with_yes_from_yes (entry ∷ entries) [] zero d h ok = cc
+with_yes_from_yes (entry ∷ entries) [] (suc i) d h ok = cc
+with_yes_from_yes (entry ∷ entries) (answer ∷ verdicts) zero d h ok =
+    let same : answer ≡ Ok tt = cc in
+    ap (λ (v : Verdict). with_yes (entry ∷ entries) (v ∷ verdicts)) same
+with_yes_from_yes (entry ∷ entries) (answer ∷ verdicts) (suc i) d h ok = with_yes_from_yes entries verdicts i d (omega arith) ok
+
+with_yes_from_no : (entries : List Entry) (verdicts : List Verdict) (i : ℕ) (refusal : EntryRefusal) → slice_get verdicts i ≡ Some (Err refusal) → with_yes (drop i entries) (drop i verdicts) ≡ with_yes (drop (suc i) entries) (drop (suc i) verdicts)
+with_yes_from_no [] verdicts zero refusal err = refl
+with_yes_from_no [] verdicts (suc i) refusal err = refl
+with_yes_from_no (entry ∷ entries) [] zero refusal err = cc
+with_yes_from_no (entry ∷ entries) [] (suc i) refusal err = cc
+with_yes_from_no (entry ∷ entries) (answer ∷ verdicts) zero refusal err =
+    let same : answer ≡ Err refusal = cc in
+    ap (λ (v : Verdict). with_yes (entry ∷ entries) (v ∷ verdicts)) same
+with_yes_from_no (entry ∷ entries) (answer ∷ verdicts) (suc i) refusal err = with_yes_from_no entries verdicts i refusal err
+
+pub with_yes-drop_yes : (entries : List Entry) (verdicts : List Verdict) (i : ℕ) (d : Entry) → i < length entries → slice_get verdicts i ≡ Some (Ok tt) → with_yes (drop i entries) (drop i verdicts) ≡ get_or entries i d ∷ with_yes (drop (i + 1) entries) (drop (i + 1) verdicts)
+with_yes-drop_yes entries verdicts i d h ok = rw add-one (with_yes_from_yes entries verdicts i d h ok)
+
+pub with_yes-drop_no : (entries : List Entry) (verdicts : List Verdict) (i : ℕ) (refusal : EntryRefusal) → slice_get verdicts i ≡ Some (Err refusal) → with_yes (drop i entries) (drop i verdicts) ≡ with_yes (drop (i + 1) entries) (drop (i + 1) verdicts)
+with_yes-drop_no entries verdicts i refusal err = rw add-one (with_yes_from_no entries verdicts i refusal err)

@@ -32,7 +32,7 @@ empty_ledger = record { balances = replicate ACCOUNTS 0 }
 
 -- the state with another balance of one account
 abbrev pub with_balance : LedgerState → ℕ → ℕ → LedgerState
-with_balance state account balance = record { balances = slice_set state.balances (account - 1) balance }
+with_balance state account balance = record state { balances = slice_set state.balances (account - 1) balance }
 
 -- an amount added to what an account holds
 abbrev pub credited : LedgerState → ℕ → ℕ → LedgerState

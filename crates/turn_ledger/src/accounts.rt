@@ -59,7 +59,7 @@ fn amount(entry: &Entry) -> u64
     }
 }
 
-fn names_accounts_alone(entry: &Entry) -> bool
+fn names_only_accounts(entry: &Entry) -> bool
     ensures { result ≡ list_all is_account_number (accounts_of entry.now) }
 {
     match *entry {
@@ -85,7 +85,7 @@ fn check_alone(entry: &Entry) -> Result<(), EntryRefusal>
     if amount(entry) == 0 {
         return Err(EntryRefusal::ZeroAmount);
     }
-    if !names_accounts_alone(entry) {
+    if !names_only_accounts(entry) {
         return Err(EntryRefusal::NoAccount);
     }
     if is_to_itself(entry) {
