@@ -43,12 +43,14 @@ pub(crate) trait Accounts {
 }
 
 /// Whether there is an account of this number.
+#[inline]
 pub(crate) fn is_account(number: u32) -> bool
     ensures { result ≡ is_account_number number }
 {
     1 <= number && number <= ACCOUNTS
 }
 
+#[inline]
 fn amount(entry: &Entry) -> u64
     ensures { result ≡ amount_of entry.now }
 {
@@ -59,6 +61,7 @@ fn amount(entry: &Entry) -> u64
     }
 }
 
+#[inline]
 fn names_only_accounts(entry: &Entry) -> bool
     ensures { result ≡ list_all is_account_number (accounts_of entry.now) }
 {
@@ -69,6 +72,7 @@ fn names_only_accounts(entry: &Entry) -> bool
     }
 }
 
+#[inline]
 fn is_to_itself(entry: &Entry) -> bool
     ensures { result ≡ is_transfer_to_itself entry.now }
 {
@@ -79,6 +83,7 @@ fn is_to_itself(entry: &Entry) -> bool
 }
 
 /// The checks of an entry that don't look at the state.
+#[inline]
 fn check_alone(entry: &Entry) -> Result<(), EntryRefusal>
     ensures { result ≡ first_refusal (own_checks entry.now) }
 {
@@ -95,6 +100,7 @@ fn check_alone(entry: &Entry) -> Result<(), EntryRefusal>
 }
 
 /// The checks that look at the state, of an entry that passed the others.
+#[inline]
 fn check_on<A: Accounts>(accounts: &A, entry: &Entry) -> Result<(), EntryRefusal>
     requires { first_refusal (own_checks entry.now) ≡ Ok tt }
     ensures answer { result ≡ first_refusal (state_checks (A.state accounts.now) entry.now) }
@@ -117,6 +123,7 @@ fn check_on<A: Accounts>(accounts: &A, entry: &Entry) -> Result<(), EntryRefusal
 }
 
 /// Posts an entry that has a yes.
+#[inline]
 fn settle<A: Accounts>(accounts: &mut A, entry: &Entry)
     requires ledger { IsLedger (A.state accounts.old) }
     requires accepted { verdict (A.state accounts.old) entry.now ≡ Ok tt }
@@ -140,6 +147,7 @@ fn settle<A: Accounts>(accounts: &mut A, entry: &Entry)
 }
 
 /// Posts an entry, or refuses it.
+#[inline]
 pub(crate) fn post<A: Accounts>(accounts: &mut A, entry: &Entry) -> Result<(), EntryRefusal>
     requires { 2 ≤ A.room accounts.old }
     ensures answer { result ≡ verdict (A.state accounts.old) entry.now }

@@ -42,6 +42,7 @@ impl<'a> Scratch<'a> {
 }
 
 /// What stands at a place after the changes.
+#[inline]
 fn latest(balances: &[u64], changes: &[Change], place: usize) -> u64
     requires { place < length balances.now }
     ensures { result ≡ slice_index (changed balances.now changes.now) place }
@@ -62,14 +63,17 @@ impl Accounts for Scratch<'_> {
 
     ghost room = { room_of };
 
+    #[inline]
     fn held_by(&self, account: u32) -> u64 {
         latest(self.balances, self.changes.as_slice(), account as usize - 1)
     }
 
+    #[inline]
     fn held_by_all(&self) -> u64 {
         self.total
     }
 
+    #[inline]
     fn credit(&mut self, account: u32, amount: u64) {
         let balance = self.held_by(account) + amount;
         self.total += amount;
@@ -79,6 +83,7 @@ impl Accounts for Scratch<'_> {
         });
     }
 
+    #[inline]
     fn debit(&mut self, account: u32, amount: u64) {
         let balance = self.held_by(account) - amount;
         self.total -= amount;

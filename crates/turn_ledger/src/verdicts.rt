@@ -46,6 +46,7 @@ impl Verdicts {
     }
 
     /// Adds the verdict of the next entry.
+    #[inline]
     pub(crate) fn push(&mut self, verdict: Result<(), EntryRefusal>)
         requires { length self.old < BATCH_LIMIT }
         ensures { self.new ≡ self.old ++ verdict ∷ [] }
@@ -80,6 +81,7 @@ impl Verdicts {
 }
 
 /// How many of the verdicts are a yes.
+#[inline]
 fn count_ok(verdicts: &[Result<(), EntryRefusal>]) -> u8
     requires { length verdicts.now ≤ BATCH_LIMIT }
     ensures { result ≡ count_by is_ok verdicts.now }
