@@ -1,0 +1,14 @@
+pub mod State
+pub mod Entry
+pub mod Screen
+pub mod Ledger
+pub mod Place
+pub mod InPlace
+pub mod Scratch
+pub mod ScratchState
+pub mod StateLaws
+pub mod EntryLaws
+pub mod LedgerLaws
+pub mod ScreenLaws
+pub mod Laws
+pub mod PlaceLaws

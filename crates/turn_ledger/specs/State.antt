@@ -1,0 +1,43 @@
+-- What a ledger holds.
+use Rattle.std.specs.Prelude.{◌≡◌, ℕ, ◌-◌, ◌+◌, ◌≤◌, Bool, ◌&&◌, nat_le, List, length, sum, replicate, slice_index, slice_set}
+use Rattle.turn_ledger.specs.declared.limits.TheConstants.{ACCOUNTS, TOTAL_LIMIT}
+
+-- the balance of each account, account 1 first
+pub record LedgerState : Type 0 where
+  pub balances : List ℕ
+
+-- accounts are numbered from 1
+abbrev pub IsAccount : ℕ → Type 0
+IsAccount account = (1 ≤ account) × (account ≤ ACCOUNTS)
+
+abbrev pub is_account : ℕ → Bool
+is_account account = nat_le 1 account && nat_le account ACCOUNTS
+
+-- what an account holds
+abbrev pub balance_of : LedgerState → ℕ → ℕ
+balance_of state account = slice_index state.balances (account - 1)
+
+-- what all accounts hold together
+abbrev pub total_of : LedgerState → ℕ
+total_of state = sum state.balances
+
+-- a state of a ledger: it has all accounts, and they hold no more than the limit together
+pub record IsLedger (state : LedgerState) : Type 0 where
+  pub accounts : length state.balances ≡ ACCOUNTS
+  pub within_limit : total_of state ≤ TOTAL_LIMIT
+
+-- every account at zero
+unfoldable pub empty_ledger : LedgerState
+empty_ledger = record { balances = replicate ACCOUNTS 0 }
+
+-- the state with another balance of one account
+abbrev pub with_balance : LedgerState → ℕ → ℕ → LedgerState
+with_balance state account balance = record state { balances = slice_set state.balances (account - 1) balance }
+
+-- an amount added to what an account holds
+abbrev pub credited : LedgerState → ℕ → ℕ → LedgerState
+credited state account amount = with_balance state account (balance_of state account + amount)
+
+-- an amount taken from what an account holds
+abbrev pub debited : LedgerState → ℕ → ℕ → LedgerState
+debited state account amount = with_balance state account (balance_of state account - amount)

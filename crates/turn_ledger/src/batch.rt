@@ -1,0 +1,70 @@
+//! The entries of one turn.
+ghost use Rattle.std.specs.Prelude.{◌≡◌, ◌≤◌, length, slice_get};
+
+use crate::{BATCH_LIMIT, Entry};
+use std::marker::Model;
+
+/// What stands at an unused place. No call shows it.
+const UNUSED: Entry = Entry::Deposit {
+    to: 0,
+    amount: 0,
+    reference: 0,
+};
+
+/// At most [`BATCH_LIMIT`] entries in order, which lie in the value itself.
+#[derive(Clone, Copy, Debug, PartialEq, Eq)]
+pub struct Batch {
+    entries: [Entry; BATCH_LIMIT],
+    count: usize,
+}
+
+impl Model for Batch {
+    ghost use Rattle.std.specs.Prelude.{List, ◌++◌, length, take};
+    ghost use Rattle.turn_ledger.specs.declared.entry.Entry.{Entry};
+    ghost use Rattle.turn_ledger.specs.InPlace.{IsFilled, filled, filled-take};
+    ghost use Rattle.turn_ledger.specs.declared.batch.TheConstants.{UNUSED};
+
+    ghost Value = { List Entry };
+
+    ghost view = { λ batch. take batch.count batch.entries };
+
+    ghost invariant = { λ batch. IsFilled UNUSED batch.entries batch.count };
+
+    ghost inverse = { λ entries. record { entries = filled UNUSED entries; count = length entries } };
+
+    ghost inverse_ok = { λ batch h i. record {
+      entries = (filled-take UNUSED batch.entries batch.count h).0 i;
+      count = (filled-take UNUSED batch.entries batch.count h).1 i;
+    } };
+}
+
+impl Batch {
+    /// The batch of these entries.
+    pub fn of(entries: &[Entry]) -> Batch
+        requires { length entries.now ≤ BATCH_LIMIT }
+        ensures { result ≡ entries.now }
+    {
+        let mut places = [UNUSED; BATCH_LIMIT];
+        places[..entries.len()].copy_from_slice(entries);
+        Batch {
+            entries: places,
+            count: entries.len(),
+        }
+    }
+
+    /// The number of entries.
+    pub fn len(&self) -> usize
+        ensures value { result ≡ length self.now }
+        ensures small { length self.now ≤ BATCH_LIMIT }
+    {
+        self.count
+    }
+
+    /// The entry at a place, counted from 0, or None past the end.
+    pub fn get(&self, place: usize) -> Option<Entry>
+        ensures value { result ≡ slice_get self.now place }
+        ensures small { length self.now ≤ BATCH_LIMIT }
+    {
+        self.entries[..self.count].get(place).copied()
+    }
+}

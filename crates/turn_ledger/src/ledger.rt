@@ -1,0 +1,109 @@
+//! The ledger.
+ghost use Rattle.std.specs.Prelude.{◌≡◌, ◌≤◌, length, IfOk, OnOk, OnErr, SomeIff};
+ghost use Rattle.turn_ledger.specs.State.{IsAccount, IsLedger, balance_of, total_of, empty_ledger};
+ghost use Rattle.turn_ledger.specs.Entry.{verdict, posted};
+ghost use Rattle.turn_ledger.specs.Screen.{screened};
+
+use crate::accounts::{Accounts, is_account, post};
+use crate::scratch::Scratch;
+use crate::{ACCOUNTS, BATCH_LIMIT, Entry, EntryRefusal, Verdicts};
+use std::alloc::{AllocError, Global};
+use std::marker::Model;
+
+/// The balances of all accounts, and their total.
+#[derive(Drop)]
+pub struct Ledger {
+    balances: Vec<u64>,
+    total: u64,
+}
+
+impl Model for Ledger {
+    ghost use Rattle.std.specs.Prelude.{◌≡◌, sum};
+    ghost use Rattle.turn_ledger.specs.State.{LedgerState, IsLedger};
+
+    ghost Value = { LedgerState };
+
+    ghost view = { λ ledger. record { balances = ledger.balances.items } };
+
+    ghost invariant = { λ ledger. IsLedger (record { balances = ledger.balances.items }) × (ledger.total ≡ sum ledger.balances.items) };
+}
+
+impl Ledger {
+    /// The empty ledger: every account at zero.
+    #[tactic(auto, unfolding(crate::specs::State::empty_ledger))]
+    pub fn new(alloc: Global) -> Result<Ledger, AllocError>
+        ensures { IfOk result (λ ledger. ledger ≡ empty_ledger) }
+    {
+        Ok(Ledger {
+            balances: vec![in alloc; 0; ACCOUNTS as usize]?,
+            total: 0,
+        })
+    }
+
+    /// What an account holds, or None where there is no account of this number.
+    pub fn balance(&self, account: u32) -> Option<u64>
+        ensures { SomeIff result (IsAccount account) (balance_of self.now account) }
+    {
+        if is_account(account) {
+            Some(self.held_by(account))
+        } else {
+            None
+        }
+    }
+
+    /// What all accounts hold together.
+    pub fn total(&self) -> u64
+        ensures value { result ≡ total_of self.now }
+        ensures ledger { IsLedger self.now }
+    {
+        self.held_by_all()
+    }
+
+    /// Posts an entry, or refuses it with the first rule that it breaks.
+    pub fn post(&mut self, entry: &Entry) -> Result<(), EntryRefusal>
+        ensures answer { result ≡ verdict self.old entry.now }
+        ensures ok { OnOk result (self.new ≡ posted self.old entry.now) }
+        ensures err { OnErr result (self.new ≡ self.old) }
+    {
+        post(self, entry)
+    }
+
+    /// The verdicts of a list of entries, each judged after the accepted ones before it. Nothing is
+    /// posted.
+    pub fn screen(&self, entries: &[Entry]) -> Verdicts
+        requires { length entries.now ≤ BATCH_LIMIT }
+        ensures verdicts { result ≡ screened self.now entries.now }
+        ensures ledger { IsLedger self.now }
+    {
+        let mut scratch = Scratch::of(self.balances.as_slice(), self.total);
+        let mut verdicts = Verdicts::none();
+        for entry in entries {
+            verdicts.push(post(&mut scratch, entry));
+        }
+        verdicts
+    }
+}
+
+impl Accounts for Ledger {
+    ghost state = { λ ledger. ledger };
+
+    ghost room = { λ _. 2 };
+
+    fn held_by(&self, account: u32) -> u64 {
+        self.balances[account as usize - 1]
+    }
+
+    fn held_by_all(&self) -> u64 {
+        self.total
+    }
+
+    fn credit(&mut self, account: u32, amount: u64) {
+        self.balances[account as usize - 1] += amount;
+        self.total += amount;
+    }
+
+    fn debit(&mut self, account: u32, amount: u64) {
+        self.balances[account as usize - 1] -= amount;
+        self.total -= amount;
+    }
+}

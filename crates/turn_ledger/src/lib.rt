@@ -1,0 +1,31 @@
+//! A ledger of numbered accounts, and the rules of its entries.
+//!
+//! Accounts are numbered from 1 to [`ACCOUNTS`] and each has a balance. What all accounts hold
+//! together never exceeds [`TOTAL_LIMIT`]. An [`Entry`] is a deposit, a withdrawal or a transfer;
+//! it is checked against the rules in their order, and either refused with the first
+//! [`EntryRefusal`] that holds, which changes nothing, or posted.
+#![tactic(auto)]
+
+mod accounts;
+mod batch;
+mod entry;
+mod laws;
+mod ledger;
+mod limits;
+mod place;
+mod refusal;
+mod scratch;
+#[cfg(test)]
+mod tests;
+mod verdicts;
+
+pub use batch::Batch;
+pub use entry::Entry;
+pub use laws::{
+    a_yes_means_all_rules, accepted_entries_are_posted, batches_compose,
+    later_entries_see_the_accepted, nothing_is_lost_or_made, posting_gives_the_sums,
+};
+pub use ledger::Ledger;
+pub use limits::{ACCOUNTS, BATCH_LIMIT, TOTAL_LIMIT};
+pub use refusal::EntryRefusal;
+pub use verdicts::Verdicts;

@@ -1,0 +1,10 @@
+//! How many accounts, how much money and how many entries there may be.
+
+/// The number of accounts. They are numbered from 1.
+pub const ACCOUNTS: u32 = 64;
+
+/// The most that all accounts together may hold.
+pub const TOTAL_LIMIT: u64 = 1_000_000_000_000_000_000;
+
+/// The most entries of one batch.
+pub const BATCH_LIMIT: usize = 15;

@@ -1,0 +1,95 @@
+//! The balances that the screening of a batch changes, beside the ledger that stays as it is.
+ghost use Rattle.std.specs.Prelude.{◌≡◌, ◌<◌, [], length, slice_index};
+ghost use Rattle.turn_ledger.specs.Scratch.{changed, IsKept};
+
+use crate::BATCH_LIMIT;
+use crate::accounts::Accounts;
+use arrayvec::ArrayVec;
+
+/// The most changes of one batch: an entry changes two balances at most.
+const CHANGES: usize = 2 * BATCH_LIMIT;
+
+/// A balance written over that at a place, where account 1 has place 0.
+#[derive(Clone, Copy, Default)]
+pub(crate) struct Change {
+    place: usize,
+    balance: u64,
+}
+
+/// Balances, and what was written over them. It is as large as the changes of one batch, however
+/// many accounts there are.
+#[derive(Drop)]
+pub(crate) struct Scratch<'a> {
+    balances: &'a [u64],
+    total: u64,
+    changes: ArrayVec<Change, CHANGES>,
+    ghost kept: { IsKept balances.now total changes.items },
+}
+
+impl<'a> Scratch<'a> {
+    /// Nothing written yet.
+    pub(crate) fn of(balances: &'a [u64], total: u64) -> Scratch<'a>
+        requires { IsKept balances.now total [] }
+        ensures balances { result.balances.now ≡ balances.now }
+        ensures changes { result.changes.items ≡ [] }
+    {
+        Scratch {
+            balances,
+            total,
+            changes: ArrayVec::new(),
+        }
+    }
+}
+
+/// What stands at a place after the changes.
+#[inline]
+fn latest(balances: &[u64], changes: &[Change], place: usize) -> u64
+    requires { place < length balances.now }
+    ensures { result ≡ slice_index (changed balances.now changes.now) place }
+{
+    let mut balance = balances[place];
+    for change in changes {
+        if change.place == place {
+            balance = change.balance;
+        }
+    }
+    balance
+}
+
+impl Accounts for Scratch<'_> {
+    ghost use Rattle.turn_ledger.specs.ScratchState.{state_of, room_of};
+
+    ghost state = { state_of };
+
+    ghost room = { room_of };
+
+    #[inline]
+    fn held_by(&self, account: u32) -> u64 {
+        latest(self.balances, self.changes.as_slice(), account as usize - 1)
+    }
+
+    #[inline]
+    fn held_by_all(&self) -> u64 {
+        self.total
+    }
+
+    #[inline]
+    fn credit(&mut self, account: u32, amount: u64) {
+        let balance = self.held_by(account) + amount;
+        self.total += amount;
+        self.changes.push(Change {
+            place: account as usize - 1,
+            balance,
+        });
+    }
+
+    #[inline]
+    fn debit(&mut self, account: u32, amount: u64) {
+        let balance = self.held_by(account) - amount;
+        self.total -= amount;
+        self.changes.push(Change {
+            place: account as usize - 1,
+            balance,
+        });
+    }
+}

@@ -1,0 +1,162 @@
+//! Worked examples: what is expected was worked out by hand from the rules.
+
+use crate::{Batch, Entry, EntryRefusal, Ledger, TOTAL_LIMIT};
+use std::test::Fail;
+
+fn deposit(to: u32, amount: u64) -> Entry {
+    Entry::Deposit {
+        to,
+        amount,
+        reference: 3,
+    }
+}
+
+fn withdraw(from: u32, amount: u64) -> Entry {
+    Entry::Withdraw {
+        from,
+        amount,
+        reference: 4,
+    }
+}
+
+fn transfer(from: u32, to: u32, amount: u64) -> Entry {
+    Entry::Transfer {
+        from,
+        to,
+        amount,
+        reference: 5,
+    }
+}
+
+#[test]
+fn an_entry_is_judged_after_the_accepted_ones_before_it(rt: HostRuntime) -> Result<(), Fail> {
+    let mut ledger = Ledger::new(rt.alloc())?;
+    let entries = [deposit(1, 100), withdraw(1, 150), transfer(1, 2, 40)];
+    let expected = [Ok(()), Err(EntryRefusal::Short), Ok(())];
+
+    let verdicts = ledger.screen(&entries);
+    assert_eq!(rt; verdicts.len(), 3);
+    assert_eq!(rt; verdicts.accepted(), 2);
+    assert_eq!(rt; verdicts.get(3), None);
+    assert_eq!(rt; ledger.total(), 0, "screening changes nothing");
+
+    for (i, entry) in entries.iter().enumerate() {
+        let posted = ledger.post(entry);
+        assert_eq!(rt; expected.get(i).copied(), Some(posted), "entry {i}");
+        assert_eq!(rt; verdicts.get(i), Some(posted), "entry {i}");
+    }
+    for (account, balance) in [
+        (1, Some(60)),
+        (2, Some(40)),
+        (3, Some(0)),
+        (0, None),
+        (65, None),
+    ] {
+        assert_eq!(rt; ledger.balance(account), balance, "account {account}");
+    }
+    assert_eq!(rt; ledger.total(), 100);
+    Ok(())
+}
+
+#[test]
+fn a_deposit_may_fill_the_ledger_and_not_pass_the_limit(rt: HostRuntime) -> Result<(), Fail> {
+    let mut ledger = Ledger::new(rt.alloc())?;
+    let table = [
+        (deposit(1, TOTAL_LIMIT), Ok(())),
+        (deposit(2, 1), Err(EntryRefusal::OverLimit)),
+        (deposit(2, u64::MAX), Err(EntryRefusal::OverLimit)),
+    ];
+    for (entry, verdict) in table {
+        assert_eq!(rt; ledger.post(&entry), verdict, "{entry:?}");
+    }
+    assert_eq!(rt; ledger.total(), 1_000_000_000_000_000_000);
+    assert_eq!(rt; ledger.balance(2), Some(0));
+    Ok(())
+}
+
+#[test]
+fn the_first_broken_rule_is_answered(rt: HostRuntime) -> Result<(), Fail> {
+    let mut ledger = Ledger::new(rt.alloc())?;
+    let table = [
+        (deposit(1, 0), EntryRefusal::ZeroAmount),
+        (deposit(0, 1), EntryRefusal::NoAccount),
+        (withdraw(65, 1), EntryRefusal::NoAccount),
+        (transfer(3, 3, 1), EntryRefusal::SameAccount),
+        (transfer(65, 65, 0), EntryRefusal::ZeroAmount),
+        (transfer(65, 65, 1), EntryRefusal::NoAccount),
+        (withdraw(1, 1), EntryRefusal::Short),
+    ];
+    for (entry, refusal) in table {
+        assert_eq!(rt; ledger.post(&entry), Err(refusal), "{entry:?}");
+        assert_eq!(rt;
+            ledger.screen(&[entry]).get(0),
+            Some(Err(refusal)),
+            "{entry:?}"
+        );
+    }
+    assert_eq!(rt; ledger.total(), 0);
+    Ok(())
+}
+
+#[test]
+fn the_bytes_of_an_entry(rt: HostRuntime) {
+    let bytes = transfer(1, 2, 40).write();
+    let expected = [
+        3, 0, 0, 0, 0, 0, 0, 1, 0, 0, 0, 2, 0, 0, 0, 0, 0, 0, 0, 0, 0, 0, 0, 40, 0, 0, 0, 0, 0, 0,
+        0, 5,
+    ];
+    assert_eq!(rt; bytes, expected);
+    let bytes = deposit(1, 500).write();
+    let expected = [
+        1, 0, 0, 0, 0, 0, 0, 0, 0, 0, 0, 1, 0, 0, 0, 0, 0, 0, 0, 0, 0, 0, 1, 0xf4, 0, 0, 0, 0, 0,
+        0, 0, 3,
+    ];
+    assert_eq!(rt; bytes, expected);
+}
+
+#[test]
+fn what_is_written_is_read_again(rt: HostRuntime) {
+    let entries = [
+        deposit(1, 500),
+        withdraw(u32::MAX, u64::MAX),
+        transfer(65, 65, 0),
+    ];
+    for entry in entries {
+        assert_eq!(rt; Entry::read(&entry.write()), Some(entry));
+    }
+}
+
+#[test]
+fn bytes_of_no_entry(rt: HostRuntime) {
+    let table = [
+        (0, 0, "no kind"),
+        (0, 4, "another kind"),
+        (1, 1, "a byte after the kind"),
+        (5, 1, "a source of a deposit"),
+        (15, 1, "a byte before the amount"),
+    ];
+    for (place, byte, what) in table {
+        let mut bytes = deposit(1, 500).write();
+        bytes[place] = byte;
+        assert_eq!(rt; Entry::read(&bytes), None, "{what}");
+    }
+}
+
+#[test]
+fn a_batch_holds_its_entries(rt: HostRuntime) {
+    let entries = [deposit(1, 100), transfer(1, 2, 40)];
+    let batch = Batch::of(&entries);
+    assert_eq!(rt; batch.len(), 2);
+    assert_eq!(rt; batch.get(0), Some(deposit(1, 100)));
+    assert_eq!(rt; batch.get(1), Some(transfer(1, 2, 40)));
+    assert_eq!(rt; batch.get(2), None);
+    assert_eq!(rt; Batch::of(&[]).get(0), None);
+    assert_eq!(rt; Batch::of(&[entries[0]; 15]).len(), 15);
+}
+
+#[test]
+fn refusals_in_words(rt: HostRuntime) -> Result<(), Fail> {
+    let words = format!(in rt.alloc(); "{}", EntryRefusal::Short)?;
+    assert_eq!(rt; words.as_str(), "the account holds too little");
+    Ok(())
+}
