@@ -143,6 +143,7 @@ impl Line {
     pub fn privileges(&self) -> u8
         ensures number { result ≡ length (privileges_of self.now) }
         ensures at_least_one { 1 ≤ result }
+        ensures line { IsLine self.now }
     {
         let mut count = 0;
         for b in 0..self.stations as usize - 1 {
@@ -155,7 +156,8 @@ impl Line {
 
     /// Whether exactly one privilege is present.
     pub fn is_legitimate(&self) -> bool
-        ensures { IsTrue result ↔ IsLegitimate self.now }
+        ensures legitimate { IsTrue result ↔ IsLegitimate self.now }
+        ensures line { IsLine self.now }
     {
         self.privileges() == 1
     }

@@ -23,3 +23,6 @@ returns-clause-at_least_one c =
     let one = one-le-privileges c.args.self.now invariant in
     let number = returns-clause-number c in
     omega arith
+
+pub returns-clause-line : goal.returns-clause-line
+returns-clause-line c = rw c.self.view_is at c.self.invariant.line
