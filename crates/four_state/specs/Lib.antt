@@ -1,0 +1,10 @@
+pub mod Configuration
+pub mod Kept
+pub mod Laws
+pub mod Marks
+pub mod Motion
+pub mod MotionLaws
+pub mod Padding
+pub mod Privilege
+pub mod PrivilegeLaws
+pub mod PrivilegeList

@@ -1,0 +1,227 @@
+//! The line itself.
+
+ghost use Rattle.std.specs.Prelude.{◌≡◌, ℕ, ◌+◌, ◌-◌, ◌<◌, ◌≤◌, ◌⊎◌, ◌↔◌, ◌≢◌, length, true, false, IsTrue, IsOk, IfOk, IsNone, IfSome, slice_set};
+ghost use Rattle.four_state.specs.Configuration.{stations, x_at, up_at, IsLine};
+ghost use Rattle.four_state.specs.Privilege.{IsPrivilege, IsLegitimate, privileges_of, choice};
+ghost use Rattle.four_state.specs.Marks.{rises, falls};
+ghost use Rattle.four_state.specs.Motion.{moved, x_turned, IsMove};
+ghost use Rattle.four_state.specs.Padding.{padded};
+ghost use Rattle.four_state.specs.declared.rules.Rule.{Rule};
+
+use crate::refusals::LineRefusal;
+use crate::rules::Rule;
+use std::marker::Model;
+
+// The most stations that a line has.
+const MOST: usize = 64;
+
+/// A line of 2 to 64 machines, each with two bits. The bottom machine's up is always true, and the
+/// top one's always false.
+#[derive(Clone, Copy, Debug, PartialEq, Eq)]
+pub struct Line {
+    stations: u8,
+    // place s belongs to machine s; past the last machine all are false
+    x: [bool; MOST],
+    up: [bool; MOST],
+}
+
+impl Model for Line {
+    ghost use Rattle.four_state.specs.Configuration.{Configuration};
+
+    ghost Value = { Configuration };
+
+    ghost use Rattle.four_state.specs.Padding.{shown, IsKept};
+    ghost use Rattle.four_state.specs.Kept.{kept, kept-shown};
+
+    ghost view = { λ a. shown a.stations a.x a.up };
+
+    ghost invariant = { λ a. IsKept a.stations a.x a.up };
+
+    ghost inverse = { kept };
+
+    ghost inverse_ok = { kept-shown };
+}
+
+impl Line {
+    /// The line of `n` stations with these bits, each list from the bottom station to the top one.
+    /// The first and the last bit of `up` are ignored: they are set to true and false.
+    pub fn from_bits(n: u64, x: &[bool], up: &[bool]) -> Result<Line, LineRefusal>
+        ensures stations { (result ≡ Err LineRefusal.Stations) ↔ ((n < 2) ⊎ (64 < n)) }
+        ensures length { (result ≡ Err LineRefusal.Length)
+            ↔ (((2 ≤ n) × (n ≤ 64)) × ((length x.now ≢ n) ⊎ (length up.now ≢ n))) }
+        ensures ok { IsOk result
+            ↔ (((2 ≤ n) × (n ≤ 64)) × ((length x.now ≡ n) × (length up.now ≡ n))) }
+        ensures bits { IfOk result
+            (λ line. line ≡ record { x = x.now; up = slice_set (slice_set up.now 0 true) (n - 1) false }) }
+    {
+        if n < 2 || 64 < n {
+            return Err(LineRefusal::Stations);
+        }
+        if x.len() as u64 != n || up.len() as u64 != n {
+            return Err(LineRefusal::Length);
+        }
+        Ok(Line::of_bits(x, up))
+    }
+
+    fn of_bits(x: &[bool], up: &[bool]) -> Line
+        requires as_long { length up.now ≡ length x.now }
+        requires two { 2 ≤ length x.now }
+        requires at_most { length x.now ≤ 64 }
+        ensures { result ≡ record { x = x.now; up = slice_set (slice_set up.now 0 true) (length x.now - 1) false } }
+    {
+        let n = x.len();
+        let mut line = Line {
+            stations: n as u8,
+            x: copied(x),
+            up: copied(up),
+        };
+        line.up[0] = true;
+        line.up[n - 1] = false;
+        line
+    }
+
+    /// How many machines stand in the line.
+    pub fn stations(&self) -> u8
+        ensures count { result ≡ stations self.now }
+        ensures line { IsLine self.now }
+    {
+        self.stations
+    }
+
+    /// The bit x of a machine.
+    pub fn x(&self, station: u8) -> bool
+        requires { station < stations self.now }
+        ensures { result ≡ x_at self.now station }
+    {
+        self.x[station as usize]
+    }
+
+    /// The bit up of a machine.
+    pub fn up(&self, station: u8) -> bool
+        requires { station < stations self.now }
+        ensures { result ≡ up_at self.now station }
+    {
+        self.up[station as usize]
+    }
+
+    /// Whether the station has a privilege by this rule; false of a station past the top one.
+    pub fn enabled(&self, station: u8, rule: Rule) -> bool
+        ensures { IsTrue result ↔ IsPrivilege self.now station rule }
+    {
+        let s = station as usize;
+        let top = self.stations as usize - 1;
+        match rule {
+            Rule::Bottom => s == 0 && self.falls(0),
+            Rule::Top => s == top && self.rises(s - 1),
+            Rule::Raise => 0 < s && s < top && self.rises(s - 1),
+            Rule::Lower => 0 < s && s < top && self.falls(s),
+        }
+    }
+
+    /// The rule by which the station moves, if it may: Raise where it has two privileges.
+    pub fn privilege(&self, station: u8) -> Option<Rule>
+        requires { station < stations self.now }
+        ensures choice { result ≡ choice self.now station }
+        ensures one { IfSome result (IsPrivilege self.now station) }
+        ensures none { IsNone result → (rule : Rule) → ¬ IsPrivilege self.now station rule }
+        ensures raise_first { IsPrivilege self.now station Rule.Raise → result ≡ Some Rule.Raise }
+    {
+        if self.enabled(station, Rule::Bottom) {
+            Some(Rule::Bottom)
+        } else if self.enabled(station, Rule::Top) {
+            Some(Rule::Top)
+        } else if self.enabled(station, Rule::Raise) {
+            Some(Rule::Raise)
+        } else if self.enabled(station, Rule::Lower) {
+            Some(Rule::Lower)
+        } else {
+            None
+        }
+    }
+
+    /// How many privileges are present.
+    pub fn privileges(&self) -> u8
+        ensures number { result ≡ length (privileges_of self.now) }
+        ensures at_least_one { 1 ≤ result }
+        ensures line { IsLine self.now }
+    {
+        let mut count = 0;
+        for b in 0..self.stations as usize - 1 {
+            if self.rises(b) || self.falls(b) {
+                count += 1;
+            }
+        }
+        count
+    }
+
+    /// Whether exactly one privilege is present.
+    pub fn is_legitimate(&self) -> bool
+        ensures legitimate { IsTrue result ↔ IsLegitimate self.now }
+        ensures line { IsLine self.now }
+    {
+        self.privileges() == 1
+    }
+
+    /// Makes the move of a station by a rule for which it has a privilege.
+    pub fn make_move(&mut self, station: u8, rule: Rule)
+        requires { IsPrivilege self.old station rule }
+        ensures moved { self.new ≡ moved self.old station rule }
+        ensures a_move { IsMove self.old station rule self.new }
+        ensures line { IsLine self.new }
+    {
+        let _ = &self.stations;
+        let s = station as usize;
+        match rule {
+            Rule::Bottom | Rule::Top => self.turn_x(s),
+            Rule::Raise => {
+                self.turn_x(s);
+                self.set_up(s, true);
+            }
+            Rule::Lower => self.set_up(s, false),
+        }
+    }
+
+    fn turn_x(&mut self, s: usize)
+        requires { s < stations self.old }
+        ensures turned { self.new ≡ record { x = x_turned self.old s; up = self.old.up } }
+        ensures line { IsLine self.new }
+    {
+        self.x[s] = !self.x[s];
+    }
+
+    fn set_up(&mut self, s: usize, up: bool)
+        requires above { 0 < s }
+        requires below { s + 1 < stations self.old }
+        ensures set { self.new ≡ record { x = self.old.x; up = slice_set self.old.up s up } }
+        ensures line { IsLine self.new }
+    {
+        self.up[s] = up;
+    }
+
+    // Whether the bits x of neighbors differ, the lower of which is `below`: a privilege of the
+    // upper one.
+    fn rises(&self, below: usize) -> bool
+        requires { below + 1 < stations self.now }
+        ensures { result ≡ rises self.now below }
+    {
+        self.x[below] != self.x[below + 1]
+    }
+
+    // Whether they are equal, and only the lower one is up: a privilege of the lower one.
+    fn falls(&self, below: usize) -> bool
+        requires { below + 1 < stations self.now }
+        ensures { result ≡ falls self.now below }
+    {
+        !self.rises(below) && self.up[below] && !self.up[below + 1]
+    }
+}
+
+// The bits, and false past them.
+fn copied(bits: &[bool]) -> [bool; MOST]
+    requires { length bits.now ≤ 64 }
+    ensures { result ≡ padded bits.now }
+{
+    let mut all = [false; MOST];
+    all[..bits.len()].copy_from_slice(bits);
+    all
+}

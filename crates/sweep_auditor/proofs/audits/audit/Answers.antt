@@ -1,0 +1,48 @@
+use Rattle.std.proofs.Common.{get_or, sym, ap, ◌∙◌}
+use Rattle.std.proofs.lemmas.Bool.{false≢true}
+use Rattle.std.proofs.lemmas.Option.{slice_get-get_or}
+use Rattle.four_state.specs.Configuration.{Configuration}
+use Rattle.four_state.specs.declared.rules.Rule.TheVariants.{Bottom}
+use Rattle.sweep_auditor.specs.declared.moves.Move.{Move}
+use Rattle.sweep_auditor.specs.Run.{next}
+use Rattle.sweep_auditor.proofs.Runs.{configuration_at-more, IsRun-more, first_more, privilege_at}
+use Rattle.sweep_auditor.proofs.audits.audit.Goals as goal
+
+-- what is read past the last move
+abbrev no_move : Move
+no_move = record { station = 0; rule = Bottom }
+
+pub returns-then-not-enabled-clause-ok : goal.returns-then-not-enabled-clause-ok
+returns-then-not-enabled-clause-ok c = (
+  λ e. absurd (false≢true e),
+  λ run. absurd (
+      let p = privilege_at c.args.moves.now c.args.start c.loop-index.index no_move run c.loop-index-test.true in
+      let q = rw (← c.loop-index.invariant.here) at p in
+      false≢true (sym c.if-not-enabled.true ∙ c.enabled.ensures.1 q)),
+)
+
+pub returns-then-not-enabled-clause-refused : goal.returns-then-not-enabled-clause-refused
+returns-then-not-enabled-clause-refused c = record {
+  run_before = c.loop-index.invariant.run;
+  move = get_or c.args.moves.now c.loop-index.index no_move;
+  stands_there = slice_get-get_or c.args.moves.now c.loop-index.index no_move c.loop-index-test.true;
+  no_privilege = λ p.
+      let q = rw (← c.loop-index.invariant.here) at p in
+      false≢true (sym c.if-not-enabled.true ∙ c.enabled.ensures.1 q);
+}
+
+pub loop-index-preserved : goal.loop-index-preserved
+loop-index-preserved c =
+    let start = c.args.start in
+    let moves = c.args.moves.now in
+    let i = c.loop-index.index in
+    let here = c.loop-index.invariant.here in
+    let test = c.loop-index-test.true in
+    let more = c.noted-first_legitimate-in-loop-index.ensures in
+    let now = c.make_move.ensures.moved ∙ ap (λ (d : Configuration). next d (get_or moves i no_move)) here ∙ sym (configuration_at-more start moves i no_move test) in
+    record {
+      line = c.make_move.ensures.line;
+      here = now;
+      run = IsRun-more start moves i no_move test c.loop-index.invariant.run (rw here at c.make_move.ensures.a_move.privilege);
+      first = first_more start moves i c.loop-index.first_legitimate c.noted-first_legitimate-in-loop-index.result c.loop-index.invariant.first more.found (rw now at more.here) (rw now at more.not_here);
+    }
