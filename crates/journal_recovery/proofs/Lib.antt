@@ -1,0 +1,2 @@
+mod Posting
+mod Standing
