@@ -10,3 +10,6 @@ pub use recovery::{Recovered, recover};
 pub use refusals::{Cause, OpenRefusal};
 pub use sector_device::Device;
 pub use turn_ledger::Ledger;
+
+#[cfg(test)]
+mod tests;
