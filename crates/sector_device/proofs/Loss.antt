@@ -2,7 +2,7 @@
 use Rattle.std.proofs.Common.{◌≡◌, ◌≢◌, ◌⊎◌, inl, inr, ⊎_elim, ℕ, ◌+◌, ◌<◌, ◌≤◌, List, [], ◌∷◌, length, get_or, set, refl, sym, ◌∙◌, ap, subst, arith, All, replicate}
 use Rattle.std.proofs.lemmas.List.{ext_get_or, set-set, set-get_or, length-set, get_or-set_same, get_or-set_other, length-reverse, length-replicate, get_or-replicate}
 use Rattle.std.proofs.lemmas.Bool.{cases_eq}
-use Rattle.sector_device.specs.Image.{Image, IsImage, IsSector, sector_at, with_sector, DiffersAt, differs_nowhere}
+use Rattle.sector_device.specs.Image.{Image, IsImage, IsSector, sector_at, with_sector, DiffersAt}
 use Rattle.sector_device.specs.Device.{DeviceState, IsSound}
 use Rattle.sector_device.specs.Crash.{Elapses, IsSame, IsTorn, IsDurable}
 use Rattle.sector_device.specs.Memory.{MayLeave, LeftSince, IsPending}
@@ -10,17 +10,6 @@ use Rattle.sector_device.specs.MemoryDevice.{state_of, memory_state, calls_of}
 use Rattle.sector_device.specs.declared.memory.Call.{Call}
 use Rattle.sector_device.specs.declared.memory.Call.TheVariants.{Wrote, Synced}
 use Rattle.sector_device.specs.declared.memory.MemoryDevice.{MemoryDevice}
-
--- a call that changed nothing is a write that changed nothing
-pub torn_nothing : (at : ℕ) (old new : DeviceState) → IsSound old → at < length old.reads → IsSame old new → IsTorn at old new
-torn_nothing at old new sound lt same = record {
-  time = same.time;
-  reads = subst (λ (image : Image). DiffersAt at old.reads image) (sym same.reads) (differs_nowhere at old.reads (sound.images old.reads sound.nothing_lost).0 lt);
-  torn = λ image left.
-      let was = same.nothing_more image left in
-      let is = sound.images image was in
-      (image, was, differs_nowhere at image is.0 (omega (arith, is.1, lt)));
-}
 
 -- with nothing pending a crash leaves what reads give
 pub settled_durable : (reads : Image) (calls : List Call) → ((at : ℕ) → IsPending calls at → ⊥) → (image : Image) → MayLeave reads calls image → image ≡ reads

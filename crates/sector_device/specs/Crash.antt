@@ -107,3 +107,14 @@ write_leaves at old new sound lt durable torn =
         let was = torn.torn image left in
         subst (λ (first : Image). DiffersAt at first image) (durable was.0 was.1) was.2 in
     (one_call old new (DiffersAt at old.reads) sound torn.time before after, after)
+
+-- a call that changed nothing is a write that changed nothing
+pub torn_nothing : (at : ℕ) (old new : DeviceState) → IsSound old → at < length old.reads → IsSame old new → IsTorn at old new
+torn_nothing at old new sound lt same = record {
+  time = same.time;
+  reads = subst (λ (image : Image). DiffersAt at old.reads image) (sym same.reads) (differs_nowhere at old.reads (sound.images old.reads sound.nothing_lost).0 lt);
+  torn = λ image left.
+      let was = same.nothing_more image left in
+      let is = sound.images image was in
+      (image, was, differs_nowhere at image is.0 (omega (arith, is.1, lt)));
+}

@@ -5,7 +5,8 @@ use Rattle.sector_device.specs.declared.memory.Call.TheVariants.{Wrote}
 use Rattle.sector_device.specs.Image.{Image, IsSector, sector_at, with_sector}
 use Rattle.sector_device.specs.MemoryDevice.{state_of, calls_of}
 use Rattle.sector_device.specs.MemoryLaws.{memory_sound}
-use Rattle.sector_device.proofs.Loss.{torn_nothing, same_record, write_torn}
+use Rattle.sector_device.specs.Crash.{torn_nothing}
+use Rattle.sector_device.proofs.Loss.{same_record, write_torn}
 use Rattle.sector_device.proofs.memory.MemoryDeviceDevice.write.Goals as goal
 
 pub returns-in_err-record-clause-torn : goal.returns-in_err-record-clause-torn

@@ -1,0 +1,127 @@
+ghost use Rattle.std.specs.Prelude.{◌≡◌, ◌⊎◌, ◌+◌, ◌<◌, ◌≤◌, ◌↔◌, true, false, length, IsTrue, IsErr, OnOk};
+ghost use Rattle.sector_device.specs.Image.{sector_at, with_sector};
+ghost use Rattle.sector_device.specs.Device.{IsCall, HasCause};
+ghost use Rattle.sector_device.specs.Crash.{IsSame, IsTorn, IsDurable};
+ghost use Rattle.fault_injector.specs.Fuse.{FuseState, Counts, Fails, with_failures, sound_with_failures};
+
+use crate::op::Op;
+use sector_device::{Device, DeviceFault, Sector};
+use std::marker::Model;
+
+/// A device that fails from one call on: the k-th call of a kind, counted from 0 since it was made, and every later
+/// call of any kind fail without reaching the inner device. It is honest exactly where the inner device is.
+#[derive(Drop)]
+pub struct Fuse<D: Device> {
+    inner: D,
+    op: Op,
+    at: u64,
+    calls: u64,
+    blown: bool,
+    failures: u64,
+}
+
+impl<D: Device> Model for Fuse<D> {
+    ghost Value = { FuseState D };
+
+    ghost view = { λ f. record { inner = f.inner; op = f.op; at = f.at; calls = f.calls; blown = f.blown; failures = f.failures } };
+}
+
+impl<D: Device> Fuse<D> {
+    /// A fuse that blows at call number `at` of that kind.
+    pub fn new(inner: D, op: Op, at: u64) -> Fuse<D>
+        ensures { result ≡ record { inner = inner; op = op; at = at; calls = 0; blown = false; failures = 0 } }
+    {
+        Fuse {
+            inner,
+            op,
+            at,
+            calls: 0,
+            blown: false,
+            failures: 0,
+        }
+    }
+
+    /// The inner device, as it is.
+    pub fn into_inner(self) -> D
+        ensures { result ≡ self.inner }
+    {
+        let Fuse { inner, .. } = self;
+        inner
+    }
+
+    // Counts a call of that kind, and tells whether it fails.
+    fn fails(&mut self, call: Op) -> bool
+        ensures answer { IsTrue result ↔ Fails self.old call }
+        ensures inner { self.new.inner ≡ self.old.inner }
+        ensures kind { (self.new.op ≡ self.old.op) × (self.new.at ≡ self.old.at) }
+        ensures blown { self.new.blown ≡ result }
+        ensures failures { HasCause self.old.failures self.new.failures (IsTrue result) }
+        ensures no_fewer { self.old.failures ≤ self.new.failures }
+    {
+        let counted = self.op == Op::Any || self.op == call;
+        if counted && self.calls == self.at {
+            self.blown = true;
+        }
+        if counted {
+            self.calls = self.calls.saturating_add(1);
+        }
+        if self.blown {
+            self.failures = self.failures.saturating_add(1);
+        }
+        self.blown
+    }
+}
+
+impl<D: Device> Device for Fuse<D> {
+    ghost state = { λ f. with_failures (D.state f.inner) f.failures };
+
+    fn sectors(&self) -> u64 {
+        self.inner.sectors()
+    }
+
+    fn read(&mut self, at: u64, into: &mut Sector) -> Result<(), DeviceFault>
+        requires { at < length (D.state self.old.inner).reads }
+        ensures call { IsCall (with_failures (D.state self.old.inner) self.old.failures) (with_failures (D.state self.new.inner) self.new.failures) (IsErr result) }
+        ensures same { (D.state self.old.inner).honest → IsSame (with_failures (D.state self.old.inner) self.old.failures) (with_failures (D.state self.new.inner) self.new.failures) }
+        ensures bytes { (D.state self.old.inner).honest → OnOk result (into.new ≡ sector_at (D.state self.old.inner).reads at) }
+        ensures fails { Fails self.old Op.Read → IsErr result }
+        ensures unreached { Fails self.old Op.Read → self.new.inner ≡ self.old.inner }
+        ensures passed_on { (Fails self.old Op.Read → ⊥) → IsCall (D.state self.old.inner) (D.state self.new.inner) (IsErr result) }
+    {
+        if self.fails(Op::Read) {
+            return Err(DeviceFault);
+        }
+        self.inner.read(at, into)
+    }
+
+    fn write(&mut self, at: u64, from: &Sector) -> Result<(), DeviceFault>
+        requires { at < length (D.state self.old.inner).reads }
+        ensures call { IsCall (with_failures (D.state self.old.inner) self.old.failures) (with_failures (D.state self.new.inner) self.new.failures) (IsErr result) }
+        ensures torn { (D.state self.old.inner).honest → IsTorn at (with_failures (D.state self.old.inner) self.old.failures) (with_failures (D.state self.new.inner) self.new.failures) }
+        ensures written { (D.state self.old.inner).honest → OnOk result ((D.state self.new.inner).reads ≡ with_sector (D.state self.old.inner).reads at from.now) }
+        ensures fails { Fails self.old Op.Write → IsErr result }
+        ensures unreached { Fails self.old Op.Write → self.new.inner ≡ self.old.inner }
+        ensures passed_on { (Fails self.old Op.Write → ⊥) → IsCall (D.state self.old.inner) (D.state self.new.inner) (IsErr result) }
+    {
+        if self.fails(Op::Write) {
+            return Err(DeviceFault);
+        }
+        self.inner.write(at, from)
+    }
+
+    fn sync(&mut self) -> Result<(), DeviceFault>
+        ensures call { IsCall (with_failures (D.state self.old.inner) self.old.failures) (with_failures (D.state self.new.inner) self.new.failures) (IsErr result) }
+        ensures same { (D.state self.old.inner).honest → IsSame (with_failures (D.state self.old.inner) self.old.failures) (with_failures (D.state self.new.inner) self.new.failures) }
+        ensures durable { (D.state self.old.inner).honest → OnOk result (IsDurable (with_failures (D.state self.new.inner) self.new.failures)) }
+        ensures fails { Fails self.old Op.Sync → IsErr result }
+        ensures unreached { Fails self.old Op.Sync → self.new.inner ≡ self.old.inner }
+        ensures passed_on { (Fails self.old Op.Sync → ⊥) → IsCall (D.state self.old.inner) (D.state self.new.inner) (IsErr result) }
+    {
+        if self.fails(Op::Sync) {
+            return Err(DeviceFault);
+        }
+        self.inner.sync()
+    }
+
+    ghost sound = { λ f honest. sound_with_failures (D.state f.inner) f.failures (D.sound f.inner honest) };
+}
