@@ -1,0 +1,159 @@
+use fault_injector::{Fuse, Op};
+use gate_journal::{AppendRefusal, Journal, JournalRefusal, Record, format};
+use journal_recovery::{OpenRefusal, recover};
+use sector_device::{Device, MemoryDevice, Picks, SECTOR, Sector};
+use std::alloc::{AllocError, Global};
+use std::process::Abort;
+use std::test::Fail;
+use turn_ledger::Entry;
+
+const ZERO: Sector = [0; SECTOR];
+
+const TORN: Sector = [0x77; SECTOR];
+
+// A gate that reads open, over bytes that nobody wrote.
+fn torn_open() -> Sector {
+    let mut bytes = TORN;
+    bytes[0] = 0xa5;
+    bytes
+}
+
+// A record of station 0 with one deposit of 500 to account 1.
+fn deposit_of_500(rt: &impl Abort) -> Record {
+    let entry = Entry::Deposit {
+        to: 1,
+        amount: 500,
+        reference: 3,
+    };
+    let mut payload = [0; 480];
+    payload[..32].copy_from_slice(&entry.write());
+    Record::new(0, 1, payload).expect(rt, "a record")
+}
+
+fn formatted(alloc: Global) -> Result<MemoryDevice, Fail> {
+    let mut device = MemoryDevice::new(alloc, 9)?;
+    format(&mut device, 4)?;
+    Ok(device)
+}
+
+// What an append on a failing device answered, if the journal was opened at all, and the device after it.
+fn append_on(
+    rt: &impl Abort,
+    device: Fuse<MemoryDevice>,
+) -> (Option<Result<u64, AppendRefusal>>, MemoryDevice) {
+    match Journal::open(device) {
+        Ok(mut journal) => {
+            let answer = journal.append(&deposit_of_500(rt));
+            if answer.is_err() {
+                assert!(rt; journal.is_faulted());
+                assert_eq!(rt;
+                    journal.append(&deposit_of_500(rt)),
+                    Err(AppendRefusal::Faulted)
+                );
+            }
+            (Some(answer), journal.into_device().into_inner())
+        }
+        Err((device, refusal)) => {
+            assert_eq!(rt; refusal, JournalRefusal::Device);
+            (None, device.into_inner())
+        }
+    }
+}
+
+// The balance of account 1 and the next sequence that a device recovers to.
+fn recovered(rt: &impl Abort, alloc: Global, device: MemoryDevice) -> (Option<u64>, u64) {
+    match recover(alloc, device) {
+        Ok(found) => (found.ledger.balance(1), found.journal.next()),
+        Err((_, refusal)) => panic!(rt; "{refusal}"),
+    }
+}
+
+fn picks_of(alloc: Global, list: &[(u64, Sector)]) -> Result<Picks, AllocError> {
+    Ok(Picks {
+        list: list.to_vec(alloc)?,
+    })
+}
+
+#[test]
+fn a_gate_that_could_not_be_written_leaves_the_record_out(rt: HostRuntime) -> Result<(), Fail> {
+    let alloc = rt.alloc();
+    let (answer, device) = append_on(&rt, Fuse::new(formatted(alloc)?, Op::Write, 1));
+    assert_eq!(rt; answer, Some(Err(AppendRefusal::Device)));
+    let device = device.crash(&picks_of(alloc, &[])?);
+    assert_eq!(rt; recovered(&rt, alloc, device), (Some(0), 0));
+    Ok(())
+}
+
+// The gate is written and pending: the opening's sync has number 0, the body's 1 and the gate's 2.
+#[test]
+fn a_gate_that_was_not_synced_may_be_there_or_not(rt: HostRuntime) -> Result<(), Fail> {
+    let alloc = rt.alloc();
+    for (gate, expected) in [(torn_open(), (Some(500), 1)), (ZERO, (Some(0), 0))] {
+        let (answer, device) = append_on(&rt, Fuse::new(formatted(alloc)?, Op::Sync, 2));
+        assert_eq!(rt; answer, Some(Err(AppendRefusal::Device)));
+        let device = device.crash(&picks_of(alloc, &[(2, gate)])?);
+        assert_eq!(rt; recovered(&rt, alloc, device), expected);
+    }
+    Ok(())
+}
+
+#[test]
+fn an_acknowledged_record_is_out_of_reach_of_a_power_loss(rt: HostRuntime) -> Result<(), Fail> {
+    let alloc = rt.alloc();
+    let (answer, device) = append_on(&rt, Fuse::new(formatted(alloc)?, Op::Any, 1000));
+    assert_eq!(rt; answer, Some(Ok(0)));
+    let device = device.crash(&picks_of(alloc, &[(1, ZERO), (2, ZERO), (0, TORN)])?);
+    assert_eq!(rt; recovered(&rt, alloc, device), (Some(500), 1));
+    Ok(())
+}
+
+// Each call of an opening and an append fails in turn, and with each the power is lost, which leaves each of the
+// choices in the body's sector and in the gate's.
+#[test]
+fn whichever_call_fails_the_record_is_there_whole_or_not_at_all(
+    rt: HostRuntime,
+) -> Result<(), Fail> {
+    let alloc = rt.alloc();
+    let mut acknowledged = 0;
+    for at in 0..20 {
+        for body in [ZERO, torn_open(), TORN] {
+            for gate in [ZERO, torn_open(), TORN] {
+                let (answer, device) = append_on(&rt, Fuse::new(formatted(alloc)?, Op::Any, at));
+                let device = device.crash(&picks_of(alloc, &[(1, body), (2, gate)])?);
+                let found = recovered(&rt, alloc, device);
+                if let Some(Ok(sequence)) = answer {
+                    acknowledged += 1;
+                    assert_eq!(rt; sequence, 0);
+                    assert_eq!(rt; found, (Some(500), 1));
+                } else {
+                    assert!(rt; found == (Some(0), 0) || found == (Some(500), 1));
+                }
+            }
+        }
+    }
+    // An opening of 4 closed slots makes 6 calls and an append 4, so from call 10 on nothing fails.
+    assert_eq!(rt; acknowledged, 90);
+    Ok(())
+}
+
+#[test]
+fn whichever_call_of_recovery_fails_the_device_comes_back_unchanged(
+    rt: HostRuntime,
+) -> Result<(), Fail> {
+    let alloc = rt.alloc();
+    let mut failed = 0;
+    for at in 0..20 {
+        let (_, device) = append_on(&rt, Fuse::new(formatted(alloc)?, Op::Any, 1000));
+        match recover(alloc, Fuse::new(device, Op::Any, at)) {
+            Ok(found) => assert_eq!(rt; found.ledger.balance(1), Some(500)),
+            Err((device, refusal)) => {
+                failed += 1;
+                assert_eq!(rt; refusal, OpenRefusal::Device);
+                assert_eq!(rt; recovered(&rt, alloc, device.into_inner()), (Some(500), 1));
+            }
+        }
+    }
+    // A sync, the superblock, 4 gates, a body, and the record once more.
+    assert_eq!(rt; failed, 8);
+    Ok(())
+}
