@@ -15,12 +15,12 @@ use std::marker::Model;
 // The most stations that a line has.
 const MOST: usize = 64;
 
-/// A line of 2 to 64 machines, each with two bits. The bottom machine's up is always true, and the
+/// A line of 2 to 64 stations, each with two bits. The bottom station's up is always true, and the
 /// top one's always false.
 #[derive(Clone, Copy, Debug, PartialEq, Eq)]
 pub struct Line {
     stations: u8,
-    // place s belongs to machine s; past the last machine all are false
+    // place s belongs to station s; past the last station all are false
     x: [bool; MOST],
     up: [bool; MOST],
 }
@@ -80,7 +80,7 @@ impl Line {
         line
     }
 
-    /// How many machines stand in the line.
+    /// How many stations stand in the line.
     pub fn stations(&self) -> u8
         ensures count { result ≡ stations self.now }
         ensures line { IsLine self.now }
@@ -88,7 +88,7 @@ impl Line {
         self.stations
     }
 
-    /// The bit x of a machine.
+    /// The bit x of a station.
     pub fn x(&self, station: u8) -> bool
         requires { station < stations self.now }
         ensures { result ≡ x_at self.now station }
@@ -96,7 +96,7 @@ impl Line {
         self.x[station as usize]
     }
 
-    /// The bit up of a machine.
+    /// The bit up of a station.
     pub fn up(&self, station: u8) -> bool
         requires { station < stations self.now }
         ensures { result ≡ up_at self.now station }
@@ -169,7 +169,7 @@ impl Line {
         ensures a_move { IsMove self.old station rule self.new }
         ensures line { IsLine self.new }
     {
-        let _ = &self.stations;
+        prove!(station < self.stations());
         let s = station as usize;
         match rule {
             Rule::Bottom | Rule::Top => self.turn_x(s),

@@ -1,6 +1,6 @@
-//! The rules by which machines move.
+//! The rules by which stations move.
 
-/// A rule of the line. With L and R for the lower and the upper neighbor of machine S:
+/// A rule of the line. With L and R for the lower and the upper neighbor of station S:
 ///
 /// | Rule | Machine | Guard | Move |
 /// |---|---|---|---|
