@@ -2,7 +2,7 @@
 use Rattle.std.proofs.Common.{◌≡◌, ℕ, ◌-◌, ◌<◌, ◌++◌, ◌+◌, ◌≤◌, Bool, true, false, not, List, length, get_or, take, replicate, set, sym, ap, ◌∙◌, refl, arith, length-set, get_or-take, get_or-set_same, get_or-set_other}
 use Rattle.std.proofs.lemmas.List.{set-append_left, take_at}
 use Rattle.four_state.specs.Configuration.{Configuration, IsLine}
-use Rattle.four_state.specs.Motion.{x_turned}
+use Rattle.four_state.specs.Motion.{x_flipped}
 use Rattle.four_state.specs.MotionLaws.{IsLine-x, IsLine-up}
 use Rattle.four_state.specs.Padding.{padded, shown, IsKept}
 
@@ -38,9 +38,9 @@ IsKept-x n s bit x up h l =
       up_padded = h.up_padded;
     }
 
--- the bit x of a station is turned round
-pub shown-turned : (n s : ℕ) (x up : List Bool) → IsKept n x up → s < n → shown n (set x s (not (get_or x s false))) up ≡ record { x = x_turned (shown n x up) s; up = take n up }
-shown-turned n s x up h l =
+-- the bit x of a station is flipped
+pub shown-flipped : (n s : ℕ) (x up : List Bool) → IsKept n x up → s < n → shown n (set x s (not (get_or x s false))) up ≡ record { x = x_flipped (shown n x up) s; up = take n up }
+shown-flipped n s x up h l =
     let same = get_or-take n x s false l in rw same (shown-x n s (not (get_or x s false)) x up h l)
 
 -- what is shown after a write to up

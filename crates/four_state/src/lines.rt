@@ -4,7 +4,7 @@ ghost use Rattle.std.specs.Prelude.{◌≡◌, ℕ, ◌+◌, ◌-◌, ◌<◌, �
 ghost use Rattle.four_state.specs.Configuration.{stations, x_at, up_at, IsLine};
 ghost use Rattle.four_state.specs.Privilege.{IsPrivilege, IsLegitimate, privileges_of, choice};
 ghost use Rattle.four_state.specs.Marks.{rises, falls};
-ghost use Rattle.four_state.specs.Motion.{moved, x_turned, IsMove};
+ghost use Rattle.four_state.specs.Motion.{moved, x_flipped, IsMove};
 ghost use Rattle.four_state.specs.Padding.{padded};
 ghost use Rattle.four_state.specs.declared.rules.Rule.{Rule};
 
@@ -53,6 +53,7 @@ impl Line {
             ↔ (((2 ≤ n) × (n ≤ 64)) × ((length x.now ≡ n) × (length up.now ≡ n))) }
         ensures bits { IfOk result
             (λ line. line ≡ record { x = x.now; up = slice_set (slice_set up.now 0 true) (n - 1) false }) }
+        ensures line { IfOk result IsLine }
     {
         if n < 2 || 64 < n {
             return Err(LineRefusal::Stations);
@@ -63,11 +64,13 @@ impl Line {
         Ok(Line::of_bits(x, up))
     }
 
+    // The line of as many stations as there are bits, with the two end bits of up set.
     fn of_bits(x: &[bool], up: &[bool]) -> Line
         requires as_long { length up.now ≡ length x.now }
         requires two { 2 ≤ length x.now }
         requires at_most { length x.now ≤ 64 }
-        ensures { result ≡ record { x = x.now; up = slice_set (slice_set up.now 0 true) (length x.now - 1) false } }
+        ensures bits { result ≡ record { x = x.now; up = slice_set (slice_set up.now 0 true) (length x.now - 1) false } }
+        ensures line { IsLine result }
     {
         let n = x.len();
         let mut line = Line {
@@ -172,23 +175,25 @@ impl Line {
         prove!(station < self.stations());
         let s = station as usize;
         match rule {
-            Rule::Bottom | Rule::Top => self.turn_x(s),
+            Rule::Bottom | Rule::Top => self.flip_x(s),
             Rule::Raise => {
-                self.turn_x(s);
+                self.flip_x(s);
                 self.set_up(s, true);
             }
             Rule::Lower => self.set_up(s, false),
         }
     }
 
-    fn turn_x(&mut self, s: usize)
+    // Flips the bit x of a station.
+    fn flip_x(&mut self, s: usize)
         requires { s < stations self.old }
-        ensures turned { self.new ≡ record { x = x_turned self.old s; up = self.old.up } }
+        ensures flipped { self.new ≡ record { x = x_flipped self.old s; up = self.old.up } }
         ensures line { IsLine self.new }
     {
         self.x[s] = !self.x[s];
     }
 
+    // Sets the bit up of a station between the ends.
     fn set_up(&mut self, s: usize, up: bool)
         requires above { 0 < s }
         requires below { s + 1 < stations self.old }

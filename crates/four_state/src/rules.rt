@@ -4,9 +4,9 @@
 ///
 /// | Rule | Machine | Guard | Move |
 /// |---|---|---|---|
-/// | Bottom | the bottom one | x of S = x of R, and not up of R | turns its x round |
-/// | Top | the top one | x of S ≠ x of L | turns its x round |
-/// | Raise | any other | x of S ≠ x of L | turns its x round, and its up becomes true |
+/// | Bottom | the bottom one | x of S = x of R, and not up of R | flips its x |
+/// | Top | the top one | x of S ≠ x of L | flips its x |
+/// | Raise | any other | x of S ≠ x of L | flips its x, and its up becomes true |
 /// | Lower | any other | x of S = x of R, up of S, and not up of R | its up becomes false |
 #[derive(Clone, Copy, Debug, PartialEq, Eq)]
 pub enum Rule {

@@ -5,7 +5,7 @@ use Rattle.std.proofs.lemmas.Bool.{and_parts, eqb-true, not-true}
 use Rattle.std.proofs.lemmas.List.FromFn.{length-map-range_with_len}
 use Rattle.four_state.specs.Configuration.{Configuration, IsConfiguration, stations, x_at, up_at, differ}
 use Rattle.four_state.specs.Privilege.{IsPrivilege}
-use Rattle.four_state.specs.Motion.{moved, x_turned}
+use Rattle.four_state.specs.Motion.{moved, x_flipped}
 use Rattle.four_state.specs.MotionLaws.{middle_stands}
 use Rattle.four_state.specs.Marks.{Mark, Rising, Falling, Still, mark_at, marks_from, marks_of}
 use Rattle.four_state.specs.declared.rules.Rule.{Rule}
@@ -70,23 +70,23 @@ lowered_under false true u = under_rise
 lowered_under false false true = falls_on
 lowered_under false false false = vanishes
 
--- the bottom station turns its x round
+-- the bottom station flips its x
 mark-bottom : (a b u v : Bool) → beq a b ≡ true → mark (not a) b u v ≡ Rising
 mark-bottom true true u v h = refl
 mark-bottom false false u v h = refl
 mark-bottom true false u v h = absurd (cc)
 mark-bottom false true u v h = absurd (cc)
 
--- the top station turns its x round
-turned_top : (a b u v : Bool) → differ b a ≡ true → AtTop (mark a (not b) u v)
-turned_top true true u v h = absurd (cc)
-turned_top true false true true h = ends
-turned_top true false true false h = turns
-turned_top true false false v h = ends
-turned_top false true true true h = ends
-turned_top false true true false h = turns
-turned_top false true false v h = ends
-turned_top false false u v h = absurd (cc)
+-- the top station flips its x
+flipped_top : (a b u v : Bool) → differ b a ≡ true → AtTop (mark a (not b) u v)
+flipped_top true true u v h = absurd (cc)
+flipped_top true false true true h = ends
+flipped_top true false true false h = turns
+flipped_top true false false v h = ends
+flipped_top false true true true h = ends
+flipped_top false true true false h = turns
+flipped_top false true false v h = ends
+flipped_top false false u v h = absurd (cc)
 
 -- ---- marks away from the station that moves
 
@@ -180,8 +180,8 @@ moved_elsewhere c s Lower = record {
   up_same = λ i ne. get_or-set_other c.up s i false false ne;
 }
 
-pub x_turned_at : (c : Configuration) (s : ℕ) → s < stations c → x_at (record { x = x_turned c s; up = c.up }) s ≡ not (x_at c s)
-x_turned_at c s l = get_or-set_same c.x s (not (x_at c s)) false l
+pub x_flipped_at : (c : Configuration) (s : ℕ) → s < stations c → x_at (record { x = x_flipped c s; up = c.up }) s ≡ not (x_at c s)
+x_flipped_at c s l = get_or-set_same c.x s (not (x_at c s)) false l
 
 raise_step : (c : Configuration) (b q : ℕ) → IsConfiguration c → stations c ≡ b + q + 3 → differ (x_at c (b + 1)) (x_at c b) ≡ true → Step (b + 1) (marks_of c) (marks_of (moved c (b + 1) Raise))
 raise_step c b q h e p =
@@ -191,7 +191,7 @@ raise_step c b q h e p =
     let long = length-set c.x (b + 1) (not (x_at c (b + 1))) in
     let front = marks_from c 0 b in
     let back = marks_from c (b + 1 + 1) q in
-    let x_here = x_turned_at c (b + 1) (omega arith) in
+    let x_here = x_flipped_at c (b + 1) (omega arith) in
     let up_here : up_at d (b + 1) ≡ true = get_or-set_same c.up (b + 1) true false (omega arith) in
     let x_below = same.x_same b (λ i. absurd (omega arith)) in
     let up_below = same.up_same b (λ i. absurd (omega arith)) in
@@ -232,7 +232,7 @@ bottom_step c q h e p above =
     let same = moved_elsewhere c 0 Bottom in
     let long = length-set c.x 0 (not (x_at c 0)) in
     let back = marks_from c 1 q in
-    let x_here = x_turned_at c 0 (omega arith) in
+    let x_here = x_flipped_at c 0 (omega arith) in
     let x_above = same.x_same 1 (λ i. absurd (omega arith)) in
     let was = mark-fall (x_at c 0) (x_at c 1) (up_at c 0) (up_at c 1) p h.up_at_the_bottom above in
     let now = mark_is d 0 (not (x_at c 0)) (x_at c 1) (up_at c 0) (up_at c 1) x_here x_above refl refl ∙ mark-bottom (x_at c 0) (x_at c 1) (up_at c 0) (up_at c 1) p in
@@ -246,11 +246,11 @@ top_step c b h e p =
     let same = moved_elsewhere c (b + 1) Top in
     let long = length-set c.x (b + 1) (not (x_at c (b + 1))) in
     let front = marks_from c 0 b in
-    let x_here = x_turned_at c (b + 1) (omega arith) in
+    let x_here = x_flipped_at c (b + 1) (omega arith) in
     let x_below = same.x_same b (λ i. absurd (omega arith)) in
     let was = mark-differ (x_at c b) (x_at c (b + 1)) (up_at c b) (up_at c (b + 1)) p in
     let now = mark_is d b (x_at c b) (not (x_at c (b + 1))) (up_at c b) (up_at c (b + 1)) x_below x_here refl refl in
-    let turn = turned_top (x_at c b) (x_at c (b + 1)) (up_at c b) (up_at c (b + 1)) p in
+    let turn = flipped_top (x_at c b) (x_at c (b + 1)) (up_at c b) (up_at c (b + 1)) p in
     let before = marks_before c d (b + 1) b 0 same (omega arith) in
     top front (mark_at d b) (subst AtTop (sym now) turn)
     (ap (λ k. k + 1) (sym (length-map-range_with_len (mark_at c) 0 b)))

@@ -1,4 +1,4 @@
--- Two legitimate lines at the same turn are the same.
+-- Two legitimate lines at the same phase are the same.
 use Rattle.std.proofs.Common.{◌≡◌, ℕ, zero, suc, ◌+◌, ◌-◌, ◌*◌, ◌<◌, ◌≤◌, ◌⊎◌, Bool, true, false, cond, List, [], ◌∷◌, ◌++◌, length, take, get_or, refl, sym, ap, ◌∙◌, arith, inl, inr, add-one}
 use Rattle.std.proofs.lemmas.Bool.{cases_lt, cases_Bool, false≢true}
 use Rattle.std.proofs.lemmas.List.{ext_get_or}
@@ -8,7 +8,7 @@ use Rattle.four_state.specs.Privilege.{IsLegitimate}
 use Rattle.four_state.specs.Marks.{Mark, Rising, Falling, Still, rises, mark_at, marks_from, marks_of, mark_count}
 use Rattle.four_state.specs.PrivilegeLaws.{mark_count-append, length-privileges_of, up_above}
 use Rattle.sweep_auditor.proofs.Local.{marks_from-add}
-use Rattle.sweep_auditor.proofs.Turns.{place, place-most, turn_of}
+use Rattle.sweep_auditor.proofs.Phases.{place, place-most, phase_of}
 
 -- ---- the same marks
 
@@ -117,21 +117,21 @@ up_same c d n i h k ec ed same one l =
 
 -- ---- the same line
 
-same_turn : (x y : Bool) (p q n : ℕ) → p < 2 * n → q < 2 * n → p + cond x (2 * n) 0 ≡ q + cond y (2 * n) 0 → (x ≡ y) × (p ≡ q)
-same_turn true true p q n a b e = (refl, omega arith)
-same_turn false false p q n a b e = (refl, omega arith)
-same_turn true false p q n a b e = absurd (omega arith)
-same_turn false true p q n a b e = absurd (omega arith)
+same_phase : (x y : Bool) (p q n : ℕ) → p < 2 * n → q < 2 * n → p + cond x (2 * n) 0 ≡ q + cond y (2 * n) 0 → (x ≡ y) × (p ≡ q)
+same_phase true true p q n a b e = (refl, omega arith)
+same_phase false false p q n a b e = (refl, omega arith)
+same_phase true false p q n a b e = absurd (omega arith)
+same_phase false true p q n a b e = absurd (omega arith)
 
-pub same_configuration : (n : ℕ) (c d : Configuration) → IsConfiguration c → IsConfiguration d → stations c ≡ n + 1 → stations d ≡ n + 1 → IsLegitimate c → IsLegitimate d → turn_of n c ≡ turn_of n d → c ≡ d
-same_configuration n c d h k ec ed one_c one_d turn =
+pub same_configuration : (n : ℕ) (c d : Configuration) → IsConfiguration c → IsConfiguration d → stations c ≡ n + 1 → stations d ≡ n + 1 → IsLegitimate c → IsLegitimate d → phase_of n c ≡ phase_of n d → c ≡ d
+same_configuration n c d h k ec ed one_c one_d phase =
     let count_c = length-privileges_of c h in
     let count_d = length-privileges_of d k in
     let long_c = length-map-range_with_len (mark_at c) 0 (stations c - 1) in
     let long_d = length-map-range_with_len (mark_at d) 0 (stations d - 1) in
     let most_c = place-most (marks_of c) 0 (omega arith) in
     let most_d = place-most (marks_of d) 0 (omega arith) in
-    let parts = same_turn (x_at c 0) (x_at d 0) (place 0 (marks_of c)) (place 0 (marks_of d)) n (omega arith) (omega arith) turn in
+    let parts = same_phase (x_at c 0) (x_at d 0) (place 0 (marks_of c)) (place 0 (marks_of d)) n (omega arith) (omega arith) phase in
     let marks = same_place (marks_of c) (marks_of d) 0 (omega arith) (omega arith) (omega arith) parts.1 in
     let top_c : stations c - 1 ≡ n = omega arith in
     let top_d : stations d - 1 ≡ n = omega arith in

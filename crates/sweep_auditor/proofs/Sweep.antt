@@ -13,7 +13,7 @@ use Rattle.sweep_auditor.specs.Run.{next, after, configuration_at, IsRun}
 use Rattle.sweep_auditor.specs.Stabilization.{sweep_at, SweepsFromLegitimate}
 use Rattle.sweep_auditor.specs.declared.moves.Move.{Move}
 use Rattle.sweep_auditor.specs.RunLaws.{IsConfiguration-after, stations-after, after-append, IsRun-take}
-use Rattle.sweep_auditor.proofs.Turns.{place, place-most, turn_of, IsLegitimate-next, advances}
+use Rattle.sweep_auditor.proofs.Phases.{place, place-most, phase_of, IsLegitimate-next, advances}
 use Rattle.sweep_auditor.proofs.Same.{same_configuration}
 
 -- ---- a run from a legitimate configuration
@@ -40,14 +40,14 @@ sweeps_round n (suc k) a =
     ap (λ s. s ∷ map (sweep_at n) (range_with_len (4 * n + a + 1) k)) (sweep_at-round n a)
     ∙ ap (λ (ss : List ℕ). sweep_at n a ∷ ss) (ap (λ b. map (sweep_at n) (range_with_len b k)) place ∙ sweeps_round n k (a + 1))
 
--- the stretch that follows a turn
-goes_on : (n k : ℕ) (c d : Configuration) → (turn_of n d ≡ turn_of n c + 1) ⊎ ((turn_of n c + 1 ≡ 4 * n) × (turn_of n d ≡ 0)) → map (sweep_at n) (range_with_len (turn_of n d + 1) k) ≡ map (sweep_at n) (range_with_len (turn_of n c + 1 + 1) k)
+-- the stretch that follows a move
+goes_on : (n k : ℕ) (c d : Configuration) → (phase_of n d ≡ phase_of n c + 1) ⊎ ((phase_of n c + 1 ≡ 4 * n) × (phase_of n d ≡ 0)) → map (sweep_at n) (range_with_len (phase_of n d + 1) k) ≡ map (sweep_at n) (range_with_len (phase_of n c + 1 + 1) k)
 goes_on n k c d (inl e) = ap (λ b. map (sweep_at n) (range_with_len (b + 1) k)) e
 goes_on n k c d (inr e) =
-    let later : turn_of n c + 1 + 1 ≡ 4 * n + 1 = ap (λ b. b + 1) e.0 in
+    let later : phase_of n c + 1 + 1 ≡ 4 * n + 1 = ap (λ b. b + 1) e.0 in
     ap (λ b. map (sweep_at n) (range_with_len (b + 1) k)) e.1 ∙ sym (ap (λ b. map (sweep_at n) (range_with_len b k)) later ∙ sweeps_round n k 1)
 
-stretch_from : (moves : List Move) (c : Configuration) (n : ℕ) → IsConfiguration c → stations c ≡ n + 1 → IsRun c moves → IsLegitimate c → map (λ (m : Move). m.station) moves ≡ map (sweep_at n) (range_with_len (turn_of n c + 1) (length moves))
+stretch_from : (moves : List Move) (c : Configuration) (n : ℕ) → IsConfiguration c → stations c ≡ n + 1 → IsRun c moves → IsLegitimate c → map (λ (m : Move). m.station) moves ≡ map (sweep_at n) (range_with_len (phase_of n c + 1) (length moves))
 stretch_from [] c n h e run one = refl
 stretch_from (m ∷ moves) c n h e run one =
     let p = run.0.privilege in
@@ -56,25 +56,25 @@ stretch_from (m ∷ moves) c n h e run one =
     let long = stations-moved c m.station m.rule ∙ e in
     let rest = stretch_from moves (next c m) n later long run.1 (IsLegitimate-next c m.station m.rule h p one) in
     ap (λ s. s ∷ map (λ (k : Move). k.station) moves) advance.station
-    ∙ ap (λ (ss : List ℕ). sweep_at n (turn_of n c + 1) ∷ ss) (rest ∙ goes_on n (length moves) c (next c m) advance.next)
+    ∙ ap (λ (ss : List ℕ). sweep_at n (phase_of n c + 1) ∷ ss) (rest ∙ goes_on n (length moves) c (next c m) advance.next)
 
 -- ---- how often the line has come round
 
 record Rounds (n : ℕ) (c : Configuration) (moves : List Move) (j : ℕ) : Type 0 where
   count : ℕ
-  turned : turn_of n c + j ≡ count * (4 * n) + turn_of n (configuration_at c moves j)
+  reached : phase_of n c + j ≡ count * (4 * n) + phase_of n (configuration_at c moves j)
 
-one_more : (n j : ℕ) (c d : Configuration) (moves : List Move) (m : Move) → (turn_of n d ≡ turn_of n c + 1) ⊎ ((turn_of n c + 1 ≡ 4 * n) × (turn_of n d ≡ 0)) → d ≡ next c m → Rounds n d moves j → Rounds n c (m ∷ moves) (suc j)
+one_more : (n j : ℕ) (c d : Configuration) (moves : List Move) (m : Move) → (phase_of n d ≡ phase_of n c + 1) ⊎ ((phase_of n c + 1 ≡ 4 * n) × (phase_of n d ≡ 0)) → d ≡ next c m → Rounds n d moves j → Rounds n c (m ∷ moves) (suc j)
 one_more n j c d moves m (inl e) same r =
-    let turned = r.turned in
-    record { count = r.count; turned = rw same at (let t : turn_of n c + suc j ≡ r.count * (4 * n) + turn_of n (configuration_at d moves j) = omega arith in t) }
+    let reached = r.reached in
+    record { count = r.count; reached = rw same at (let t : phase_of n c + suc j ≡ r.count * (4 * n) + phase_of n (configuration_at d moves j) = omega arith in t) }
 one_more n j c d moves m (inr e) same r =
-    let turned = r.turned in
+    let reached = r.reached in
     let product = suc-mul r.count (4 * n) in
-    record { count = suc r.count; turned = rw same at (let t : turn_of n c + suc j ≡ suc r.count * (4 * n) + turn_of n (configuration_at d moves j) = omega (arith, e.0, e.1) in t) }
+    record { count = suc r.count; reached = rw same at (let t : phase_of n c + suc j ≡ suc r.count * (4 * n) + phase_of n (configuration_at d moves j) = omega (arith, e.0, e.1) in t) }
 
 rounds : (moves : List Move) (c : Configuration) (n j : ℕ) → IsConfiguration c → stations c ≡ n + 1 → IsRun c moves → IsLegitimate c → j ≤ length moves → Rounds n c moves j
-rounds moves c n zero h e run one l = record { count = 0; turned = omega arith }
+rounds moves c n zero h e run one l = record { count = 0; reached = omega arith }
 rounds [] c n (suc j) h e run one l = absurd (omega arith)
 rounds (m ∷ moves) c n (suc j) h e run one l =
     let p = run.0.privilege in
@@ -84,22 +84,22 @@ rounds (m ∷ moves) c n (suc j) h e run one l =
     one_more n j c (next c m) moves m advance.next refl
     (rounds moves (next c m) n j later long run.1 (IsLegitimate-next c m.station m.rule h p one) (omega arith))
 
-turn_below : (x : Bool) (p n : ℕ) → p < 2 * n → p + cond x (2 * n) 0 < 4 * n
-turn_below true p n l = omega arith
-turn_below false p n l = omega arith
+phase_below : (x : Bool) (p n : ℕ) → p < 2 * n → p + cond x (2 * n) 0 < 4 * n
+phase_below true p n l = omega arith
+phase_below false p n l = omega arith
 
--- a turn is one of 4n
-turn_of-below : (n : ℕ) (c : Configuration) → IsConfiguration c → stations c ≡ n + 1 → IsLegitimate c → turn_of n c < 4 * n
-turn_of-below n c h e one =
+-- a phase is one of 4n
+phase_of-below : (n : ℕ) (c : Configuration) → IsConfiguration c → stations c ≡ n + 1 → IsLegitimate c → phase_of n c < 4 * n
+phase_of-below n c h e one =
     let count = length-privileges_of c h in
     let long = length-map-range_with_len (mark_at c) 0 (stations c - 1) in
     let most = place-most (marks_of c) 0 (omega arith) in
-    turn_below (x_at c 0) (place 0 (marks_of c)) n (omega arith)
+    phase_below (x_at c 0) (place 0 (marks_of c)) n (omega arith)
 
 -- ---- equal exactly after a multiple of 4n moves
 
 module _ (w t a b p q r s : ℕ) (below_p : p < w) (below_q : q < w) (order : a ≤ b) (at_a : t + a ≡ r * w + p) (at_b : t + b ≡ s * w + q) where
-  -- the same turn
+  -- the same phase
   whole_rounds : p ≡ q → (b - a) % w ≡ 0
   whole_rounds e =
       let d = b - a in
@@ -109,8 +109,8 @@ module _ (w t a b p q r s : ℕ) (below_p : p < w) (below_q : q < w) (order : a 
       let parts : s * w + 0 ≡ (r + d / w) * w + left = omega arith in
       sym (mod-mul-add (r + d / w) w left below) ∙ ap (λ k. k % w) (sym parts) ∙ mod-mul-add s w 0 (omega arith)
 
-  same_turns : (b - a) % w ≡ 0 → p ≡ q
-  same_turns e =
+  same_phases : (b - a) % w ≡ 0 → p ≡ q
+  same_phases e =
       let d = b - a in
       let split = div-add-mod d w in
       let parts : s * w + q ≡ (r + d / w) * w + p = omega arith in
@@ -148,12 +148,12 @@ comes_round moves c n a b h e run one order within =
     let last_long = stations-after (take b moves) c ∙ e in
     let first_one = legitimate_run moves c a h run one in
     let last_one = legitimate_run moves c b h run one in
-    let first_below = turn_of-below n first first_is first_long first_one in
-    let last_below = turn_of-below n last last_is last_long last_one in
+    let first_below = phase_of-below n first first_is first_long first_one in
+    let last_below = phase_of-below n last last_is last_long last_one in
     let to_first = rounds moves c n a h e run one (omega arith) in
     let to_last = rounds moves c n b h e run one within in (
-      λ same. whole_rounds (4 * n) (turn_of n c) a b (turn_of n first) (turn_of n last) to_first.count to_last.count first_below last_below order to_first.turned to_last.turned (ap (turn_of n) same),
-      λ whole. same_configuration n first last first_is last_is first_long last_long first_one last_one (same_turns (4 * n) (turn_of n c) a b (turn_of n first) (turn_of n last) to_first.count to_last.count first_below last_below order to_first.turned to_last.turned whole),
+      λ same. whole_rounds (4 * n) (phase_of n c) a b (phase_of n first) (phase_of n last) to_first.count to_last.count first_below last_below order to_first.reached to_last.reached (ap (phase_of n) same),
+      λ whole. same_configuration n first last first_is last_is first_long last_long first_one last_one (same_phases (4 * n) (phase_of n c) a b (phase_of n first) (phase_of n last) to_first.count to_last.count first_below last_below order to_first.reached to_last.reached whole),
     )
 
 -- After a legitimate configuration all are, and the stations sweep.
@@ -174,7 +174,7 @@ sweeps c moves i h run within one =
           let later = legitimate_run rest here (k - i) here_is rest_run one in
           subst IsLegitimate (sym (configuration_at-add c moves i (k - i)) ∙ ap (configuration_at c moves) at) later;
       stretch = record {
-        start = turn_of n here + 1;
+        start = phase_of n here + 1;
         stations_are = stretch_from rest here n here_is here_long rest_run one;
       };
       round = λ a b above order below.
