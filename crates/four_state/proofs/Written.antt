@@ -2,7 +2,7 @@
 use Rattle.std.proofs.Common.{◌≡◌, ℕ, ◌-◌, ◌<◌, ◌++◌, ◌+◌, ◌≤◌, Bool, true, false, not, List, length, get_or, take, replicate, set, sym, ap, ◌∙◌, refl, arith, length-set, get_or-take, get_or-set_same, get_or-set_other}
 use Rattle.std.proofs.lemmas.List.{set-append_left, take_at}
 use Rattle.four_state.specs.Configuration.{Configuration, IsLine}
-use Rattle.four_state.specs.Motion.{x_turned}
+use Rattle.four_state.specs.Motion.{x_flipped}
 use Rattle.four_state.specs.MotionLaws.{IsLine-x, IsLine-up}
 use Rattle.four_state.specs.Padding.{padded, shown, IsKept}
 
@@ -38,9 +38,9 @@ IsKept-x n s bit x up h l =
       up_padded = h.up_padded;
     }
 
--- the bit x of a machine is turned round
-pub shown-turned : (n s : ℕ) (x up : List Bool) → IsKept n x up → s < n → shown n (set x s (not (get_or x s false))) up ≡ record { x = x_turned (shown n x up) s; up = take n up }
-shown-turned n s x up h l =
+-- the bit x of a station is flipped
+pub shown-flipped : (n s : ℕ) (x up : List Bool) → IsKept n x up → s < n → shown n (set x s (not (get_or x s false))) up ≡ record { x = x_flipped (shown n x up) s; up = take n up }
+shown-flipped n s x up h l =
     let same = get_or-take n x s false l in rw same (shown-x n s (not (get_or x s false)) x up h l)
 
 -- what is shown after a write to up
@@ -49,7 +49,7 @@ shown-up n s bit x up h l =
     let long : length (take n up) ≡ n = h.line.configuration.as_long ∙ h.number in
     ap (λ (bits : List Bool). record { x = take n x; up = bits }) (written n s bit up long h.up_padded l).shows
 
--- a line is kept after a write to up of a middle machine
+-- a line is kept after a write to up of a middle station
 pub IsKept-up : (n s : ℕ) (bit : Bool) (x up : List Bool) → IsKept n x up → 0 < s → s + 1 < n → IsKept n x (set up s bit)
 IsKept-up n s bit x up h above below =
     let long : length (take n up) ≡ n = h.line.configuration.as_long ∙ h.number in

@@ -1,3 +1,4 @@
+pub mod ChoiceLaws
 pub mod Configuration
 pub mod Kept
 pub mod Laws

@@ -6,7 +6,7 @@ use Rattle.four_state.specs.Configuration.{Configuration, stations, x_at, up_at,
 pub data Mark : Type 0 where
   Rising Falling Still : Mark
 
--- the bits x of machines b and b + 1 differ: a privilege of b + 1
+-- the bits x of stations b and b + 1 differ: a privilege of b + 1
 abbrev pub rises : Configuration → ℕ → Bool
 rises c b = differ (x_at c b) (x_at c (b + 1))
 
@@ -14,7 +14,7 @@ rises c b = differ (x_at c b) (x_at c (b + 1))
 abbrev pub falls : Configuration → ℕ → Bool
 falls c b = not (rises c b) && (up_at c b && not (up_at c (b + 1)))
 
--- what stands on the boundary between machines b and b + 1
+-- what stands on the boundary between stations b and b + 1
 abbrev pub mark_at : Configuration → ℕ → Mark
 mark_at c b = cond (rises c b) Rising (cond (falls c b) Falling Still)
 

@@ -19,7 +19,7 @@ x_changed c s bit h =
       not_up_at_the_top = rw n h.not_up_at_the_top;
     }
 
--- the same of the bit up of a middle machine
+-- the same of the bit up of a middle station
 pub up_changed : (c : Configuration) (s : ℕ) (bit : Bool) → IsConfiguration c → 0 < s → s + 1 < stations c → IsConfiguration (record { x = c.x; up = slice_set c.up s bit })
 up_changed c s bit h above below =
     let n = length-set c.up s bit in
@@ -30,7 +30,7 @@ up_changed c s bit h above below =
       not_up_at_the_top = get_or-set_other c.up s (length c.x - 1) bit false (omega arith) ∙ h.not_up_at_the_top;
     }
 
--- where a middle machine stands
+-- where a middle station stands
 pub middle_stands : (c : Configuration) (s : ℕ) → is_middle c s ≡ true → (0 < s) × (s + 1 < stations c)
 middle_stands c s h =
     let parts = and_parts (nat_lt 0 s) (nat_lt (s + 1) (stations c)) h in

@@ -1,4 +1,4 @@
--- How a line is kept: lists of 64 bits, of which those past the last machine are false.
+-- How a line is kept: lists of 64 bits, of which those past the last station are false.
 use Rattle.std.specs.Prelude.{◌≡◌, ℕ, ◌-◌, Bool, false, List, ◌++◌, length, take, replicate}
 use Rattle.four_state.specs.Configuration.{Configuration, IsLine}
 
@@ -6,7 +6,7 @@ use Rattle.four_state.specs.Configuration.{Configuration, IsLine}
 abbrev pub padded : List Bool → List Bool
 padded bits = bits ++ replicate (64 - length bits) false
 
--- the bits of the first n machines
+-- the bits of the first n stations
 abbrev pub shown : ℕ → List Bool → List Bool → Configuration
 shown n x up = record { x = take n x; up = take n up }
 

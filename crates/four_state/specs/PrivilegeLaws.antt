@@ -54,7 +54,7 @@ guard-lower c b l = rw (middle c b l, not-not (beq (x_at c (b + 1)) (x_at c (b +
 
 -- ---- the marks are as many as the privileges
 
--- the pairs of one machine
+-- the pairs of one station
 abbrev pairs_at : ℕ → List (ℕ × Rule)
 pairs_at s = map (λ rule. (s, rule)) every_rule
 
@@ -62,7 +62,7 @@ pairs_at s = map (λ rule. (s, rule)) every_rule
 abbrev privileges_at : Configuration → ℕ → ℕ
 privileges_at c s = count_by (λ pair. guard c pair.0 pair.1) (pairs_at s)
 
--- how many privileges there are among the pairs of n machines, from machine a on
+-- how many privileges there are among the pairs of n stations, from station a on
 abbrev privileges_from : Configuration → ℕ → ℕ → ℕ
 privileges_from c a n = count_by (λ pair. guard c pair.0 pair.1) (flat_map pairs_at (range_with_len a n))
 
@@ -140,7 +140,7 @@ still_up false true false e up = absurd (omega arith)
 still_up false false false e up = up
 
 -- without a mark, whoever stands above one that is up is up
-up_above : (c : Configuration) (n a : ℕ) → mark_count (marks_from c a n) ≡ 0 → up_at c a ≡ true → up_at c (a + n) ≡ true
+pub up_above : (c : Configuration) (n a : ℕ) → mark_count (marks_from c a n) ≡ 0 → up_at c a ≡ true → up_at c (a + n) ≡ true
 up_above c zero a e up = rw add-zero up
 up_above c (suc n) a e up =
     let next = still_up (rises c a) (up_at c a) (up_at c (a + 1)) (omega arith) up in

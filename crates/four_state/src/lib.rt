@@ -1,9 +1,9 @@
-//! A line of machines that take turns: the solution with four-state machines of E. W. Dijkstra,
+//! A line of stations that take turns: the solution with four-state machines of E. W. Dijkstra,
 //! "Self-stabilizing systems in spite of distributed control", Communications of the ACM 17(11),
 //! 1974.
 //!
 //! Contracts see a [`Line`] as a configuration: the list of the bits x and the list of the bits up,
-//! each from the bottom machine to the top one.
+//! each from the bottom station to the top one.
 #![tactic(auto)]
 
 pub mod laws;

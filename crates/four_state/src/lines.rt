@@ -4,7 +4,7 @@ ghost use Rattle.std.specs.Prelude.{◌≡◌, ℕ, ◌+◌, ◌-◌, ◌<◌, �
 ghost use Rattle.four_state.specs.Configuration.{stations, x_at, up_at, IsLine};
 ghost use Rattle.four_state.specs.Privilege.{IsPrivilege, IsLegitimate, privileges_of, choice};
 ghost use Rattle.four_state.specs.Marks.{rises, falls};
-ghost use Rattle.four_state.specs.Motion.{moved, x_turned, IsMove};
+ghost use Rattle.four_state.specs.Motion.{moved, x_flipped, IsMove};
 ghost use Rattle.four_state.specs.Padding.{padded};
 ghost use Rattle.four_state.specs.declared.rules.Rule.{Rule};
 
@@ -15,12 +15,12 @@ use std::marker::Model;
 // The most stations that a line has.
 const MOST: usize = 64;
 
-/// A line of 2 to 64 machines, each with two bits. The bottom machine's up is always true, and the
+/// A line of 2 to 64 stations, each with two bits. The bottom station's up is always true, and the
 /// top one's always false.
 #[derive(Clone, Copy, Debug, PartialEq, Eq)]
 pub struct Line {
     stations: u8,
-    // place s belongs to machine s; past the last machine all are false
+    // place s belongs to station s; past the last station all are false
     x: [bool; MOST],
     up: [bool; MOST],
 }
@@ -53,6 +53,7 @@ impl Line {
             ↔ (((2 ≤ n) × (n ≤ 64)) × ((length x.now ≡ n) × (length up.now ≡ n))) }
         ensures bits { IfOk result
             (λ line. line ≡ record { x = x.now; up = slice_set (slice_set up.now 0 true) (n - 1) false }) }
+        ensures line { IfOk result IsLine }
     {
         if n < 2 || 64 < n {
             return Err(LineRefusal::Stations);
@@ -63,11 +64,13 @@ impl Line {
         Ok(Line::of_bits(x, up))
     }
 
+    // The line of as many stations as there are bits, with the two end bits of up set.
     fn of_bits(x: &[bool], up: &[bool]) -> Line
         requires as_long { length up.now ≡ length x.now }
         requires two { 2 ≤ length x.now }
         requires at_most { length x.now ≤ 64 }
-        ensures { result ≡ record { x = x.now; up = slice_set (slice_set up.now 0 true) (length x.now - 1) false } }
+        ensures bits { result ≡ record { x = x.now; up = slice_set (slice_set up.now 0 true) (length x.now - 1) false } }
+        ensures line { IsLine result }
     {
         let n = x.len();
         let mut line = Line {
@@ -80,7 +83,7 @@ impl Line {
         line
     }
 
-    /// How many machines stand in the line.
+    /// How many stations stand in the line.
     pub fn stations(&self) -> u8
         ensures count { result ≡ stations self.now }
         ensures line { IsLine self.now }
@@ -88,7 +91,7 @@ impl Line {
         self.stations
     }
 
-    /// The bit x of a machine.
+    /// The bit x of a station.
     pub fn x(&self, station: u8) -> bool
         requires { station < stations self.now }
         ensures { result ≡ x_at self.now station }
@@ -96,7 +99,7 @@ impl Line {
         self.x[station as usize]
     }
 
-    /// The bit up of a machine.
+    /// The bit up of a station.
     pub fn up(&self, station: u8) -> bool
         requires { station < stations self.now }
         ensures { result ≡ up_at self.now station }
@@ -169,26 +172,28 @@ impl Line {
         ensures a_move { IsMove self.old station rule self.new }
         ensures line { IsLine self.new }
     {
-        let _ = &self.stations;
+        prove!(station < self.stations());
         let s = station as usize;
         match rule {
-            Rule::Bottom | Rule::Top => self.turn_x(s),
+            Rule::Bottom | Rule::Top => self.flip_x(s),
             Rule::Raise => {
-                self.turn_x(s);
+                self.flip_x(s);
                 self.set_up(s, true);
             }
             Rule::Lower => self.set_up(s, false),
         }
     }
 
-    fn turn_x(&mut self, s: usize)
+    // Flips the bit x of a station.
+    fn flip_x(&mut self, s: usize)
         requires { s < stations self.old }
-        ensures turned { self.new ≡ record { x = x_turned self.old s; up = self.old.up } }
+        ensures flipped { self.new ≡ record { x = x_flipped self.old s; up = self.old.up } }
         ensures line { IsLine self.new }
     {
         self.x[s] = !self.x[s];
     }
 
+    // Sets the bit up of a station between the ends.
     fn set_up(&mut self, s: usize, up: bool)
         requires above { 0 < s }
         requires below { s + 1 < stations self.old }

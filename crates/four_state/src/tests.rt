@@ -34,7 +34,7 @@ fn after(rt: &impl Abort, before: Line, station: u8, rule: Rule) -> Line {
 }
 
 #[test]
-fn two_machines_take_turns(rt: HostRuntime) {
+fn two_stations_take_turns(rt: HostRuntime) {
     let mut at = line(&rt, b"00", b"10");
     let turns = [
         (0, Rule::Bottom, line(&rt, b"10", b"10")),
@@ -66,7 +66,7 @@ fn refuses_what_is_no_line(rt: HostRuntime) {
 }
 
 #[test]
-fn a_middle_machine_may_have_two_privileges(rt: HostRuntime) {
+fn a_middle_station_may_have_two_privileges(rt: HostRuntime) {
     let both = line(&rt, b"011", b"110");
     assert!(rt; both.enabled(1, Rule::Raise) && both.enabled(1, Rule::Lower));
     assert_eq!(rt; both.privileges(), 2);
@@ -104,7 +104,7 @@ fn refusals_read_as_sentences(rt: HostRuntime) -> Result<(), std::test::Fail> {
 }
 
 #[test]
-fn three_machines_sweep_up_and_down(rt: HostRuntime) {
+fn three_stations_sweep_up_and_down(rt: HostRuntime) {
     let mut at = line(&rt, b"000", b"100");
     let sweep = [
         (0, Rule::Bottom, line(&rt, b"100", b"100")),

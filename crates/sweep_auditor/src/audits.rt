@@ -1,9 +1,10 @@
 //! The audit of a list of moves.
 
-ghost use Rattle.std.specs.Prelude.{◌≡◌, ℕ, ◌+◌, ◌-◌, ◌<◌, ◌≤◌, ◌↔◌, length, IsTrue, IsOk, IfOk, IfErr, IfSome, Some, None};
+ghost use Rattle.std.specs.Prelude.{◌≡◌, ℕ, ◌-◌, ◌*◌, ◌^◌, ◌≤◌, ◌↔◌, length, drop, IsOk, IfOk, IfErr, IfSome, IsSomeAnd, Some, None};
 ghost use Rattle.four_state.specs.Configuration.{IsLine};
 ghost use Rattle.four_state.specs.Privilege.{IsLegitimate};
 ghost use Rattle.sweep_auditor.specs.Run.{after, IsRun, IsFirstLegitimate, RefusedFirst};
+ghost use Rattle.sweep_auditor.specs.Stabilization.{top_of, LegitimateFrom, IsStretch, ComesRound};
 
 use crate::moves::{Audit, AuditRefusal, Move};
 use four_state::Line;
@@ -15,7 +16,27 @@ pub fn audit(start: Line, moves: &[Move]) -> Result<Audit, AuditRefusal>
     ensures refused { IfErr result (RefusedFirst start moves.now) }
     ensures last { IfOk result (λ audit. audit.last ≡ after start moves.now) }
     ensures line { IfOk result (λ audit. IsLine audit.last) }
-    ensures first { IfOk result (λ audit. IsFirstLegitimate start moves.now (length moves.now) audit.first_legitimate) }
+    ensures first { IfOk result
+        (λ audit. IsFirstLegitimate start moves.now (length moves.now) audit.first_legitimate) }
+
+    // With n for the number of the top station, 3·n·(n - 1) moves are enough, whichever they are,
+    // and so are n³ - 1.
+    ensures stabilizes { IfOk result
+        (λ audit. let n = top_of start in
+        3 * n * (n - 1) ≤ length moves.now
+        → IsSomeAnd audit.first_legitimate (λ i. i ≤ 3 * n * (n - 1))) }
+    ensures stabilizes_in_cube { IfOk result
+        (λ audit. let n = top_of start in
+        n ^ 3 - 1 ≤ length moves.now
+        → IsSomeAnd audit.first_legitimate (λ i. i ≤ n ^ 3 - 1)) }
+
+    // From then on the stations sweep up and down.
+    ensures stays_legitimate { IfOk result
+        (λ audit. IfSome audit.first_legitimate (λ i. LegitimateFrom start moves.now i)) }
+    ensures sweeps { IfOk result
+        (λ audit. IfSome audit.first_legitimate (λ i. IsStretch (top_of start) (drop i moves.now))) }
+    ensures comes_round { IfOk result
+        (λ audit. IfSome audit.first_legitimate (λ i. ComesRound start moves.now i)) }
 {
     let mut line = start;
     let mut first_legitimate = noted(None, 0, &line);

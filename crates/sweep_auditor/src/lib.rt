@@ -3,6 +3,7 @@
 #![tactic(auto)]
 
 mod audits;
+pub mod laws;
 mod moves;
 #[cfg(test)]
 mod tests;

@@ -1,11 +1,14 @@
-use Rattle.std.proofs.Common.{get_or, sym, ap, ◌∙◌}
+use Rattle.std.proofs.Common.{get_or, drop, IfSome, refl, sym, ap, ◌∙◌}
 use Rattle.std.proofs.lemmas.Bool.{false≢true}
 use Rattle.std.proofs.lemmas.Option.{slice_get-get_or}
-use Rattle.four_state.specs.Configuration.{Configuration}
+use Rattle.four_state.specs.Configuration.{Configuration, IsConfiguration}
 use Rattle.four_state.specs.declared.rules.Rule.TheVariants.{Bottom}
 use Rattle.sweep_auditor.specs.declared.moves.Move.{Move}
 use Rattle.sweep_auditor.specs.Run.{next}
-use Rattle.sweep_auditor.proofs.Runs.{configuration_at-more, IsRun-more, first_more, privilege_at}
+use Rattle.sweep_auditor.specs.RunLaws.{configuration_at-more, IsRun-more}
+use Rattle.sweep_auditor.specs.Stabilization.{top_of, LegitimateFrom, IsStretch, ComesRound, Sweeps}
+use Rattle.sweep_auditor.proofs.First.{reached, reached_in_cube, first_sweeps, some_part}
+use Rattle.sweep_auditor.proofs.Runs.{first_more, privilege_at}
 use Rattle.sweep_auditor.proofs.audits.audit.Goals as goal
 
 -- what is read past the last move
@@ -46,3 +49,41 @@ loop-index-preserved c =
       run = IsRun-more start moves i no_move test c.loop-index.invariant.run (rw here at c.make_move.ensures.a_move.privilege);
       first = first_more start moves i c.loop-index.first_legitimate c.noted-first_legitimate-in-loop-index.result c.loop-index.invariant.first more.found (rw now at more.here) (rw now at more.not_here);
     }
+
+-- the start is a line
+start_is : (c : goal.After-loop-index) → IsConfiguration c.args.start
+start_is c = (c.noted-first_legitimate.ensures.line refl).configuration
+
+-- after the first legitimate configuration the stations sweep
+all_sweep : (c : goal.After-loop-index) → IfSome c.loop-index.first_legitimate (Sweeps c.args.start c.args.moves.now)
+all_sweep c =
+    let known = c.loop-index.invariant in
+    first_sweeps c.args.start c.args.moves.now c.loop-index.index c.loop-index.first_legitimate (start_is c) known.run known.first c.loop-index-test.false c.loop-index.auto.index-end
+
+pub returns-clause-stabilizes : goal.returns-clause-stabilizes
+returns-clause-stabilizes c =
+    let known = c.loop-index.invariant in
+    reached c.args.start c.args.moves.now c.loop-index.index c.loop-index.first_legitimate (start_is c) known.run known.first c.loop-index-test.false c.loop-index.auto.index-end
+
+pub returns-clause-stabilizes_in_cube : goal.returns-clause-stabilizes_in_cube
+returns-clause-stabilizes_in_cube c =
+    let known = c.loop-index.invariant in
+    reached_in_cube c.args.start c.args.moves.now c.loop-index.index c.loop-index.first_legitimate (start_is c) known.run known.first c.loop-index-test.false c.loop-index.auto.index-end
+
+pub returns-clause-stays_legitimate : goal.returns-clause-stays_legitimate
+returns-clause-stays_legitimate c =
+    let start = c.args.start in
+    let moves = c.args.moves.now in
+    some_part (Sweeps start moves) (LegitimateFrom start moves) c.loop-index.first_legitimate (λ i h. h.legitimate) (all_sweep c)
+
+pub returns-clause-sweeps : goal.returns-clause-sweeps
+returns-clause-sweeps c =
+    let start = c.args.start in
+    let moves = c.args.moves.now in
+    some_part (Sweeps start moves) (λ i. IsStretch (top_of start) (drop i moves)) c.loop-index.first_legitimate (λ i h. h.stretch) (all_sweep c)
+
+pub returns-clause-comes_round : goal.returns-clause-comes_round
+returns-clause-comes_round c =
+    let start = c.args.start in
+    let moves = c.args.moves.now in
+    some_part (Sweeps start moves) (ComesRound start moves) c.loop-index.first_legitimate (λ i h. h.round) (all_sweep c)

@@ -1,0 +1,21 @@
+//! What every run has, each the contract of a function with an empty body. No code stands in
+//! these statements: they speak of configurations, moves and runs alone, for lines of any length.
+
+ghost use Rattle.sweep_auditor.specs.Stabilization.{Stabilizes, StabilizesInCube, SweepsFromLegitimate};
+
+/// With N for the number of the top station: every run of 3·N·(N - 1) moves contains a legitimate
+/// configuration, whichever privilege moved each time.
+pub fn stabilizes()
+    ensures { Stabilizes }
+{}
+
+/// Every run of N³ - 1 moves contains a legitimate configuration.
+pub fn stabilizes_in_cube()
+    ensures { StabilizesInCube }
+{}
+
+/// After a legitimate configuration every one is legitimate, the stations that move are a stretch of
+/// the sweep, and a configuration comes again after each 4·N moves and at no other time.
+pub fn sweeps_from_legitimate()
+    ensures { SweepsFromLegitimate }
+{}
