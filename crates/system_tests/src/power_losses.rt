@@ -114,7 +114,7 @@ fn whichever_call_fails_the_record_is_there_whole_or_not_at_all(
     rt: HostRuntime,
 ) -> Result<(), Fail> {
     let alloc = rt.alloc();
-    let mut acknowledged = 0;
+    let mut acknowledged = 0u32;
     for at in 0..20 {
         for body in [ZERO, torn_open(), TORN] {
             for gate in [ZERO, torn_open(), TORN] {
@@ -122,7 +122,7 @@ fn whichever_call_fails_the_record_is_there_whole_or_not_at_all(
                 let device = device.crash(&picks_of(alloc, &[(1, body), (2, gate)])?);
                 let found = recovered(&rt, alloc, device);
                 if let Some(Ok(sequence)) = answer {
-                    acknowledged += 1;
+                    acknowledged = acknowledged.saturating_add(1);
                     assert_eq!(rt; sequence, 0);
                     assert_eq!(rt; found, (Some(500), 1));
                 } else {
@@ -141,13 +141,13 @@ fn whichever_call_of_recovery_fails_the_device_comes_back_unchanged(
     rt: HostRuntime,
 ) -> Result<(), Fail> {
     let alloc = rt.alloc();
-    let mut failed = 0;
+    let mut failed = 0u32;
     for at in 0..20 {
         let (_, device) = append_on(&rt, Fuse::new(formatted(alloc)?, Op::Any, 1000));
         match recover(alloc, Fuse::new(device, Op::Any, at)) {
             Ok(found) => assert_eq!(rt; found.ledger.balance(1), Some(500)),
             Err((device, refusal)) => {
-                failed += 1;
+                failed = failed.saturating_add(1);
                 assert_eq!(rt; refusal, OpenRefusal::Device);
                 assert_eq!(rt; recovered(&rt, alloc, device.into_inner()), (Some(500), 1));
             }
