@@ -102,10 +102,10 @@ pub write_leaves : (at : ℕ) (old new : DeviceState) → IsSound old → at < l
     → LeavesOnly old new (DiffersAt at old.reads) × ((image : Image) → new.may_leave image → DiffersAt at old.reads image)
 write_leaves at old new sound lt durable torn =
     let before : (image : Image) → old.may_leave image → DiffersAt at old.reads image = λ image left.
-        subst (DiffersAt at old.reads) (sym (durable image left)) (differs_nowhere at old.reads (sound.images old.reads sound.nothing_lost).0 lt) in
+    subst (DiffersAt at old.reads) (sym (durable image left)) (differs_nowhere at old.reads (sound.images old.reads sound.nothing_lost).0 lt) in
     let after : (image : Image) → new.may_leave image → DiffersAt at old.reads image = λ image left.
-        let was = torn.torn image left in
-        subst (λ (first : Image). DiffersAt at first image) (durable was.0 was.1) was.2 in
+    let was = torn.torn image left in
+    subst (λ (first : Image). DiffersAt at first image) (durable was.0 was.1) was.2 in
     (one_call old new (DiffersAt at old.reads) sound torn.time before after, after)
 
 -- a call that changed nothing is a write that changed nothing
