@@ -16,16 +16,21 @@ pub IsRun-append : (moves more : List Move) (c : Configuration) → IsRun c move
 IsRun-append [] more c run rest = rest
 IsRun-append (m ∷ moves) more c run rest = (run.0, IsRun-append moves more (next c m) run.1 rest)
 
+-- one move more
+pub after-push : (moves : List Move) (m : Move) (c : Configuration) → after c (moves ++ m ∷ []) ≡ next (after c moves) m
+after-push moves m c = after-append moves (m ∷ []) c
+
+pub IsRun-push : (moves : List Move) (m : Move) (c : Configuration) → IsRun c moves → IsPrivilege (after c moves) m.station m.rule → IsRun c (moves ++ m ∷ [])
+IsRun-push moves m c run p = IsRun-append moves (m ∷ []) c run (record { privilege = p; change = refl }, tt)
+
 -- the configuration with the next number
 pub configuration_at-more : (c : Configuration) (moves : List Move) (i : ℕ) (d : Move) → i < length moves → configuration_at c moves (i + 1) ≡ next (configuration_at c moves i) (get_or moves i d)
-configuration_at-more c moves i d l =
-    ap (after c) (take_more moves i d l) ∙ after-append (take i moves) (get_or moves i d ∷ []) c
+configuration_at-more c moves i d l = ap (after c) (take_more moves i d l) ∙ after-push (take i moves) (get_or moves i d) c
 
 -- a run goes on by a privilege
 pub IsRun-more : (c : Configuration) (moves : List Move) (i : ℕ) (d : Move) → i < length moves → IsRun c (take i moves) → IsPrivilege (configuration_at c moves i) (get_or moves i d).station (get_or moves i d).rule → IsRun c (take (i + 1) moves)
 IsRun-more c moves i d l run p =
-    let longer = take_more moves i d l in
-    rw longer (IsRun-append (take i moves) (get_or moves i d ∷ []) c run (record { privilege = p; change = refl }, tt))
+    let longer = take_more moves i d l in rw longer (IsRun-push (take i moves) (get_or moves i d) c run p)
 
 -- a run leads from line to line
 pub IsLine-after : (moves : List Move) (c : Configuration) → IsLine c → IsRun c moves → IsLine (after c moves)
