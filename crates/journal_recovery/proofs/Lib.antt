@@ -1,2 +1,3 @@
 mod Posting
 mod Standing
+mod OneRecovery

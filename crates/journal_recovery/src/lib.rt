@@ -1,11 +1,13 @@
 //! What a device holds, as a ledger: the journal is opened, and its records are posted in order to an empty ledger.
 #![tactic(auto)]
 
+mod laws;
 mod recovery;
 mod refusals;
 mod replay;
 
 pub use gate_journal::{Journal, Record};
+pub use laws::one_recovery;
 pub use recovery::{Recovered, recover};
 pub use refusals::{Cause, OpenRefusal};
 pub use sector_device::Device;
