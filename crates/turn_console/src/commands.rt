@@ -1,12 +1,12 @@
 //! The lines of a script as commands.
 use crate::faults::LineFault;
-use crate::numbers::{Bits, read_bits, read_number};
+use crate::numbers::{Bits, read_number};
 use crate::words::Words;
 use std::num::NonZeroU64;
 use turn_ledger::Entry;
 
 /// What a line of a script asks for.
-#[derive(Clone, Copy, Debug, PartialEq, Eq)]
+#[derive(Clone, Copy)]
 pub enum Command {
     /// `format K`: make the device an empty journal of K slots.
     Format { slots: NonZeroU64 },
@@ -47,16 +47,20 @@ pub fn read_command(line: &[u8], number: u64) -> Result<Option<Command>, LineFau
     Ok(Some(command))
 }
 
-fn read_format(words: Words<'_>) -> Result<Command, LineFault> {
-    let [slots] = exactly::<1>(words)?;
+fn read_format(mut words: Words<'_>) -> Result<Command, LineFault> {
+    let slots = word(&mut words)?;
+    end(words)?;
     match NonZeroU64::new(number(slots)?) {
         Some(slots) => Ok(Command::Format { slots }),
         None => Err(LineFault::BadNumber),
     }
 }
 
-fn read_open(words: Words<'_>) -> Result<Command, LineFault> {
-    let [stations, x, up] = exactly::<3>(words)?;
+fn read_open(mut words: Words<'_>) -> Result<Command, LineFault> {
+    let stations = word(&mut words)?;
+    let x = word(&mut words)?;
+    let up = word(&mut words)?;
+    end(words)?;
     Ok(Command::Open {
         stations: number(stations)?,
         x: bits(x)?,
@@ -65,13 +69,8 @@ fn read_open(words: Words<'_>) -> Result<Command, LineFault> {
 }
 
 fn read_post(mut words: Words<'_>, reference: u64) -> Result<Command, LineFault> {
-    let Some(station) = words.next() else {
-        return Err(LineFault::WrongNumberOfWords);
-    };
-    let Some(kind) = words.next() else {
-        return Err(LineFault::WrongNumberOfWords);
-    };
-    match kind {
+    let station = word(&mut words)?;
+    match word(&mut words)? {
         b"deposit" => read_deposit(station, words, reference),
         b"withdraw" => read_withdraw(station, words, reference),
         b"transfer" => read_transfer(station, words, reference),
@@ -79,8 +78,14 @@ fn read_post(mut words: Words<'_>, reference: u64) -> Result<Command, LineFault>
     }
 }
 
-fn read_deposit(station: &[u8], words: Words<'_>, reference: u64) -> Result<Command, LineFault> {
-    let [to, amount] = exactly::<2>(words)?;
+fn read_deposit(
+    station: &[u8],
+    mut words: Words<'_>,
+    reference: u64,
+) -> Result<Command, LineFault> {
+    let to = word(&mut words)?;
+    let amount = word(&mut words)?;
+    end(words)?;
     Ok(Command::Post {
         station: number(station)?,
         entry: Entry::Deposit {
@@ -91,8 +96,14 @@ fn read_deposit(station: &[u8], words: Words<'_>, reference: u64) -> Result<Comm
     })
 }
 
-fn read_withdraw(station: &[u8], words: Words<'_>, reference: u64) -> Result<Command, LineFault> {
-    let [from, amount] = exactly::<2>(words)?;
+fn read_withdraw(
+    station: &[u8],
+    mut words: Words<'_>,
+    reference: u64,
+) -> Result<Command, LineFault> {
+    let from = word(&mut words)?;
+    let amount = word(&mut words)?;
+    end(words)?;
     Ok(Command::Post {
         station: number(station)?,
         entry: Entry::Withdraw {
@@ -103,8 +114,15 @@ fn read_withdraw(station: &[u8], words: Words<'_>, reference: u64) -> Result<Com
     })
 }
 
-fn read_transfer(station: &[u8], words: Words<'_>, reference: u64) -> Result<Command, LineFault> {
-    let [from, to, amount] = exactly::<3>(words)?;
+fn read_transfer(
+    station: &[u8],
+    mut words: Words<'_>,
+    reference: u64,
+) -> Result<Command, LineFault> {
+    let from = word(&mut words)?;
+    let to = word(&mut words)?;
+    let amount = word(&mut words)?;
+    end(words)?;
     Ok(Command::Post {
         station: number(station)?,
         entry: Entry::Transfer {
@@ -116,31 +134,30 @@ fn read_transfer(station: &[u8], words: Words<'_>, reference: u64) -> Result<Com
     })
 }
 
-fn read_turn(words: Words<'_>) -> Result<Command, LineFault> {
-    let [station] = exactly::<1>(words)?;
+fn read_turn(mut words: Words<'_>) -> Result<Command, LineFault> {
+    let station = word(&mut words)?;
+    end(words)?;
     Ok(Command::Turn {
         station: number(station)?,
     })
 }
 
 fn alone(command: Command, words: Words<'_>) -> Result<Command, LineFault> {
-    let [] = exactly::<0>(words)?;
+    end(words)?;
     Ok(command)
 }
 
-// The words, if there are as many as asked for.
-fn exactly<const N: usize>(mut words: Words<'_>) -> Result<[&[u8]; N], LineFault> {
-    let mut taken: [&[u8]; N] = [&[]; N];
-    for place in taken.iter_mut() {
-        let Some(word) = words.next() else {
-            return Err(LineFault::WrongNumberOfWords);
-        };
-        *place = word;
-    }
+// The next word, which has to be there.
+fn word<'a>(words: &mut Words<'a>) -> Result<&'a [u8], LineFault> {
+    words.next().ok_or(LineFault::WrongNumberOfWords)
+}
+
+// That there are no more words.
+fn end(mut words: Words<'_>) -> Result<(), LineFault> {
     if words.next().is_some() {
         return Err(LineFault::WrongNumberOfWords);
     }
-    Ok(taken)
+    Ok(())
 }
 
 fn number(word: &[u8]) -> Result<u64, LineFault> {
@@ -155,5 +172,5 @@ fn account(word: &[u8]) -> Result<u32, LineFault> {
 }
 
 fn bits(word: &[u8]) -> Result<Bits, LineFault> {
-    read_bits(word).ok_or(LineFault::BadBits)
+    Bits::read(word).ok_or(LineFault::BadBits)
 }

@@ -1,13 +1,12 @@
 //! Runs commands over a device.
-use crate::clerk::{Clerk, Turn};
+use crate::clerk::Turn;
 use crate::commands::{Command, read_command};
 use crate::faults::ScriptFault;
-use crate::held::{HELD_LIMIT, Held};
 use crate::names::{Refusal, name_of_entry, name_of_rule};
 use crate::numbers::Bits;
+use crate::office::Office;
 use crate::output::Output;
 use crate::power::PowerLoss;
-use crate::recovery::OpenRefusal;
 use crate::reading::read_script;
 use crate::words::Lines;
 use four_state::Line;
@@ -47,10 +46,12 @@ fn run_lines<W: Write, D: PowerLoss + Drop>(
     let mut session = Session::Closed(device);
     for (index, text) in Lines::of(script).enumerate() {
         let line = (index as u64).saturating_add(1);
-        match read_command(text, line) {
-            Ok(Some(command)) => session = session.run(alloc, &command, output)?,
-            Ok(None) => {}
+        let command = match read_command(text, line) {
+            Ok(command) => command,
             Err(cause) => return Err(ScriptFault::Line { line, cause }),
+        };
+        if let Some(command) = command {
+            session = session.run(alloc, &command, output)?;
         }
     }
     Ok(())
@@ -60,7 +61,7 @@ fn run_lines<W: Write, D: PowerLoss + Drop>(
 #[derive(Drop)]
 pub enum Session<D: Device> {
     Closed(D),
-    Open { clerk: Clerk<D>, held: Held },
+    Open(Office<D>),
 }
 
 impl<D: PowerLoss + Drop> Session<D> {
@@ -115,12 +116,12 @@ impl<D: PowerLoss + Drop> Session<D> {
                 return Ok(open);
             }
         };
-        match open_office(alloc, device, stations, x, up) {
-            Ok((clerk, held)) => {
-                let next = clerk.next();
-                let total = clerk.ledger().total();
+        match Office::open(alloc, device, stations, x, up) {
+            Ok(office) => {
+                let next = office.next();
+                let total = office.ledger().total();
                 output.line(format_args!("opened {stations} next {next} total {total}"))?;
-                Ok(Session::Open { clerk, held })
+                Ok(Session::Open(office))
             }
             Err((device, refusal)) => {
                 output.refused(refusal)?;
@@ -135,18 +136,13 @@ impl<D: PowerLoss + Drop> Session<D> {
         entry: Entry,
         output: &mut Output<'_, W>,
     ) -> Result<(), ScriptFault> {
-        let Session::Open { held, .. } = self else {
+        let Session::Open(office) = self else {
             return output.refused(Refusal::NoOffice);
         };
-        let Some(entries) = held.of(station) else {
-            return output.refused(Refusal::NoStation);
-        };
-        let count = entries.len();
-        if count >= HELD_LIMIT {
-            return output.refused(Refusal::HeldFull);
+        match office.post(station, entry)? {
+            Ok(count) => output.line(format_args!("held {station} {count}")),
+            Err(refusal) => output.refused(refusal),
         }
-        held.keep(station, entry)?;
-        output.line(format_args!("held {station} {}", count + 1))
     }
 
     fn turn<W: Write>(
@@ -154,15 +150,11 @@ impl<D: PowerLoss + Drop> Session<D> {
         station: u64,
         output: &mut Output<'_, W>,
     ) -> Result<(), ScriptFault> {
-        let Session::Open { clerk, held } = self else {
+        let Session::Open(office) = self else {
             return output.refused(Refusal::NoOffice);
         };
-        let number = station.min(u8::MAX as u64) as u8;
-        match clerk.turn(number, held.of(station).unwrap_or(&[])) {
-            Ok(turn) => {
-                held.clear(number);
-                print_turn(&turn, output)?;
-            }
+        match office.turn(station) {
+            Ok(turn) => print_turn(&turn, output)?,
             Err(refusal) => output.refused(Refusal::Turn(refusal))?,
         }
         // an answer is worth little while it lies in a buffer
@@ -170,19 +162,19 @@ impl<D: PowerLoss + Drop> Session<D> {
     }
 
     fn bits<W: Write>(&self, output: &mut Output<'_, W>) -> Result<(), ScriptFault> {
-        let Session::Open { clerk, .. } = self else {
+        let Session::Open(office) = self else {
             return output.refused(Refusal::NoOffice);
         };
-        let line = clerk.line();
+        let line = office.line();
         let privileges = line.privileges();
         output.line(format_args!("bits {} privileges {privileges}", ShownLine(line)))
     }
 
     fn balances<W: Write>(&self, output: &mut Output<'_, W>) -> Result<(), ScriptFault> {
-        let Session::Open { clerk, .. } = self else {
+        let Session::Open(office) = self else {
             return output.refused(Refusal::NoOffice);
         };
-        let ledger = clerk.ledger();
+        let ledger = office.ledger();
         for account in 1..=ACCOUNTS {
             let balance = ledger.balance(account).unwrap_or(0);
             if balance > 0 {
@@ -200,10 +192,10 @@ impl<D: PowerLoss + Drop> Session<D> {
     ) -> Result<Session<D>, ScriptFault> {
         let device = match self {
             Session::Closed(device) => device,
-            Session::Open { clerk, .. } => clerk.into_device(),
+            Session::Open(office) => office.into_device(),
         };
         let device = device.lose_power(alloc);
-        output.line("crashed")?;
+        output.line(format_args!("crashed"))?;
         Ok(Session::Closed(device))
     }
 }
@@ -212,27 +204,6 @@ impl<W: Write> Output<'_, W> {
     /// Adds the line of a refusal.
     pub fn refused(&mut self, refusal: Refusal) -> Result<(), ScriptFault> {
         self.line(format_args!("refused {refusal}"))
-    }
-}
-
-// Opens an office on the device, or tells why not and hands the device back.
-fn open_office<D: Device>(
-    alloc: Global,
-    device: D,
-    stations: u64,
-    x: &Bits,
-    up: &Bits,
-) -> Result<(Clerk<D>, Held), (D, Refusal)> {
-    let line = match Line::from_bits(stations, x.as_slice(), up.as_slice()) {
-        Ok(line) => line,
-        Err(refusal) => return Err((device, Refusal::Line(refusal))),
-    };
-    let Ok(held) = Held::new(alloc, line.stations()) else {
-        return Err((device, Refusal::Open(OpenRefusal::Memory)));
-    };
-    match Clerk::open(alloc, device, line) {
-        Ok(clerk) => Ok((clerk, held)),
-        Err((device, refusal)) => Err((device, Refusal::Open(refusal))),
     }
 }
 

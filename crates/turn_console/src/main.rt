@@ -12,12 +12,15 @@ mod faults;
 mod held;
 mod names;
 mod numbers;
+mod office;
 mod output;
 mod power;
 mod program;
 mod reading;
 mod recovery;
 mod settings;
+#[cfg(test)]
+mod tests;
 mod words;
 
 use program::run_program;

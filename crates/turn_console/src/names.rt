@@ -7,7 +7,7 @@ use std::fmt;
 use turn_ledger::EntryRefusal;
 
 /// Why a line of a script was refused. The script goes on.
-#[derive(Clone, Copy, Debug, PartialEq, Eq)]
+#[derive(Clone, Copy)]
 pub enum Refusal {
     /// There is no open office.
     NoOffice,

@@ -1,9 +1,11 @@
 //! Output that is gathered, and handed to a writer in large pieces.
+ghost use Rattle.std.specs.Prelude.{◌<◌, ◌≤◌, take, length, IfOk, OnOk};
+ghost use Rattle.std.specs.Io.KnownBytes.{Appends};
+
 use crate::faults::ScriptFault;
 use std::alloc::{AllocError, Global};
-use std::fmt;
-use std::io;
 use std::io::Write;
+use std::{fmt, io};
 
 /// How many calls of a writer in a row may be interrupted: the first and those that try it again.
 const TRIES: u32 = 1_001;
@@ -12,7 +14,7 @@ const TRIES: u32 = 1_001;
 const FULL: usize = 65_536;
 
 /// The writer failed: it took no byte, was interrupted too often, or met another fault.
-#[derive(Clone, Copy, Debug, PartialEq, Eq)]
+#[derive(Clone, Copy)]
 pub struct WriteFault;
 
 impl From<WriteFault> for ScriptFault {
@@ -27,17 +29,24 @@ impl From<WriteFault> for ScriptFault {
 }
 
 /// Hands all bytes to the writer.
-pub fn write_all<W: Write>(writer: &mut W, bytes: &[u8]) -> Result<(), WriteFault> {
+pub fn write_all<W: Write>(writer: &mut W, bytes: &[u8]) -> Result<(), WriteFault>
+    ensures { OnOk result (Appends (W.contents writer.old) (W.contents writer.new) bytes.now) }
+{
     let mut rest = bytes;
     while !rest.is_empty() {
         let count = write_some(writer, rest)?;
-        rest = &rest[count..];
+        let (_, after) = rest.split_at(count);
+        rest = after;
     }
     Ok(())
 }
 
 // Hands some of the bytes to the writer, at least one.
-fn write_some<W: Write>(writer: &mut W, bytes: &[u8]) -> Result<usize, WriteFault> {
+fn write_some<W: Write>(writer: &mut W, bytes: &[u8]) -> Result<usize, WriteFault>
+    ensures some { IfOk result (λ count. 0 < count) }
+    ensures within { IfOk result (λ count. count ≤ length bytes.now) }
+    ensures taken { IfOk result (λ count. Appends (W.contents writer.old) (W.contents writer.new) (take count bytes.now)) }
+{
     for _ in 0..TRIES {
         match writer.write(bytes) {
             Ok(0) => return Err(WriteFault),
