@@ -1,8 +1,8 @@
 -- The bits of a word, place by place.
-use Rattle.std.proofs.Common.{◌≡◌, ◌∙◌, ℕ, ◌+◌, ◌<◌, Bool, List, [], ◌∷◌, ◌++◌, length, ◌==◌, take, map, min, get_or, add-one, refl, sym, ap}
+use Rattle.std.proofs.Common.{◌≡◌, ◌∙◌, ℕ, ◌+◌, ◌<◌, Bool, List, [], ◌∷◌, ◌++◌, length, ◌==◌, take, map, min, get_or, add-one, arith, sym, ap}
 use Rattle.std.proofs.Math.ListN.{set}
 use Rattle.std.proofs.Math.Seq.{take-suc, take-suc-set, take-length}
-use Rattle.std.proofs.lemmas.List.{map-append, take_min}
+use Rattle.std.proofs.lemmas.List.{map-append, take_min, length-take}
 
 abbrev is_one : ℕ → Bool
 is_one byte = byte == 49
@@ -23,3 +23,9 @@ all_kept places word i most least all so_far =
     ap (λ (k : ℕ). take k places) (sym all) ∙ so_far
     ∙ ap (map is_one) (ap (λ (k : ℕ). take k (take most word)) all ∙ take-length (take most word)
     ∙ ap (λ (k : ℕ). take k word) least ∙ take_min 65 word)
+
+-- a place of what is kept is one of the 65
+pub in_kept : (word : List ℕ) (i most : ℕ) → most ≡ min 65 (length word) → i < length (take most word) → i < 65
+in_kept word i most least below =
+    let size : length (take most word) ≡ min most (length word) = length-take most word in
+    omega arith

@@ -44,8 +44,9 @@ fn run_lines<W: Write, D: PowerLoss + Drop>(
     output: &mut Output<'_, W>,
 ) -> Result<(), ScriptFault> {
     let mut session = Session::Closed(device);
-    for (index, text) in Lines::of(script).enumerate() {
-        let line = (index as u64).saturating_add(1);
+    let mut line: u64 = 0;
+    for text in Lines::of(script) {
+        line = line.saturating_add(1);
         let command = match read_command(text, line) {
             Ok(command) => command,
             Err(cause) => return Err(ScriptFault::Line { line, cause }),
