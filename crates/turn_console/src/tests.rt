@@ -5,6 +5,7 @@ use crate::reading::read_within;
 use fakes::{Endless, Failing, Interrupted, OneByte, Refusing};
 use sector_device::MemoryDevice;
 use std::alloc::Global;
+use std::io::{Read, Write};
 use std::process::Abort;
 use std::test::Fail;
 
@@ -400,42 +401,60 @@ fn wrong_words_and_help(rt: HostRuntime) -> Result<(), Fail> {
     Ok(())
 }
 
+// How the program ends over a reader and a writer: its status, and what it tells on its errors.
+fn fails_with<R: Read, W: Write>(
+    rt: &impl Abort,
+    alloc: Global,
+    words: &[&str],
+    reader: &mut R,
+    writer: &mut W,
+    tells: &str,
+) {
+    let mut errors = Vec::new(alloc);
+    let status = run_program(alloc, words, reader, writer, &mut errors);
+    assert_eq!(rt; status, 1);
+    assert_eq!(rt; errors.as_slice(), tells.as_bytes());
+}
+
 #[test]
-fn streams_that_fail_are_told(rt: HostRuntime) -> Result<(), Fail> {
+fn streams_that_fail_are_told(rt: HostRuntime) {
     let alloc = rt.alloc();
     let words = ["console"];
-    let (mut output, mut errors) = (Vec::new(alloc), Vec::new(alloc));
-    let mut reader = Failing::over(alloc, b"crash", 0);
-    let status = run_program(alloc, &words, &mut reader, &mut output, &mut errors);
-    assert_eq!(rt;
-        (status, errors.as_slice()),
-        (1, b"read failed\n".as_slice())
-    );
-    let mut errors = Vec::new(alloc);
-    let mut writer = Refusing::after(alloc, 0);
-    let mut reader = b"crash".as_slice();
-    let status = run_program(alloc, &words, &mut reader, &mut writer, &mut errors);
-    assert_eq!(rt;
-        (status, errors.as_slice()),
-        (1, b"write failed\n".as_slice())
-    );
-    let mut errors = Vec::new(alloc);
-    let status = run_program(
+    let help = ["console", "--help"];
+    let mut output = Vec::new(alloc);
+    let mut failing = Failing::over(alloc, b"crash", 0);
+    fails_with(
+        &rt,
         alloc,
-        &["console", "--help"],
-        &mut reader,
-        &mut writer,
-        &mut errors,
+        &words,
+        &mut failing,
+        &mut output,
+        "read failed\n",
     );
-    assert_eq!(rt;
-        (status, errors.as_slice()),
-        (1, b"write failed\n".as_slice())
+    fails_with(
+        &rt,
+        alloc,
+        &words,
+        &mut Endless,
+        &mut output,
+        "script too long\n",
     );
-    let mut errors = Vec::new(alloc);
-    let status = run_program(alloc, &words, &mut Endless, &mut output, &mut errors);
-    assert_eq!(rt;
-        (status, errors.as_slice()),
-        (1, b"script too long\n".as_slice())
+    let mut script = b"crash".as_slice();
+    let mut refusing = Refusing::after(alloc, 0);
+    fails_with(
+        &rt,
+        alloc,
+        &help,
+        &mut script,
+        &mut refusing,
+        "write failed\n",
     );
-    Ok(())
+    fails_with(
+        &rt,
+        alloc,
+        &words,
+        &mut script,
+        &mut refusing,
+        "write failed\n",
+    );
 }
