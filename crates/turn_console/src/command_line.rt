@@ -1,5 +1,8 @@
 //! The words on the program's command line.
+ghost use Rattle.std.specs.Prelude.{◌≤◌, IfOk};
+
 use crate::settings::Options;
+use clap::error::ErrorKind;
 use clap::{Arg, ArgAction, Command, Error, value_parser};
 use std::alloc::Global;
 
@@ -26,8 +29,14 @@ An example script, which shows that a deposit survives a power loss:
   balances
 ";
 
+/// The most sectors of a device: what a journal of a million slots needs, and some.
+const MOST_SECTORS: u64 = 4_000_039;
+
 /// What `clap` reads from the program's words, of which the first is the program's name.
-pub fn options(alloc: Global, words: &[&str]) -> Result<Options, Error> {
+pub fn options<'a>(alloc: Global, words: &'a [&'a str]) -> Result<Options, Error>
+    ensures some { IfOk result (λ options. 1 ≤ options.sectors) }
+    ensures most { IfOk result (λ options. options.sectors ≤ 4000039) }
+{
     let sectors = Arg::new(alloc, "sectors")
         .long("sectors")
         .value_name("K")
@@ -35,12 +44,16 @@ pub fn options(alloc: Global, words: &[&str]) -> Result<Options, Error> {
         .action(ArgAction::Set)
         .value_parser(value_parser!(u64).range(1..4_000_040))
         .default_value("64");
-    let command = Command::new(alloc, "turn_console")
+    let mut command = Command::new(alloc, "turn_console")
         .about("A ledger that stations in a row share, on a device that can lose its power")
         .after_help(HELP)
         .arg(sectors)?;
-    let matches = command.try_get_matches_from(words)?;
-    Ok(Options {
-        sectors: matches.get_one::<u64>("sectors").unwrap_or(64),
-    })
+    let matches = command.try_get_matches_from_mut(words)?;
+    match matches.get_one::<u64>("sectors") {
+        Some(sectors) if 1 <= sectors && sectors <= MOST_SECTORS => Ok(Options { sectors }),
+        _ => Err(command.error(
+            ErrorKind::InvalidValue,
+            "the number of sectors is out of range",
+        )?),
+    }
 }
