@@ -1,0 +1,3 @@
+pub mod ScriptLemmas
+pub mod BitLemmas
+pub mod WriteLemmas

@@ -1,0 +1,59 @@
+//! The words on the program's command line.
+ghost use Rattle.std.specs.Prelude.{◌≤◌, IfOk};
+
+use crate::settings::Options;
+use clap::error::ErrorKind;
+use clap::{Arg, ArgAction, Command, Error, value_parser};
+use std::alloc::Global;
+
+const HELP: &str = "\
+The script comes on standard input, one command a line:
+  format K                    make the device an empty journal of K slots
+  open J XBITS UPBITS         recover the ledger, with a line of J stations
+  post S deposit A M          keep an entry for station S: M units to account A
+  post S withdraw A M         the same: M units from account A
+  post S transfer A B M       the same: M units from account A to account B
+  turn S                      station S takes its turn with what it holds
+  bits                        show the line, and how many privileges it has
+  balances                    show the accounts and their total
+  crash                       cut the power
+Stations are numbered from 0, accounts from 1 to 64. Lines that begin with # are comments.
+
+An example script, which shows that a deposit survives a power loss:
+  format 4
+  open 3 000 100
+  post 0 deposit 1 500
+  turn 0
+  crash
+  open 3 111 110
+  balances
+";
+
+/// The most sectors of a device: what a journal of a million slots needs, and some.
+const MOST_SECTORS: u64 = 4_000_039;
+
+/// What `clap` reads from the program's words, of which the first is the program's name.
+pub fn options<'a>(alloc: Global, words: &'a [&'a str]) -> Result<Options, Error>
+    ensures some { IfOk result (λ options. 1 ≤ options.sectors) }
+    ensures most { IfOk result (λ options. options.sectors ≤ 4000039) }
+{
+    let sectors = Arg::new(alloc, "sectors")
+        .long("sectors")
+        .value_name("K")
+        .help("How many sectors of 512 bytes the device has, 1 to 4000039")
+        .action(ArgAction::Set)
+        .value_parser(value_parser!(u64).range(1..4_000_040))
+        .default_value("64");
+    let mut command = Command::new(alloc, "turn_console")
+        .about("A ledger that stations in a row share, on a device that can lose its power")
+        .after_help(HELP)
+        .arg(sectors)?;
+    let matches = command.try_get_matches_from_mut(words)?;
+    match matches.get_one::<u64>("sectors") {
+        Some(sectors) if 1 <= sectors && sectors <= MOST_SECTORS => Ok(Options { sectors }),
+        _ => Err(command.error(
+            ErrorKind::InvalidValue,
+            "the number of sectors is out of range",
+        )?),
+    }
+}

@@ -1,0 +1,109 @@
+//! The names that output has for rules and refusals.
+use crate::clerk::TurnRefusal;
+use crate::recovery::{Cause, OpenRefusal};
+use four_state::{LineRefusal, Rule};
+use gate_journal::FormatRefusal;
+use std::fmt;
+use turn_ledger::EntryRefusal;
+
+/// Why a line of a script was refused. The script goes on.
+#[derive(Clone, Copy)]
+pub enum Refusal {
+    /// There is no open office.
+    NoOffice,
+    /// There is an open office.
+    OfficeOpen,
+    /// `post` names a station that the line lacks.
+    NoStation,
+    /// The station holds 16 entries.
+    HeldFull,
+    Format(FormatRefusal),
+    Line(LineRefusal),
+    Open(OpenRefusal),
+    Turn(TurnRefusal),
+}
+
+impl fmt::Display for Refusal {
+    fn fmt<W: fmt::Write>(&self, f: &mut fmt::Formatter<W>) -> fmt::Result {
+        match self {
+            Refusal::NoOffice => f.write_str("NoOffice"),
+            Refusal::OfficeOpen => f.write_str("OfficeOpen"),
+            Refusal::NoStation => f.write_str("NoStation"),
+            Refusal::HeldFull => f.write_str("HeldFull"),
+            Refusal::Format(refusal) => f.write_str(name_of_format(*refusal)),
+            Refusal::Line(refusal) => f.write_str(name_of_line(*refusal)),
+            Refusal::Open(refusal) => write_open(*refusal, f),
+            Refusal::Turn(refusal) => f.write_str(name_of_turn(*refusal)),
+        }
+    }
+}
+
+pub fn name_of_rule(rule: Rule) -> &'static str {
+    match rule {
+        Rule::Bottom => "Bottom",
+        Rule::Top => "Top",
+        Rule::Raise => "Raise",
+        Rule::Lower => "Lower",
+    }
+}
+
+pub fn name_of_entry(refusal: EntryRefusal) -> &'static str {
+    match refusal {
+        EntryRefusal::ZeroAmount => "ZeroAmount",
+        EntryRefusal::NoAccount => "NoAccount",
+        EntryRefusal::SameAccount => "SameAccount",
+        EntryRefusal::Short => "Short",
+        EntryRefusal::OverLimit => "OverLimit",
+    }
+}
+
+fn name_of_format(refusal: FormatRefusal) -> &'static str {
+    match refusal {
+        FormatRefusal::TooManySlots => "TooManySlots",
+        FormatRefusal::TooSmall => "TooSmall",
+        FormatRefusal::Device => "Device",
+    }
+}
+
+fn name_of_line(refusal: LineRefusal) -> &'static str {
+    match refusal {
+        LineRefusal::Stations => "Stations",
+        LineRefusal::Length => "Length",
+    }
+}
+
+fn name_of_turn(refusal: TurnRefusal) -> &'static str {
+    match refusal {
+        TurnRefusal::Faulted => "Faulted",
+        TurnRefusal::NoStation => "NoStation",
+        TurnRefusal::NotPrivileged => "NotPrivileged",
+        TurnRefusal::TooMany => "TooMany",
+        TurnRefusal::Memory => "Memory",
+        TurnRefusal::Full => "Full",
+        TurnRefusal::Device => "Device",
+    }
+}
+
+fn write_open<W: fmt::Write>(refusal: OpenRefusal, f: &mut fmt::Formatter<W>) -> fmt::Result {
+    match refusal {
+        OpenRefusal::Memory => f.write_str("Memory"),
+        OpenRefusal::Unformatted => f.write_str("Unformatted"),
+        OpenRefusal::Version(version) => write!(f, "Version {version}"),
+        OpenRefusal::Size => f.write_str("Size"),
+        OpenRefusal::Damaged { slot, cause } => {
+            write!(f, "Damaged {slot} ")?;
+            write_cause(cause, f)
+        }
+        OpenRefusal::Device => f.write_str("Device"),
+    }
+}
+
+fn write_cause<W: fmt::Write>(cause: Cause, f: &mut fmt::Formatter<W>) -> fmt::Result {
+    match cause {
+        Cause::Header => f.write_str("Header"),
+        Cause::Sequence => f.write_str("Sequence"),
+        Cause::Tail => f.write_str("Tail"),
+        Cause::Entry(place) => write!(f, "Entry {place}"),
+        Cause::Verdict(place) => write!(f, "Verdict {place}"),
+    }
+}

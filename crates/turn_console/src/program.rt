@@ -1,0 +1,79 @@
+//! The whole program, over the words and streams that it is handed.
+use crate::command_line::options;
+use crate::engine::run_script;
+use crate::faults::ScriptFault;
+use crate::output::write_all;
+use crate::settings::Options;
+use clap::Error;
+use clap::error::ErrorKind;
+use sector_device::MemoryDevice;
+use std::alloc::Global;
+use std::io::{Read, Write};
+
+/// The status of a program that ran its script to the end.
+const DONE: u8 = 0;
+
+/// The status of a program that met a fault.
+const FAULT: u8 = 1;
+
+/// The status of a program that was given wrong words.
+const WRONG_WORDS: u8 = 2;
+
+/// Runs the program and gives its status. A fault of `errors` is ignored.
+pub fn run_program<R: Read, W: Write, E: Write>(
+    alloc: Global,
+    words: &[&str],
+    reader: &mut R,
+    writer: &mut W,
+    errors: &mut E,
+) -> u8 {
+    match options(alloc, words) {
+        Ok(options) => match run_options(alloc, options, reader, writer) {
+            Ok(()) => DONE,
+            Err(fault) => tell(alloc, fault, errors),
+        },
+        Err(error) => tell_words(alloc, error, writer, errors),
+    }
+}
+
+fn run_options<R: Read, W: Write>(
+    alloc: Global,
+    options: Options,
+    reader: &mut R,
+    writer: &mut W,
+) -> Result<(), ScriptFault> {
+    let device = MemoryDevice::new(alloc, options.sectors)?;
+    run_script(alloc, reader, writer, device)
+}
+
+// Tells a fault on one line of its own.
+fn tell<E: Write>(alloc: Global, fault: ScriptFault, errors: &mut E) -> u8 {
+    let _ = match format!(in alloc; "{fault}\n") {
+        Ok(text) => write_all(errors, text.as_bytes()),
+        Err(_) => write_all(errors, b"out of memory\n"),
+    };
+    FAULT
+}
+
+// Writes what `clap` answers to wrong words, or to the wish for help.
+fn tell_words<W: Write, E: Write>(
+    alloc: Global,
+    error: Error,
+    writer: &mut W,
+    errors: &mut E,
+) -> u8 {
+    if error.kind() == ErrorKind::OutOfMemory {
+        return tell(alloc, ScriptFault::Memory, errors);
+    }
+    let Ok(text) = error.to_string(alloc) else {
+        return tell(alloc, ScriptFault::Memory, errors);
+    };
+    if error.use_stderr() {
+        let _ = write_all(errors, text.as_bytes());
+        return WRONG_WORDS;
+    }
+    match write_all(writer, text.as_bytes()) {
+        Ok(()) => DONE,
+        Err(_) => tell(alloc, ScriptFault::Write, errors),
+    }
+}
