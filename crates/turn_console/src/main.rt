@@ -17,7 +17,6 @@ mod output;
 mod power;
 mod program;
 mod reading;
-mod recovery;
 mod settings;
 #[cfg(test)]
 mod tests;

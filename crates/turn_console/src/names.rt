@@ -1,8 +1,8 @@
 //! The names that output has for rules and refusals.
 use crate::clerk::TurnRefusal;
-use crate::recovery::{Cause, OpenRefusal};
 use four_state::{LineRefusal, Rule};
 use gate_journal::FormatRefusal;
+use journal_recovery::{Cause, OpenRefusal};
 use std::fmt;
 use turn_ledger::EntryRefusal;
 
