@@ -5,3 +5,4 @@ pub mod Recovery
 pub mod Refused
 pub mod Replay
 pub mod Recovered
+pub mod RecoveryLaws

@@ -1,6 +1,6 @@
 -- The accepted entries of a list have a yes each in their turn.
-use Rattle.std.specs.Prelude.{◌≡◌, ℕ, zero, suc, ◌+◌, ◌≤◌, ◌<◌, if◌then◌else◌, List, [], ◌∷◌, ◌++◌, map, length, count_by, Some, Ok, Err, is_ok, slice_get, refl}
-use Rattle.std.proofs.Common.{◌∙◌, ap, arith, cond, drop, get_or, add-one}
+use Rattle.std.specs.Prelude.{◌≡◌, ℕ, zero, suc, ◌+◌, ◌≤◌, ◌<◌, true, false, if◌then◌else◌, List, [], ◌∷◌, ◌++◌, map, length, count_by, Some, Ok, Err, is_ok, slice_get, refl}
+use Rattle.std.proofs.Common.{◌∙◌, ap, sym, arith, cond, drop, get_or, add-one, append_assoc}
 use Rattle.std.proofs.lemmas.List.Sums.{sum_by-cons}
 use Rattle.turn_ledger.specs.declared.entry.Entry.{Entry}
 use Rattle.turn_ledger.specs.declared.refusal.EntryRefusal.{EntryRefusal}
@@ -129,3 +129,17 @@ with_yes-drop_yes entries verdicts i d h ok = rw add-one (with_yes_from_yes entr
 
 pub with_yes-drop_no : (entries : List Entry) (verdicts : List Verdict) (i : ℕ) (refusal : EntryRefusal) → slice_get verdicts i ≡ Some (Err refusal) → with_yes (drop i entries) (drop i verdicts) ≡ with_yes (drop (i + 1) entries) (drop (i + 1) verdicts)
 with_yes-drop_no entries verdicts i refusal err = rw add-one (with_yes_from_no entries verdicts i refusal err)
+
+-- a batch that is gathered entry by entry
+pub gathered_yes : (batch entries all : List Entry) (verdicts : List Verdict) (i : ℕ) (d : Entry) (answer : Verdict) → i < length entries → slice_get verdicts i ≡ Some answer → is_ok answer ≡ true
+    → batch ++ with_yes (drop i entries) (drop i verdicts) ≡ all → (batch ++ get_or entries i d ∷ []) ++ with_yes (drop (i + 1) entries) (drop (i + 1) verdicts) ≡ all
+gathered_yes batch entries all verdicts i d (Ok u) h here accepted told =
+    append_assoc batch (get_or entries i d ∷ []) (with_yes (drop (i + 1) entries) (drop (i + 1) verdicts))
+    ∙ ap (λ (rest : List Entry). batch ++ rest) (sym (with_yes-drop_yes entries verdicts i d h here)) ∙ told
+gathered_yes batch entries all verdicts i d (Err refusal) h here accepted told = absurd (cc)
+
+pub gathered_no : (batch entries all : List Entry) (verdicts : List Verdict) (i : ℕ) (answer : Verdict) → slice_get verdicts i ≡ Some answer → is_ok answer ≡ false
+    → batch ++ with_yes (drop i entries) (drop i verdicts) ≡ all → batch ++ with_yes (drop (i + 1) entries) (drop (i + 1) verdicts) ≡ all
+gathered_no batch entries all verdicts i (Err refusal) here refused told =
+    ap (λ (rest : List Entry). batch ++ rest) (sym (with_yes-drop_no entries verdicts i refusal here)) ∙ told
+gathered_no batch entries all verdicts i (Ok u) here refused told = absurd (cc)

@@ -1,7 +1,8 @@
 //! The entries of one turn.
-ghost use Rattle.std.specs.Prelude.{◌≡◌, ◌≤◌, length, slice_get};
+ghost use Rattle.std.specs.Prelude.{◌≡◌, ◌≤◌, ◌<◌, [], ◌∷◌, ◌++◌, length, slice_get};
+ghost use Rattle.turn_ledger.specs.Screen.{with_yes};
 
-use crate::{BATCH_LIMIT, Entry};
+use crate::{BATCH_LIMIT, Entry, Verdicts};
 use std::marker::Model;
 
 /// What stands at an unused place. No call shows it.
@@ -52,12 +53,55 @@ impl Batch {
         }
     }
 
+    /// The batch of those entries that have a yes, in order. There is a verdict for each entry.
+    pub fn of_accepted(entries: &[Entry], verdicts: &Verdicts) -> Batch
+        requires few { length entries.now ≤ BATCH_LIMIT }
+        requires each { length verdicts.now ≡ length entries.now }
+        ensures { result ≡ with_yes entries.now verdicts.now }
+    {
+        let mut batch = Batch::none();
+        for (place, entry) in entries.iter().enumerate() {
+            let verdict = verdicts.get(place).unwrap();
+            if verdict.is_ok() {
+                batch.push(*entry);
+            }
+        }
+        batch
+    }
+
+    // No entries yet.
+    fn none() -> Batch
+        ensures { result ≡ [] }
+    {
+        Batch {
+            entries: [UNUSED; BATCH_LIMIT],
+            count: 0,
+        }
+    }
+
+    // Adds an entry.
+    fn push(&mut self, entry: Entry)
+        requires { length self.old < BATCH_LIMIT }
+        ensures { self.new ≡ self.old ++ entry ∷ [] }
+    {
+        self.entries[self.count] = entry;
+        self.count += 1;
+    }
+
+    /// The entries, in order.
+    pub fn as_slice(&self) -> &[Entry]
+        ensures value { result.now ≡ self.now }
+        ensures small { length self.now ≤ BATCH_LIMIT }
+    {
+        &self.entries[..self.count]
+    }
+
     /// The number of entries.
     pub fn len(&self) -> usize
         ensures value { result ≡ length self.now }
         ensures small { length self.now ≤ BATCH_LIMIT }
     {
-        self.count
+        self.as_slice().len()
     }
 
     /// The entry at a place, counted from 0, or None past the end.

@@ -40,6 +40,14 @@ impl Ledger {
         })
     }
 
+    /// Takes over the balances of another ledger, and takes no memory.
+    pub fn copy_from(&mut self, other: &Ledger)
+        ensures { self.new ≡ other.now }
+    {
+        self.balances.copy_from_slice(other.balances.as_slice());
+        self.total = other.total;
+    }
+
     /// What an account holds, or None where there is no account of this number.
     pub fn balance(&self, account: u32) -> Option<u64>
         ensures { SomeIff result (IsAccount account) (balance_of self.now account) }

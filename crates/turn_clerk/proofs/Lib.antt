@@ -1,0 +1,2 @@
+mod Payload
+mod OneBatch

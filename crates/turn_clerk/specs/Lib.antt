@@ -1,0 +1,4 @@
+pub mod Turn
+pub mod History
+pub mod Clerk
+pub mod Reply

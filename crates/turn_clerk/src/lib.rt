@@ -1,0 +1,23 @@
+//! The clerk of one ledger: it takes the turns of stations, journals what it accepts before it answers, and keeps the
+//! history since its opening.
+#![tactic(auto)]
+
+mod batches;
+mod clerk;
+mod events;
+mod journaling;
+mod refusals;
+mod turns;
+
+pub use clerk::Clerk;
+pub use events::{Event, Reply};
+pub use four_state::{Line, Rule};
+pub use journal_recovery::{Cause, OpenRefusal};
+pub use refusals::TurnRefusal;
+pub use sector_device::Device;
+pub use sweep_auditor::Move;
+pub use turn_ledger::{Batch, Entry, EntryRefusal, Ledger, Verdicts};
+pub use turns::Turn;
+
+#[cfg(test)]
+mod tests;

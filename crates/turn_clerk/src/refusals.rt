@@ -1,0 +1,29 @@
+//! Why a turn is not taken.
+
+use thiserror::Error;
+
+/// Why a turn was not taken: the first, in this order, that holds.
+#[derive(Clone, Copy, Debug, PartialEq, Eq, Error)]
+pub enum TurnRefusal {
+    /// A device fault was met in an earlier turn. The clerk answers so until its device is opened again.
+    #[error("a device fault was met and the device must be opened again")]
+    Faulted,
+    /// The line has no station of this number.
+    #[error("there is no such station")]
+    NoStation,
+    /// The station has no privilege.
+    #[error("it is not the station's turn")]
+    NotPrivileged,
+    /// More entries than [`turn_ledger::BATCH_LIMIT`].
+    #[error("more entries than a batch holds")]
+    TooMany,
+    /// There is no memory for the history to grow.
+    #[error("out of memory")]
+    Memory,
+    /// An entry is accepted, and the journal has no free slot.
+    #[error("no slot is free")]
+    Full,
+    /// The device failed while the accepted entries were journaled. Whether they stand is told by opening it again.
+    #[error("the device failed")]
+    Device,
+}

@@ -1,0 +1,37 @@
+//! A turn that was taken.
+ghost use Rattle.std.specs.Prelude.{◌≡◌, ◌==◌, length, count_by, is_ok, is_none};
+
+use four_state::Rule;
+use sweep_auditor::Move;
+use turn_ledger::{Batch, Verdicts};
+
+/// A turn of a station: what its clients asked, what became of each entry, and the move that the station made.
+#[derive(Clone, Copy, Debug, PartialEq, Eq)]
+pub struct Turn {
+    /// Its place in the history since the opening, counted from 0.
+    pub index: u64,
+    pub station: u8,
+    /// The rule by which the station moved.
+    pub rule: Rule,
+    pub entries: Batch,
+    /// What became of each entry, in order.
+    pub verdicts: Verdicts,
+    /// The sequence number under which the accepted entries are journaled; `None` where there are none.
+    pub posted: Option<u64>,
+    pub ghost judged_each: { length verdicts ≡ length entries },
+    pub ghost posted_if_accepted: { is_none posted ≡ (count_by is_ok verdicts == 0) },
+}
+
+impl Turn {
+    ghost use Rattle.turn_clerk.specs.History.{move_of};
+
+    /// The move that the station made.
+    pub fn as_move(&self) -> Move
+        ensures { result ≡ move_of self.now }
+    {
+        Move {
+            station: self.station,
+            rule: self.rule,
+        }
+    }
+}
