@@ -1,2 +1,4 @@
 mod Payload
 mod OneBatch
+mod Prefixes
+mod Taking

@@ -1,22 +1,28 @@
 -- A clerk at one moment.
-use Rattle.std.specs.Prelude.{◌≡◌, ℕ, false, List, Option, None}
+use Rattle.std.specs.Prelude.{◌≡◌, ◌+◌, ◌≤◌, ℕ, Bool, false, List, [], ◌∷◌, ◌++◌, length, take, Option, Some, None}
 use Rattle.four_state.specs.Configuration.{Configuration}
+use Rattle.sector_device.specs.Image.{Image}
 use Rattle.sector_device.specs.Device.{DeviceState}
+use Rattle.sector_device.specs.Crash.{LeavesOnly}
 use Rattle.gate_journal.specs.Journal.{JournalState}
 use Rattle.turn_ledger.specs.declared.entry.Entry.{Entry}
 use Rattle.turn_ledger.specs.State.{LedgerState, IsLedger}
-use Rattle.journal_recovery.specs.State.{State}
+use Rattle.turn_ledger.specs.Screen.{AreAccepted}
+use Rattle.turn_ledger.specs.Ledger.{entries_of}
+use Rattle.journal_recovery.specs.State.{State, state_after}
+use Rattle.journal_recovery.specs.Recovery.{RecoversTo, HoldsState}
+use Rattle.sweep_auditor.specs.Run.{IsRun}
 use Rattle.turn_clerk.specs.declared.turns.Turn.{Turn}
-use Rattle.turn_clerk.specs.History.{line_after, state_after_turns, IsLegal}
+use Rattle.turn_clerk.specs.History.{moves_of, batches_of, line_after, state_after_turns, IsLegal}
 
 -- what a clerk found when it was opened
 pub record Opening (D : Type 0) : Type 0 where
   -- the journal, and in it the device, at that moment
   pub journal : JournalState D
+  -- what its records stood for
+  pub ledger : LedgerState
   -- the line handed in
   pub line : Configuration
-  -- what the records stood for
-  pub ledger : LedgerState
 
 pub record ClerkState (D : Type 0) : Type 0 where
   pub journal : JournalState D
@@ -41,3 +47,36 @@ pub record KeepsHistory {D : Type 0} (clerk : ClerkState D) : Type 0 where
   pub legal : IsLegal clerk.opening.line (opening_state clerk) clerk.history
   pub line : clerk.line ≡ line_after clerk.opening.line clerk.history
   pub state : state_of clerk ≡ state_after_turns (opening_state clerk) clerk.history
+
+-- The batches accepted since the opening, in order: those of the turns taken, and last that of the turn in flight.
+abbrev pub in_flight_batch : Option (List Entry) → List (List Entry)
+in_flight_batch None = []
+in_flight_batch (Some entries) = entries ∷ []
+
+abbrev pub accepted_batches : {D : Type 0} → ClerkState D → List (List Entry)
+accepted_batches clerk = batches_of clerk.history ++ in_flight_batch clerk.in_flight
+
+-- The image recovers to the state after a prefix of the batches, which has at least so many of them.
+pub record RecoversToPrefix (from : State) (batches : List (List Entry)) (least : ℕ) (image : Image) : Type 0 where
+  pub count : ℕ
+  pub at_least : least ≤ count
+  pub at_most : count ≤ length batches
+  pub recovers : RecoversTo (state_after from (take count batches)) image
+
+-- At rest, on an honest device.
+pub record IsAtRest {D : Type 0} (state : D → DeviceState) (clerk : ClerkState D) : Type 0 where
+  -- a journal that works holds the present state
+  pub holds : clerk.journal.faulted ≡ false → HoldsState state clerk.journal (state_of clerk)
+  -- a crash now leaves a prefix of the accepted batches with all those of the turns taken
+  pub now : (image : Image) → (state clerk.journal.device).may_leave image → RecoversToPrefix (opening_state clerk) (accepted_batches clerk) (length (batches_of clerk.history)) image
+  -- a crash at any moment since the opening left a prefix of the accepted batches
+  pub ever : LeavesOnly (state clerk.opening.journal.device) (state clerk.journal.device) (RecoversToPrefix (opening_state clerk) (accepted_batches clerk) 0)
+
+-- What holds of every clerk.
+pub record IsClerk {D : Type 0} (state : D → DeviceState) (clerk : ClerkState D) : Type 0 where
+  pub keeps : KeepsHistory clerk
+  pub run : IsRun clerk.opening.line (moves_of clerk.history)
+  pub opened : IsLedger clerk.opening.ledger
+  pub batches : AreAccepted clerk.opening.ledger (entries_of (batches_of clerk.history))
+  pub in_flight : clerk.journal.faulted ≡ false → clerk.in_flight ≡ None
+  pub at_rest : (state clerk.journal.device).honest → IsAtRest state clerk

@@ -1,4 +1,6 @@
 pub mod Turn
 pub mod History
+pub mod HistoryLaws
 pub mod Clerk
-pub mod Reply
+pub mod Refused
+pub mod Opened

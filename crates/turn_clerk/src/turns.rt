@@ -1,9 +1,9 @@
 //! A turn that was taken.
-ghost use Rattle.std.specs.Prelude.{◌≡◌, ◌==◌, length, count_by, is_ok, is_none};
+ghost use Rattle.std.specs.Prelude.{◌≡◌, ◌≤◌, ◌==◌, length, count_by, is_ok, is_none};
 
 use four_state::Rule;
 use sweep_auditor::Move;
-use turn_ledger::{Batch, Verdicts};
+use turn_ledger::{BATCH_LIMIT, Batch, Entry, Verdicts};
 
 /// A turn of a station: what its clients asked, what became of each entry, and the move that the station made.
 #[derive(Clone, Copy, Debug, PartialEq, Eq)]
@@ -24,6 +24,35 @@ pub struct Turn {
 
 impl Turn {
     ghost use Rattle.turn_clerk.specs.History.{move_of};
+
+    // The turn of these parts.
+    pub(crate) fn new(
+        index: u64,
+        station: u8,
+        rule: Rule,
+        entries: &[Entry],
+        verdicts: Verdicts,
+        posted: Option<u64>,
+    ) -> Turn
+        requires few { length entries.now ≤ BATCH_LIMIT }
+        requires judged { length verdicts ≡ length entries.now }
+        requires posted { is_none posted ≡ (count_by is_ok verdicts == 0) }
+        ensures index { result.index ≡ index }
+        ensures station { result.station ≡ station }
+        ensures rule { result.rule ≡ rule }
+        ensures entries { result.entries ≡ entries.now }
+        ensures verdicts { result.verdicts ≡ verdicts }
+        ensures posted { result.posted ≡ posted }
+    {
+        Turn {
+            index,
+            station,
+            rule,
+            entries: Batch::of(entries),
+            verdicts,
+            posted,
+        }
+    }
 
     /// The move that the station made.
     pub fn as_move(&self) -> Move

@@ -1,0 +1,108 @@
+-- Laws of histories that the crates above may cite: what one turn more adds.
+use Rattle.std.specs.Prelude.{◌≡◌, ℕ, ◌+◌, ◌<◌, List, [], ◌∷◌, ◌++◌, length, map, take, Some, slice_get}
+use Rattle.std.specs.List.{flat_map}
+use Rattle.std.proofs.Common.{refl, sym, ◌∙◌, ap, subst, arith, inl, inr, length-append}
+use Rattle.std.proofs.lemmas.List.{map-append, take-append-le, take_all, length_push, get_or_push, get_or_append_left}
+use Rattle.std.proofs.lemmas.Grind.{flat_map-append}
+use Rattle.std.proofs.lemmas.Option.{slice_get_within, get_or_from_slice_get, slice_get-get_or}
+use Rattle.std.proofs.lemmas.Bool.{cases_eq}
+use Rattle.four_state.specs.Configuration.{Configuration}
+use Rattle.sweep_auditor.specs.declared.moves.Move.{Move}
+use Rattle.sweep_auditor.specs.Run.{next, after}
+use Rattle.sweep_auditor.specs.RunLaws.{after-push}
+use Rattle.turn_ledger.specs.declared.entry.Entry.{Entry}
+use Rattle.turn_ledger.specs.State.{IsLedger}
+use Rattle.turn_ledger.specs.Screen.{AreAccepted, posted_in_turn, accepted, with_yes}
+use Rattle.turn_ledger.specs.ScreenLaws.{AreAccepted-accepted}
+use Rattle.turn_ledger.specs.Ledger.{entries_of, ledger_after}
+use Rattle.turn_ledger.specs.LedgerLaws.{entries_of-one, ledger_after-none, posted_in_turn-is-ledger_after_one, AreAccepted-batches}
+use Rattle.journal_recovery.specs.State.{State, state_after}
+use Rattle.journal_recovery.specs.RecoveryLaws.{state_after-append}
+use Rattle.turn_clerk.specs.declared.turns.Turn.{Turn}
+use Rattle.turn_clerk.specs.Turn.{accepted_of, as_batch, IsTurn}
+use Rattle.turn_clerk.specs.History.{move_of, moves_of, batches_of, line_after, state_after_turns, IsTurnAt, IsLegal}
+
+-- nothing more
+append_nothing : {A : Type 0} (xs : List A) → xs ++ [] ≡ xs
+append_nothing [] = refl
+append_nothing (x ∷ xs) = ap (λ (ys : _). x ∷ ys) (append_nothing xs)
+
+-- one batch has its entries
+pub entries_of-as_batch : (batch : List Entry) → entries_of (as_batch batch) ≡ batch
+entries_of-as_batch [] = refl
+entries_of-as_batch (entry ∷ entries) = entries_of-one (entry ∷ entries)
+
+-- no batch leaves the state
+pub state_after-none : (state : State) → IsLedger state.ledger → state_after state [] ≡ state
+state_after-none state sound i = record { ledger = ledger_after-none state.ledger sound i; next = next_is i }
+  where
+    next_is : state.next + 0 ≡ state.next
+    next_is = omega arith
+
+-- accepted entries, posted one after another, lead to the state after them as one batch
+pub state_after-as_batch : (state : State) (batch : List Entry) → IsLedger state.ledger → AreAccepted state.ledger batch
+    → record { ledger = posted_in_turn state.ledger batch; next = state.next + length (as_batch batch) } ≡ state_after state (as_batch batch)
+state_after-as_batch state [] sound accepted i = record { ledger = sym (ledger_after-none state.ledger sound) i; next = state.next + 0 }
+state_after-as_batch state (entry ∷ entries) sound accepted i = record {
+  ledger = posted_in_turn-is-ledger_after_one state.ledger (entry ∷ entries) sound accepted i;
+  next = state.next + 1;
+}
+
+pub moves_of-push : (turns : List Turn) (turn : Turn) → moves_of (turns ++ turn ∷ []) ≡ moves_of turns ++ move_of turn ∷ []
+moves_of-push turns turn = map-append move_of turns (turn ∷ [])
+
+pub batches_of-push : (turns : List Turn) (turn : Turn) → batches_of (turns ++ turn ∷ []) ≡ batches_of turns ++ as_batch (accepted_of turn)
+batches_of-push turns turn =
+    flat_map-append (λ (t : Turn). as_batch (accepted_of t)) turns (turn ∷ [])
+    ∙ ap (λ (more : List (List Entry)). batches_of turns ++ more) (append_nothing (as_batch (accepted_of turn)))
+
+pub line_after-push : (line : Configuration) (turns : List Turn) (turn : Turn) → line_after line (turns ++ turn ∷ []) ≡ next (line_after line turns) (move_of turn)
+line_after-push line turns turn = ap (after line) (moves_of-push turns turn) ∙ after-push (moves_of turns) (move_of turn) line
+
+-- what a turn accepts has a yes in its turn
+pub AreAccepted-turn : (line : Configuration) (state : State) (turn : Turn) → IsTurn line state turn → AreAccepted state.ledger (accepted_of turn)
+AreAccepted-turn line state turn taken =
+    subst (λ (verdicts : _). AreAccepted state.ledger (with_yes turn.entries verdicts)) (sym taken.judged) (AreAccepted-accepted state.ledger turn.entries)
+
+-- accepted entries as one batch more
+module _ (state : State) (batches : List (List Entry)) (batch : List Entry) (sound : IsLedger state.ledger) (before : AreAccepted state.ledger (entries_of batches))
+    (here : AreAccepted (state_after state batches).ledger batch) where
+  pub AreAccepted-with_batch : AreAccepted state.ledger (entries_of (batches ++ as_batch batch))
+  AreAccepted-with_batch =
+      AreAccepted-batches state.ledger batches (as_batch batch) sound before
+      (subst (AreAccepted (state_after state batches).ledger) (sym (entries_of-as_batch batch)) here)
+
+  pub state_after-with_batch : state_after state (batches ++ as_batch batch) ≡ state_after (state_after state batches) (as_batch batch)
+  state_after-with_batch = state_after-append state batches (as_batch batch) sound AreAccepted-with_batch
+
+-- an empty history is legal
+pub IsLegal-none : (line : Configuration) (state : State) → IsLegal line state []
+IsLegal-none line state = record { each = λ place turn there. absurd (omega (arith, slice_get_within [] place turn there)) }
+
+-- one turn more
+pub IsLegal-push : (line : Configuration) (state : State) (turns : List Turn) (turn : Turn) → IsLegal line state turns → turn.index ≡ length turns
+    → IsTurn (line_after line turns) (state_after_turns state turns) turn → IsLegal line state (turns ++ turn ∷ [])
+IsLegal-push line state turns turn legal index taken = record {
+  each = λ place t there. elim (cases_eq place (length turns)) [
+    | inl here ↦
+        let same : turn ≡ t =
+        sym (get_or_push turns turn turn place (sym here)) ∙ get_or_from_slice_get (turns ++ turn ∷ []) place t turn there in
+        let front : take place (turns ++ turn ∷ []) ≡ turns =
+        take-append-le place turns (turn ∷ []) (omega (arith, here)) ∙ take_all place turns (omega (arith, here)) in
+        subst (λ (u : Turn). IsTurnAt line state (turns ++ turn ∷ []) place u) same
+        (record {
+          index = index ∙ sym here;
+          taken = subst (λ (ts : List Turn). IsTurn (line_after line ts) (state_after_turns state ts) turn) (sym front) taken;
+        })
+    | inr differs ↦
+        let inside : place < length turns = omega (arith, differs, slice_get_within (turns ++ turn ∷ []) place t there, length_push turns turn) in
+        let old : slice_get turns place ≡ Some t =
+        slice_get-get_or turns place turn inside
+        ∙ ap (λ (u : Turn). Some u) (sym (get_or_append_left turns (turn ∷ []) turn place inside) ∙ get_or_from_slice_get (turns ++ turn ∷ []) place t turn there) in
+        let was = legal.each place t old in
+        record {
+          index = was.index;
+          taken = subst (λ (ts : List Turn). IsTurn (line_after line ts) (state_after_turns state ts) t) (sym (take-append-le place turns (turn ∷ []) (omega (arith, inside)))) was.taken;
+        }
+  ];
+}
