@@ -2,3 +2,4 @@ mod Payload
 mod OneBatch
 mod Prefixes
 mod Taking
+mod Beginning

@@ -42,7 +42,8 @@ impl Ledger {
 
     /// Takes over the balances of another ledger, and takes no memory.
     pub fn copy_from(&mut self, other: &Ledger)
-        ensures { self.new ≡ other.now }
+        ensures copied { self.new ≡ other.now }
+        ensures ledger { IsLedger self.new }
     {
         self.balances.copy_from_slice(other.balances.as_slice());
         self.total = other.total;
