@@ -56,6 +56,11 @@ in_flight_batch (Some entries) = entries ∷ []
 abbrev pub accepted_batches : {D : Type 0} → ClerkState D → List (List Entry)
 accepted_batches clerk = batches_of clerk.history ++ in_flight_batch clerk.in_flight
 
+-- the second list begins with the first
+pub record Extends (first second : List (List Entry)) : Type 0 where
+  pub more : List (List Entry)
+  pub is : second ≡ first ++ more
+
 -- The image recovers to the state after a prefix of the batches, which has at least so many of them.
 pub record RecoversToPrefix (from : State) (batches : List (List Entry)) (least : ℕ) (image : Image) : Type 0 where
   pub count : ℕ

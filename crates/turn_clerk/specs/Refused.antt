@@ -1,27 +1,38 @@
 -- Why a turn was not taken.
-use Rattle.std.specs.Prelude.{◌≡◌, ◌≢◌, ◌<◌, ◌≤◌, ℕ, true, false, List, [], length}
+use Rattle.std.specs.Prelude.{◌≡◌, ◌≢◌, ◌<◌, ◌≤◌, ℕ, Bool, true, false, List, [], length}
 use Rattle.four_state.specs.Configuration.{Configuration, stations}
 use Rattle.turn_ledger.specs.declared.entry.Entry.{Entry}
 use Rattle.turn_ledger.specs.declared.limits.TheConstants.{BATCH_LIMIT}
 use Rattle.turn_ledger.specs.Screen.{accepted}
+use Rattle.journal_recovery.specs.State.{State}
 use Rattle.turn_clerk.specs.Turn.{HasPrivilege, MayTurn}
-use Rattle.turn_clerk.specs.Clerk.{ClerkState}
+use Rattle.turn_clerk.specs.Clerk.{ClerkState, state_of}
 use Rattle.turn_clerk.specs.declared.refusals.TurnRefusal.{TurnRefusal}
 use Rattle.turn_clerk.specs.declared.refusals.TurnRefusal.TheVariants.{Faulted, NoStation, NotPrivileged, TooMany, Memory, Full, Device}
 
--- The clerk works, and the station may take a turn with these entries, of which some are accepted.
-pub record WantsSlot {D : Type 0} (clerk : ClerkState D) (station : ℕ) (entries : List Entry) : Type 0 where
-  pub works : clerk.journal.faulted ≡ false
-  pub may : MayTurn clerk.line station entries
-  pub some : accepted clerk.ledger entries ≢ []
+-- All that an answer depends on.
+pub record Standing : Type 0 where
+  pub faulted : Bool
+  pub line : Configuration
+  pub state : State
+  -- how many slots the journal has
+  pub slots : ℕ
 
--- What holds of the clerk where it refuses a turn: of the first four exactly, and where none of them holds, of the
--- others at least.
-abbrev pub IsRefused : {D : Type 0} → ClerkState D → ℕ → List Entry → TurnRefusal → Type 0
-IsRefused clerk station entries Faulted = clerk.journal.faulted ≡ true
-IsRefused clerk station entries NoStation = (clerk.journal.faulted ≡ false) × (stations clerk.line ≤ station)
-IsRefused clerk station entries NotPrivileged = (clerk.journal.faulted ≡ false) × (station < stations clerk.line) × ¬ HasPrivilege clerk.line station
-IsRefused clerk station entries TooMany = (clerk.journal.faulted ≡ false) × HasPrivilege clerk.line station × (BATCH_LIMIT < length entries)
-IsRefused clerk station entries Memory = (clerk.journal.faulted ≡ false) × MayTurn clerk.line station entries
-IsRefused clerk station entries Full = WantsSlot clerk station entries × (clerk.journal.next ≡ clerk.journal.slots)
-IsRefused clerk station entries Device = WantsSlot clerk station entries
+abbrev pub standing_of : {D : Type 0} → ClerkState D → Standing
+standing_of clerk = record { faulted = clerk.journal.faulted; line = clerk.line; state = state_of clerk; slots = clerk.journal.slots }
+
+-- The clerk works, and the station may take a turn with these entries, of which some are accepted.
+pub record WantsSlot (standing : Standing) (station : ℕ) (entries : List Entry) : Type 0 where
+  pub works : standing.faulted ≡ false
+  pub may : MayTurn standing.line station entries
+  pub some : accepted standing.state.ledger entries ≢ []
+
+-- What holds where a turn is refused: of the first four exactly, and where none of them holds, of the others at least.
+abbrev pub IsRefused : Standing → ℕ → List Entry → TurnRefusal → Type 0
+IsRefused standing station entries Faulted = standing.faulted ≡ true
+IsRefused standing station entries NoStation = (standing.faulted ≡ false) × (stations standing.line ≤ station)
+IsRefused standing station entries NotPrivileged = (standing.faulted ≡ false) × (station < stations standing.line) × ¬ HasPrivilege standing.line station
+IsRefused standing station entries TooMany = (standing.faulted ≡ false) × HasPrivilege standing.line station × (BATCH_LIMIT < length entries)
+IsRefused standing station entries Memory = (standing.faulted ≡ false) × MayTurn standing.line station entries
+IsRefused standing station entries Full = WantsSlot standing station entries × (standing.state.next ≡ standing.slots)
+IsRefused standing station entries Device = WantsSlot standing station entries
