@@ -3,3 +3,4 @@ mod OneBatch
 mod Prefixes
 mod Taking
 mod Beginning
+mod Standing

@@ -3,4 +3,5 @@ pub mod History
 pub mod HistoryLaws
 pub mod Clerk
 pub mod Refused
+pub mod Reply
 pub mod Opened
