@@ -4,3 +4,4 @@ mod Prefixes
 mod Taking
 mod Beginning
 mod Standing
+mod Running
