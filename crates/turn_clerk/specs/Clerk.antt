@@ -84,4 +84,5 @@ pub record IsClerk {D : Type 0} (state : D → DeviceState) (clerk : ClerkState 
   pub opened : IsLedger clerk.opening.ledger
   pub batches : AreAccepted clerk.opening.ledger (entries_of (batches_of clerk.history))
   pub in_flight : clerk.journal.faulted ≡ false → clerk.in_flight ≡ None
+  pub with_flight : AreAccepted clerk.opening.ledger (entries_of (accepted_batches clerk))
   pub at_rest : (state clerk.journal.device).honest → IsAtRest state clerk
