@@ -19,3 +19,5 @@ pub use sweep_auditor::Move;
 pub use turn_ledger::{Batch, Entry, EntryRefusal, Ledger, Verdicts};
 pub use turns::Turn;
 
+#[cfg(test)]
+mod tests;
