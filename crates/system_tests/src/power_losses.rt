@@ -1,22 +1,11 @@
+use crate::devices::{TORN, ZERO, formatted, picks_of, recovered, torn_open};
 use fault_injector::{Fuse, Op};
-use gate_journal::{AppendRefusal, Journal, JournalRefusal, Record, format};
+use gate_journal::{AppendRefusal, Journal, JournalRefusal, Record};
 use journal_recovery::{OpenRefusal, recover};
-use sector_device::{Device, MemoryDevice, Picks, SECTOR, Sector};
-use std::alloc::{AllocError, Global};
+use sector_device::{Device, MemoryDevice};
 use std::process::Abort;
 use std::test::Fail;
 use turn_ledger::Entry;
-
-const ZERO: Sector = [0; SECTOR];
-
-const TORN: Sector = [0x77; SECTOR];
-
-// A gate that reads open, over bytes that nobody wrote.
-fn torn_open() -> Sector {
-    let mut bytes = TORN;
-    bytes[0] = 0xa5;
-    bytes
-}
 
 // A record of station 0 with one deposit of 500 to account 1.
 fn deposit_of_500(rt: &impl Abort) -> Record {
@@ -28,12 +17,6 @@ fn deposit_of_500(rt: &impl Abort) -> Record {
     let mut payload = [0; 480];
     payload[..32].copy_from_slice(&entry.write());
     Record::new(0, 1, payload).expect(rt, "a record")
-}
-
-fn formatted(alloc: Global) -> Result<MemoryDevice, Fail> {
-    let mut device = MemoryDevice::new(alloc, 9)?;
-    format(&mut device, 4)?;
-    Ok(device)
 }
 
 // What an append on a failing device answered, if the journal was opened at all, and the device after it.
@@ -58,20 +41,6 @@ fn append_on(
             (None, device.into_inner())
         }
     }
-}
-
-// The balance of account 1 and the next sequence that a device recovers to.
-fn recovered(rt: &impl Abort, alloc: Global, device: MemoryDevice) -> (Option<u64>, u64) {
-    match recover(alloc, device) {
-        Ok(found) => (found.ledger.balance(1), found.journal.next()),
-        Err((_, refusal)) => panic!(rt; "{refusal}"),
-    }
-}
-
-fn picks_of(alloc: Global, list: &[(u64, Sector)]) -> Result<Picks, AllocError> {
-    Ok(Picks {
-        list: list.to_vec(alloc)?,
-    })
 }
 
 #[test]
