@@ -37,10 +37,10 @@ more_there (Some a) (Some b) xs limit n p more =
     let size : length a ≡ length xs + length b = ap length p ∙ length-append xs b in
     omega arith
 
-pub more_from_start : (a b : Option (List ℕ)) (xs : List ℕ) (limit : ℕ) → Consumes a b xs → IfSome b (λ bytes. limit < length xs + length bytes)
-    → IfSome a (λ bytes. limit < length bytes)
-more_from_start None b xs limit p more = tt
-more_from_start (Some a) None xs limit p more = absurd p
-more_from_start (Some a) (Some b) xs limit p more =
+pub more_from_start : (a b : Option (List ℕ)) (xs : List ℕ) (limit n : ℕ) → n ≡ length xs → Consumes a b xs
+    → IfSome b (λ bytes. limit < n + length bytes) → IfSome a (λ bytes. limit < length bytes)
+more_from_start None b xs limit n so_far p more = tt
+more_from_start (Some a) None xs limit n so_far p more = absurd p
+more_from_start (Some a) (Some b) xs limit n so_far p more =
     let size : length a ≡ length xs + length b = ap length p ∙ length-append xs b in
     omega arith
