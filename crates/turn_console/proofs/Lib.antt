@@ -4,3 +4,4 @@ pub mod WriteLemmas
 pub mod GrammarLemmas
 pub mod TestLemmas
 pub mod ReadLemmas
+pub mod CommandLineLemmas
