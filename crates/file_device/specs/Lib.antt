@@ -1,0 +1,3 @@
+pub mod ReadBuffer
+pub mod RealFile
+pub mod Run

@@ -1,0 +1,24 @@
+//! Sectors in a file.
+//!
+//! `FileDevice` is a device on a file of the system. No contract speaks of what a real file holds. What is promised is
+//! that every call is safe and ends, that failures are counted, and that after a failed sync every later call fails.
+//! `ReadAhead` is the buffer that its reads go through: over any device it gives what that device gives.
+#![tactic(auto)]
+
+mod buffer;
+mod device;
+mod opening;
+mod read_ahead;
+mod read_run;
+mod refusal;
+mod sector_file;
+
+pub use buffer::ReadBuffer;
+pub use device::FileDevice;
+pub use read_ahead::ReadAhead;
+pub use read_run::ReadRun;
+pub use refusal::FileRefusal;
+pub use sector_device::{Device, DeviceFault, SECTOR, Sector};
+
+#[cfg(test)]
+mod tests;

@@ -1,0 +1,81 @@
+ghost use Rattle.std.specs.Prelude.{◌≡◌, ◌*◌, ◌<◌, ◌≤◌, ◌^◌, IsErr};
+ghost use Rattle.sector_device.specs.Device.{HasCause};
+ghost use Rattle.file_device.specs.RealFile.{unknown_sectors};
+
+use crate::read_run::ReadRun;
+use sector_device::{Device, DeviceFault, SECTOR, Sector};
+use std::fs::File;
+use std::io;
+use std::os::unix::fs::FileExt;
+
+/// The sectors of an open file. It counts its failures, and knows nothing else of the file.
+#[derive(Drop)]
+pub(crate) struct SectorFile {
+    file: File,
+    sectors: u64,
+    failures: u64,
+    // Each byte has a place below 2^63, as the system wants it.
+    ghost in_range: { sectors * 512 < 2 ^ 63 },
+}
+
+// Counts a failure where the system's call failed.
+fn counted(failures: &mut u64, outcome: io::Result<()>) -> Result<(), DeviceFault>
+    ensures cause { HasCause failures.old failures.new (IsErr result) }
+    ensures count { failures.old ≤ failures.new }
+{
+    match outcome {
+        Ok(()) => Ok(()),
+        Err(_) => {
+            *failures = failures.saturating_add(1);
+            Err(DeviceFault)
+        }
+    }
+}
+
+impl SectorFile {
+    pub(crate) fn new(file: File, sectors: u64) -> SectorFile
+        requires { sectors * 512 < 2 ^ 63 }
+        ensures sectors { result.sectors ≡ sectors }
+        ensures failures { result.failures ≡ 0 }
+    {
+        SectorFile {
+            file,
+            sectors,
+            failures: 0,
+        }
+    }
+}
+
+impl Device for SectorFile {
+    ghost state = { λ f. unknown_sectors f.sectors f.failures };
+
+    fn sectors(&self) -> u64 {
+        self.sectors
+    }
+
+    fn read(&mut self, at: u64, into: &mut Sector) -> Result<(), DeviceFault> {
+        let outcome = self.file.read_exact_at(into, at * SECTOR as u64);
+        counted(&mut self.failures, outcome)
+    }
+
+    fn write(&mut self, at: u64, from: &Sector) -> Result<(), DeviceFault> {
+        let outcome = self.file.write_all_at(from, at * SECTOR as u64);
+        counted(&mut self.failures, outcome)
+    }
+
+    fn sync(&mut self) -> Result<(), DeviceFault> {
+        let outcome = self.file.sync_data();
+        counted(&mut self.failures, outcome)
+    }
+
+    ghost sound = { λ f honest. absurd honest };
+}
+
+impl ReadRun for SectorFile {
+    fn read_run(&mut self, at: u64, into: &mut [Sector]) -> Result<(), DeviceFault> {
+        let outcome = self
+            .file
+            .read_exact_at(into.as_flattened_mut(), at * SECTOR as u64);
+        counted(&mut self.failures, outcome)
+    }
+}
