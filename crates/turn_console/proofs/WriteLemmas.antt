@@ -1,6 +1,7 @@
 -- What a writer holds after several calls.
-use Rattle.std.proofs.Common.{◌≡◌, ◌∙◌, ℕ, List, ◌++◌, take, drop, Option, Some, None, append_assoc, sym, ap}
-use Rattle.std.specs.Io.KnownBytes.{Appends}
+use Rattle.std.proofs.Common.{◌≡◌, ◌∙◌, ℕ, ◌+◌, ◌<◌, List, [], ◌++◌, length, take, drop, Option, Some, None, append_assoc, append-nil, length-append, arith, sym, subst, ap}
+use Rattle.std.specs.Io.KnownBytes.{Appends, Keeps}
+use Rattle.std.proofs.Math.Seq.{take-append_seam}
 use Rattle.std.proofs.lemmas.List.{take-append-drop}
 
 both : (a b c : Option (List ℕ)) (xs ys : List ℕ) → Appends a b xs → Appends b c ys → Appends a c (xs ++ ys)
@@ -18,3 +19,28 @@ more_written a b c bytes rest after n h more left = (
   h.2 ∙ ap (λ (l : List ℕ). h.0 ++ l) (sym (take-append-drop n rest)) ∙ sym (append_assoc h.0 (take n rest) (drop n rest))
       ∙ ap (λ (l : List ℕ). (h.0 ++ take n rest) ++ l) (sym left),
 )
+
+pub kept_both : (a b c : Option (List ℕ)) → Keeps a b → Keeps b c → Keeps a c
+kept_both None b c p q = tt
+kept_both (Some a) None c p q = absurd p
+kept_both (Some a) (Some b) None p q = absurd q
+kept_both (Some a) (Some b) (Some c) p q = q ∙ p
+
+pub nothing_written : (a b c : Option (List ℕ)) → Keeps a b → Appends b c [] → Keeps a c
+nothing_written None b c p q = tt
+nothing_written (Some a) None c p q = absurd p
+nothing_written (Some a) (Some b) None p q = absurd q
+nothing_written (Some a) (Some b) (Some c) p q = q ∙ append-nil b ∙ p
+
+still_written : (a b c : Option (List ℕ)) (xs : List ℕ) → Appends a b xs → Keeps b c → Appends a c xs
+still_written None b c xs p q = tt
+still_written (Some a) None c xs p q = absurd p
+still_written (Some a) (Some b) None xs p q = absurd q
+still_written (Some a) (Some b) (Some c) xs p q = q ∙ p
+
+pub part_written : (a b c : Option (List ℕ)) (bytes rest : List ℕ) → ((written : List ℕ) × Appends a b written × (bytes ≡ written ++ rest))
+    → 0 < length rest → Keeps b c → (n : ℕ) × (n < length bytes) × Appends a c (take n bytes)
+part_written a b c bytes rest h more kept =
+    let size : length bytes ≡ length h.0 + length rest = ap length h.2 ∙ length-append h.0 rest in
+    let first : take (length h.0) bytes ≡ h.0 = ap (λ (l : List ℕ). take (length h.0) l) h.2 ∙ take-append_seam h.0 rest in
+    (length h.0, omega arith, subst (λ (l : List ℕ). Appends a c l) (sym first) (still_written a b c h.0 h.1 kept))

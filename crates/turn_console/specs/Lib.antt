@@ -1,2 +1,4 @@
 pub mod Script
 pub mod Bits
+pub mod Grammar
+pub mod CommandLine

@@ -1,5 +1,6 @@
 //! The words on the program's command line.
-ghost use Rattle.std.specs.Prelude.{◌≤◌, IfOk};
+ghost use Rattle.std.specs.Prelude.{◌≡◌, ◌≤◌, IfOk, length, map};
+ghost use Rattle.turn_console.specs.CommandLine.{AskForSectors};
 
 use crate::settings::Options;
 use clap::error::ErrorKind;
@@ -36,6 +37,9 @@ const MOST_SECTORS: u64 = 4_000_039;
 pub fn options<'a>(alloc: Global, words: &'a [&'a str]) -> Result<Options, Error>
     ensures some { IfOk result (λ options. 1 ≤ options.sectors) }
     ensures most { IfOk result (λ options. options.sectors ≤ 4000039) }
+    ensures asked { IfOk result (λ options. AskForSectors (map (λ word. word.now) words.entry.now) options.sectors) }
+    // where the name of the program stands alone
+    ensures default { IfOk result (λ options. length words.entry.now ≡ 1 → options.sectors ≡ 64) }
 {
     let sectors = Arg::new(alloc, "sectors")
         .long("sectors")

@@ -22,31 +22,42 @@ mod settings;
 mod tests;
 mod words;
 
-use program::run_program;
+use faults::ScriptFault;
+use program::{WRONG_WORDS, run_program, tell};
 use std::alloc::{AllocError, Global};
-use std::env;
+use std::io::ErrorKind;
 use std::process::ExitCode;
+use std::{env, io};
 
 fn main(rt: HostRuntime) -> ExitCode {
-    let alloc = rt.alloc();
-    let words: Vec<String> = match env::args(&rt) {
-        Ok(words) => match words.collect(alloc) {
-            Ok(words) => words,
-            Err(_) => return ExitCode::from(1),
-        },
-        Err(_) => return ExitCode::from(2),
+    let status = match words_given(&rt) {
+        Ok(words) => run_words(&rt, &words),
+        Err(error) if error.kind() == ErrorKind::OutOfMemory => {
+            tell(rt.alloc(), ScriptFault::Memory, &mut rt.stderr())
+        }
+        Err(_) => WRONG_WORDS,
     };
-    let Ok(texts) = as_texts(alloc, &words) else {
-        return ExitCode::from(1);
-    };
-    let status = run_program(
-        alloc,
-        texts.as_slice(),
-        &mut rt.stdin(),
-        &mut rt.stdout(),
-        &mut rt.stderr(),
-    );
     ExitCode::from(status)
+}
+
+// The words of the command line. One that isn't UTF-8 is an error.
+fn words_given(rt: &HostRuntime) -> io::Result<Vec<String>> {
+    let words = env::args(rt)?.collect(rt.alloc())?;
+    Ok(words)
+}
+
+fn run_words(rt: &HostRuntime, words: &[String]) -> u8 {
+    let alloc = rt.alloc();
+    match as_texts(alloc, words) {
+        Ok(texts) => run_program(
+            alloc,
+            texts.as_slice(),
+            &mut rt.stdin(),
+            &mut rt.stdout(),
+            &mut rt.stderr(),
+        ),
+        Err(_) => tell(alloc, ScriptFault::Memory, &mut rt.stderr()),
+    }
 }
 
 fn as_texts<'a>(alloc: Global, words: &'a [String]) -> Result<Vec<&'a str>, AllocError> {

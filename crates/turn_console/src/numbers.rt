@@ -1,7 +1,7 @@
 //! Numbers and bits as a script writes them.
-ghost use Rattle.std.specs.Prelude.{◌≡◌, ◌↔◌, ◌<◌, ◌≤◌, ◌^◌, IsTrue, IsSome, IfSome, SomeIff};
+ghost use Rattle.std.specs.Prelude.{◌≡◌, ◌↔◌, ◌<◌, ◌≤◌, ◌^◌, ◌⊎◌, All, IsTrue, IfSome, SomeIff, is_some, length};
 ghost use Rattle.std.specs.Str.Parse.{IsNumeral, digits_value};
-ghost use Rattle.turn_console.specs.Script.{IsBitText, bits_written};
+ghost use Rattle.turn_console.specs.Script.{bits_written, is_bit_text};
 
 /// The number that a word writes in decimal digits, if it is one and below 2^64. Any count of leading zeros is a
 /// number, and no sign is.
@@ -40,10 +40,10 @@ impl Bits {
 
     /// The bits that a word writes in the characters `0` and `1`, if it has no other.
     pub fn read(word: &[u8]) -> Option<Bits>
-        ensures some { IsSome result ↔ IsBitText word.now }
+        ensures some { is_some result ≡ is_bit_text word.now }
         ensures value { IfSome result (λ bits. bits_of bits ≡ bits_written word.now) }
     {
-        if !is_bit_text(word) {
+        if !has_bits_alone(word) {
             return None;
         }
         let kept = &word[..MOST.min(word.len())];
@@ -58,8 +58,8 @@ impl Bits {
     }
 }
 
-fn is_bit_text(word: &[u8]) -> bool
-    ensures { IsTrue result ↔ IsBitText word.now }
+fn has_bits_alone(word: &[u8]) -> bool
+    ensures { IsTrue result ↔ ((0 < length word.now) × All (λ byte. (byte ≡ 48) ⊎ (byte ≡ 49)) word.now) }
 {
     !word.is_empty() && word.iter().all(|byte| *byte == b'0' || *byte == b'1')
 }

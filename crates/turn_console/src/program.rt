@@ -17,7 +17,7 @@ const DONE: u8 = 0;
 const FAULT: u8 = 1;
 
 /// The status of a program that was given wrong words.
-const WRONG_WORDS: u8 = 2;
+pub const WRONG_WORDS: u8 = 2;
 
 /// Runs the program and gives its status. A fault of `errors` is ignored.
 pub fn run_program<R: Read, W: Write, E: Write>(
@@ -46,8 +46,8 @@ fn run_options<R: Read, W: Write>(
     run_script(alloc, reader, writer, device)
 }
 
-// Tells a fault on one line of its own.
-fn tell<E: Write>(alloc: Global, fault: ScriptFault, errors: &mut E) -> u8 {
+/// Tells a fault on one line of its own, and gives the status that it ends with. A fault of `errors` is ignored.
+pub fn tell<E: Write>(alloc: Global, fault: ScriptFault, errors: &mut E) -> u8 {
     let _ = match format!(in alloc; "{fault}\n") {
         Ok(text) => write_all(errors, text.as_bytes()),
         Err(_) => write_all(errors, b"out of memory\n"),

@@ -1,5 +1,6 @@
-use Rattle.std.proofs.Common.{arith, length-set, Bool, ◌<◌}
+use Rattle.std.proofs.Common.{arith, length-set, sym, Bool, ◌<◌}
 use Rattle.turn_console.proofs.BitLemmas.{one_more, all_kept, in_kept}
+use Rattle.turn_console.proofs.TestLemmas.{bit_text}
 use Rattle.turn_console.proofs.numbers.Bits.read.Goals as goal
 
 pub loop-place-preserved : goal.loop-place-preserved
@@ -12,3 +13,6 @@ loop-place-preserved c =
 
 pub returns-clause-value : goal.returns-clause-value
 returns-clause-value c = all_kept _ _ c.loop-place.place c.min.result c.min.ensures (omega arith) c.loop-place.invariant.so_far
+
+pub returns-clause-some : goal.returns-clause-some
+returns-clause-some c = sym ((bit_text c.args.word.now).1 (c.has_bits_alone.ensures.0 c.if-not-has_bits_alone.false))
