@@ -1,5 +1,4 @@
 //! Runs commands over a device.
-use crate::clerk::Turn;
 use crate::commands::{Command, read_command};
 use crate::faults::ScriptFault;
 use crate::names::{Refusal, name_of_entry, name_of_rule};
@@ -16,6 +15,7 @@ use std::alloc::Global;
 use std::fmt;
 use std::io::{Read, Write};
 use std::num::NonZeroU64;
+use turn_clerk::Turn;
 use turn_ledger::{ACCOUNTS, Entry};
 
 /// Reads a script whole and runs its lines on the device. A line that is none of the grammar ends it; what earlier
@@ -209,16 +209,21 @@ impl<W: Write> Output<'_, W> {
 }
 
 fn print_turn<W: Write>(turn: &Turn, output: &mut Output<'_, W>) -> Result<(), ScriptFault> {
-    let index = turn.index();
-    let station = turn.station();
-    let rule = name_of_rule(turn.rule());
-    match turn.posted() {
+    let Turn {
+        index,
+        station,
+        rule,
+        verdicts,
+        posted,
+        ..
+    } = *turn;
+    let rule = name_of_rule(rule);
+    match posted {
         Some(sequence) => {
             output.line(format_args!("turn {index} station {station} {rule} posted {sequence}"))?;
         }
         None => output.line(format_args!("turn {index} station {station} {rule} empty"))?,
     }
-    let verdicts = turn.verdicts();
     for place in 0..verdicts.len() {
         match verdicts.get(place) {
             Some(Err(refusal)) => {

@@ -4,7 +4,6 @@
 //! command, and commands run over a clerk on a device in memory, which a line of the script can take the power from.
 #![tactic(auto)]
 
-mod clerk;
 mod command_line;
 mod commands;
 mod engine;

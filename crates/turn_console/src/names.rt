@@ -1,9 +1,9 @@
 //! The names that output has for rules and refusals.
-use crate::clerk::TurnRefusal;
 use four_state::{LineRefusal, Rule};
 use gate_journal::FormatRefusal;
 use journal_recovery::{Cause, OpenRefusal};
 use std::fmt;
+use turn_clerk::TurnRefusal;
 use turn_ledger::EntryRefusal;
 
 /// Why a line of a script was refused. The script goes on.

@@ -1,5 +1,4 @@
 //! An office: a clerk, and what its stations hold.
-use crate::clerk::{Clerk, Turn, TurnRefusal};
 use crate::held::{HELD_LIMIT, Held};
 use crate::names::Refusal;
 use crate::numbers::Bits;
@@ -7,6 +6,7 @@ use four_state::Line;
 use journal_recovery::OpenRefusal;
 use sector_device::Device;
 use std::alloc::{AllocError, Global};
+use turn_clerk::{Clerk, Turn, TurnRefusal};
 use turn_ledger::{Entry, Ledger};
 
 /// A clerk on a device, and the entries that are kept for the turns of its stations.
