@@ -1,6 +1,6 @@
 -- What the grammar says of a line, form by form.
-use Rattle.std.proofs.Common.{◌≡◌, ◌≢◌, ◌∙◌, ℕ, ◌+◌, ◌<◌, ◌&&◌, Bool, true, false, Option, Some, None, Result, Ok, Err, List, [], ◌∷◌, length, ◌==◌, cond, nat_lt, arith, refl, sym, ap, subst, codes}
-use Rattle.std.specs.Prelude.{filter, slice_index, IfErr, IfOk, OnOk}
+use Rattle.std.proofs.Common.{◌≡◌, ◌≢◌, ◌∙◌, ℕ, ◌<◌, ◌&&◌, Bool, true, false, Option, Some, None, Result, Ok, Err, List, [], ◌∷◌, length, ◌==◌, nat_lt, arith, refl, sym, ap, subst, codes}
+use Rattle.std.specs.Prelude.{slice_index, IfErr, IfOk, OnOk}
 use Rattle.std.specs.Str.{bytes_eq, IsUtf8}
 use Rattle.std.specs.Str.Parse.{digits_value}
 use Rattle.std.specs.List.{list_all}
@@ -13,13 +13,13 @@ use Rattle.std.proofs.lemmas.Str.{IsUtf8-from_ascii}
 use Rattle.std.proofs.lemmas.Str.Ascii.{IsAscii-from_all}
 use Rattle.turn_console.specs.Bits.{bits_of}
 use Rattle.turn_console.specs.Script.{bits_written}
-use Rattle.turn_console.specs.Grammar.{Place, Spells, first_wrong, forms, has_names, is_skipped, line_fault, takes, told_as}
-use Rattle.turn_console.specs.Grammar.{Name, Slots, Number, Account, BitText}
+use Rattle.turn_console.specs.Grammar.{Place, Spells, first_wrong, line_fault, takes, told_as}
+use Rattle.turn_console.specs.Grammar.{Slots, Number, Account, BitText}
 use Rattle.turn_console.specs.declared.numbers.Bits.{Bits as BitsKept}
 use Rattle.turn_console.specs.declared.commands.Command.{Command}
 use Rattle.turn_console.specs.declared.commands.Command.TheVariants.{Format, Open, Post, Turn, Bits, Balances, Crash}
 use Rattle.turn_console.specs.declared.faults.LineFault.{LineFault}
-use Rattle.turn_console.specs.declared.faults.LineFault.TheVariants.{UnknownCommand, WrongNumberOfWords, BadNumber, BadBits}
+use Rattle.turn_console.specs.declared.faults.LineFault.TheVariants.{UnknownCommand, WrongNumberOfWords}
 use Rattle.turn_ledger.specs.declared.entry.Entry.TheVariants.{Deposit, Withdraw, Transfer}
 
 abbrev Word : Type 0

@@ -1,7 +1,6 @@
-use Rattle.std.proofs.Common.{◌≡◌, ◌∙◌, ℕ, List, Option, Some, None, rules, refl, sym, ap, ap₂, map, length, codes}
+use Rattle.std.proofs.Common.{◌≡◌, ◌∙◌, List, Option, Some, None, rules, refl, sym, ap, ap₂, map, codes, arith}
 use Rattle.std.proofs.lemmas.List.{length-map}
 use Rattle.clap.specs.Words.{App, Text, app_of, found_of, is_simple, matches_of, new_app, one_of, one_text, rule_of, rows_of, with_rule}
-use Rattle.clap.specs.declared.builder.arg.Arg.{Arg}
 use Rattle.clap.specs.declared.builder.value_parser.ValueParser.{ValueParser}
 use Rattle.clap.specs.declared.builder.value_parser.ValueParser.TheVariants as value_parser
 use Rattle.clap.proofs.WalkLemmas.{one_text-rows}
@@ -39,3 +38,9 @@ pub returns-in-Some-clause-default : goal.returns-in-Some-clause-default
 returns-in-Some-clause-default c = λ one.
     let asked = returns-in-Some-clause-asked c in
     default_sectors _ c.in-Some.sectors (length-map c.args.words.now (λ word. word.now) ∙ one) asked
+
+pub returns-in-Some-clause-some : goal.returns-in-Some-clause-some
+returns-in-Some-clause-some c = omega arith
+
+pub returns-in-Some-clause-most : goal.returns-in-Some-clause-most
+returns-in-Some-clause-most c = omega arith

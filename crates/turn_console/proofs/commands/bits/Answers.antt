@@ -1,6 +1,5 @@
-use Rattle.std.proofs.Common.{◌≡◌, sym, true, false, refl}
+use Rattle.std.proofs.Common.{sym, refl}
 use Rattle.turn_console.specs.Grammar.{takes}
-use Rattle.turn_console.specs.Script.{is_bit_text}
 use Rattle.turn_console.proofs.commands.bits.Goals as goal
 
 pub returns-in-Some-clause-ok : goal.returns-in-Some-clause-ok

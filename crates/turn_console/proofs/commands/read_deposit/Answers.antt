@@ -1,4 +1,4 @@
-use Rattle.std.proofs.Common.{◌∙◌, rules, sym, refl, arith}
+use Rattle.std.proofs.Common.{◌∙◌, rules}
 use Rattle.turn_console.proofs.GrammarLemmas.{deposit_is, deposit_not, deposit_spelled, none_wrong, taken, told, wrong}
 use Rattle.turn_console.proofs.commands.read_deposit.Goals as goal
 

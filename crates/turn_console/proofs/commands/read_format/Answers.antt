@@ -1,4 +1,4 @@
-use Rattle.std.proofs.Common.{◌∙◌, rules, sym, refl, arith}
+use Rattle.std.proofs.Common.{◌∙◌, rules}
 use Rattle.turn_console.proofs.GrammarLemmas.{format_is, format_not, format_spelled, none_wrong, taken, told, wrong}
 use Rattle.turn_console.proofs.commands.read_format.Goals as goal
 

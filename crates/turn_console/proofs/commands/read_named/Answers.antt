@@ -1,4 +1,4 @@
-use Rattle.std.proofs.Common.{◌∙◌, ◌∷◌, ℕ, List, codes, rules, sym, ap, refl, arith}
+use Rattle.std.proofs.Common.{◌∷◌, ℕ, List, codes, ap, refl}
 use Rattle.turn_console.specs.Script.{words_of}
 use Rattle.turn_console.proofs.GrammarLemmas.{alone_command, alone_fault, alone_sound, is_name, no_name, of_any_line, same_command, same_fault, same_sound, unnamed, bits_is, bits_not, bits_spelled, balances_is, balances_not, balances_spelled, crash_is, crash_not, crash_spelled}
 use Rattle.turn_console.proofs.commands.read_named.Goals as goal

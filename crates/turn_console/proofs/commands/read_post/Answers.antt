@@ -1,4 +1,4 @@
-use Rattle.std.proofs.Common.{◌∙◌, ◌∷◌, ℕ, List, codes, rules, sym, ap, refl, arith}
+use Rattle.std.proofs.Common.{codes, rules, refl}
 use Rattle.turn_console.proofs.GrammarLemmas.{is_name, no_name, post_alone, post_one, post_unknown, post_words, same_command, same_fault, same_sound, told}
 use Rattle.turn_console.proofs.commands.read_post.Goals as goal
 

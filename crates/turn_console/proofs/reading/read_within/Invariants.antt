@@ -1,4 +1,4 @@
-use Rattle.std.proofs.Common.{◌≤◌, ◌<◌, length, vec_len}
+use Rattle.std.proofs.Common.{◌≤◌, vec_len}
 use Rattle.std.specs.Io.KnownBytes.{Consumes}
 use Rattle.turn_console.proofs.reading.read_within.Given as goal
 

@@ -1,4 +1,4 @@
-use Rattle.std.proofs.Common.{◌≡◌, ◌∙◌, ◌∷◌, List, ℕ, ap, sym, refl}
+use Rattle.std.proofs.Common.{◌∙◌, ◌∷◌, List, ℕ, ap, sym, refl}
 use Rattle.std.specs.Str.Lines.{lines}
 use Rattle.turn_console.proofs.ScriptLemmas.{lines_cut, last_line, last_step, shorter}
 use Rattle.turn_console.proofs.words.LinesIterator.next.Goals as goal

@@ -1,4 +1,4 @@
-use Rattle.std.proofs.Common.{◌≡◌, ◌∙◌, ◌<◌, length, arith, ap, sym, refl}
+use Rattle.std.proofs.Common.{◌∙◌, ◌<◌, length, arith, ap, sym, refl}
 use Rattle.std.proofs.lemmas.Bool.Decides.{nat_tests}
 use Rattle.turn_console.specs.Script.{words_of}
 use Rattle.turn_console.proofs.ScriptLemmas.{words_cut_some, last_word, last_step, shorter}
