@@ -1,5 +1,5 @@
 -- What the program's words ask for, where there is no word but the program's name.
-use Rattle.std.proofs.Common.{◌≡◌, ◌∙◌, ℕ, List, [], ◌∷◌, true, Some, length, arith, refl, sym, ap, codes}
+use Rattle.std.proofs.Common.{◌≡◌, ◌∙◌, ℕ, List, [], ◌∷◌, true, Option, Some, None, length, arith, refl, sym, ap, codes}
 use Rattle.std.specs.Str.Parse.{digits_value, without_leading_plus}
 use Rattle.clap.specs.Words.{Text, is_simple, matches_of, first_of, one_of}
 use Rattle.clap.proofs.OnLiterals.{clap_on_literals}
