@@ -1,6 +1,6 @@
 //! The words on the program's command line.
-ghost use Rattle.std.specs.Prelude.{◌≡◌, ◌≤◌, IfOk, length, map};
-ghost use Rattle.turn_console.specs.CommandLine.{AskForSectors};
+ghost use Rattle.std.specs.Prelude.{◌≡◌, ◌≤◌, None, IfOk, length, map, option_map};
+ghost use Rattle.turn_console.specs.CommandLine.{AskForSectors, AskForDevice};
 
 use crate::settings::Options;
 use clap::error::ErrorKind;
@@ -34,13 +34,22 @@ An example script, which shows that a deposit survives a power loss:
 const MOST_SECTORS: u64 = 4_000_039;
 
 /// What `clap` reads from the program's words, of which the first is the program's name.
-pub fn options<'a>(alloc: Global, words: &'a [&'a str]) -> Result<Options, Error>
+pub fn options<'a>(alloc: Global, words: &'a [&'a str]) -> Result<Options<'a>, Error>
     ensures some { IfOk result (λ options. 1 ≤ options.sectors) }
     ensures most { IfOk result (λ options. options.sectors ≤ 4000039) }
     ensures asked { IfOk result (λ options. AskForSectors (map (λ word. word.now) words.entry.now) options.sectors) }
+    ensures device { IfOk result (λ options. AskForDevice (map (λ word. word.now) words.entry.now) (option_map (λ path. path.now) options.device)) }
     // where the name of the program stands alone
     ensures default { IfOk result (λ options. length words.entry.now ≡ 1 → options.sectors ≡ 64) }
+    ensures memory { IfOk result (λ options. length words.entry.now ≡ 1 → options.device ≡ None) }
 {
+    let device = Arg::new(alloc, "device")
+        .long("device")
+        .value_name("PATH")
+        .help(
+            "The file that is the device; made and grown where it is smaller. Without it the device is in memory",
+        )
+        .action(ArgAction::Set);
     let sectors = Arg::new(alloc, "sectors")
         .long("sectors")
         .value_name("K")
@@ -51,10 +60,14 @@ pub fn options<'a>(alloc: Global, words: &'a [&'a str]) -> Result<Options, Error
     let mut command = Command::new(alloc, "turn_console")
         .about("A ledger that stations in a row share, on a device that can lose its power")
         .after_help(HELP)
+        .arg(device)?
         .arg(sectors)?;
     let matches = command.try_get_matches_from_mut(words)?;
+    let device = matches.get_str("device");
     match matches.get_one::<u64>("sectors") {
-        Some(sectors) if 1 <= sectors && sectors <= MOST_SECTORS => Ok(Options { sectors }),
+        Some(sectors) if 1 <= sectors && sectors <= MOST_SECTORS => {
+            Ok(Options { device, sectors })
+        }
         _ => Err(command.error(
             ErrorKind::InvalidValue,
             "the number of sectors is out of range",

@@ -1,4 +1,5 @@
 //! Why a script ends early.
+use file_device::FileRefusal;
 use std::alloc::{AllocError, AllocFailed};
 use thiserror::Error;
 
@@ -19,6 +20,21 @@ pub enum ScriptFault {
     /// A line is none of the grammar. Lines are numbered from 1.
     #[error("line {line}: {cause}")]
     Line { line: u64, cause: LineFault },
+}
+
+/// Why the program ended before its script did.
+#[derive(Clone, Copy, Debug, PartialEq, Eq, Error)]
+pub enum ProgramFault {
+    /// The file that is the device couldn't be opened, made or grown.
+    #[error("device failed")]
+    Device,
+    #[error("{0}")]
+    Script(ScriptFault),
+}
+
+impl ProgramFault {
+    /// Want of memory.
+    pub const MEMORY: ProgramFault = ProgramFault::Script(ScriptFault::Memory);
 }
 
 /// What is wrong with a line; the first that holds, in this order.
@@ -56,5 +72,29 @@ impl<T: Drop> From<AllocFailed<T>> for ScriptFault {
 
     fn from(_: AllocFailed<T>) -> Self {
         ScriptFault::Memory
+    }
+}
+
+impl From<ScriptFault> for ProgramFault {
+    ghost use Rattle.std.specs.Prelude.{◌≡◌};
+    ghost use Rattle.turn_console.specs.declared.faults.ProgramFault.TheVariants.{Script};
+
+    ghost from_gives = { λ inner fault. fault ≡ Script inner };
+
+    fn from(fault: ScriptFault) -> Self {
+        ProgramFault::Script(fault)
+    }
+}
+
+impl From<FileRefusal> for ProgramFault {
+    ghost use Rattle.std.specs.Prelude.{◌≡◌};
+
+    ghost from_gives = { λ refusal fault. Unit {0} };
+
+    fn from(refusal: FileRefusal) -> Self {
+        match refusal {
+            FileRefusal::Memory => ProgramFault::MEMORY,
+            FileRefusal::File => ProgramFault::Device,
+        }
     }
 }

@@ -1,7 +1,8 @@
 //! The console: a ledger that stations in a row share, driven by a script of commands.
 //!
 //! The script comes on standard input, and answers go to standard output. It is read whole, each line is parsed into a
-//! command, and commands run over a clerk on a device in memory, which a line of the script can take the power from.
+//! command, and commands run over a clerk on a device: a file, or memory, which a line of the script can take the power
+//! from.
 #![tactic(auto)]
 
 mod command_line;
@@ -21,7 +22,7 @@ mod settings;
 mod tests;
 mod words;
 
-use faults::ScriptFault;
+use faults::ProgramFault;
 use program::{WRONG_WORDS, run_program, tell};
 use std::alloc::{AllocError, Global};
 use std::io::ErrorKind;
@@ -32,7 +33,7 @@ fn main(rt: HostRuntime) -> ExitCode {
     let status = match words_given(&rt) {
         Ok(words) => run_words(&rt, &words),
         Err(error) if error.kind() == ErrorKind::OutOfMemory => {
-            tell(rt.alloc(), ScriptFault::Memory, &mut rt.stderr())
+            tell(rt.alloc(), ProgramFault::MEMORY, &mut rt.stderr())
         }
         Err(_) => WRONG_WORDS,
     };
@@ -49,13 +50,14 @@ fn run_words(rt: &HostRuntime, words: &[String]) -> u8 {
     let alloc = rt.alloc();
     match as_texts(alloc, words) {
         Ok(texts) => run_program(
+            rt,
             alloc,
             texts.as_slice(),
             &mut rt.stdin(),
             &mut rt.stdout(),
             &mut rt.stderr(),
         ),
-        Err(_) => tell(alloc, ScriptFault::Memory, &mut rt.stderr()),
+        Err(_) => tell(alloc, ProgramFault::MEMORY, &mut rt.stderr()),
     }
 }
 

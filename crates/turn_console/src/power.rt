@@ -1,4 +1,5 @@
 //! Devices that can lose their power.
+use file_device::FileDevice;
 use sector_device::{Device, MemoryDevice, Picks};
 use std::alloc::Global;
 
@@ -14,5 +15,12 @@ impl PowerLoss for MemoryDevice {
         self.crash(&Picks {
             list: Vec::new(alloc),
         })
+    }
+}
+
+impl PowerLoss for FileDevice {
+    /// The file as it is: no program cuts the power of its machine.
+    fn lose_power(self, _: Global) -> Self {
+        self
     }
 }

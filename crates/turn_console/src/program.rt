@@ -1,13 +1,15 @@
 //! The whole program, over the words and streams that it is handed.
 use crate::command_line::options;
 use crate::engine::run_script;
-use crate::faults::ScriptFault;
+use crate::faults::{ProgramFault, ScriptFault};
 use crate::output::write_all;
 use crate::settings::Options;
 use clap::Error;
 use clap::error::ErrorKind;
+use file_device::FileDevice;
 use sector_device::MemoryDevice;
 use std::alloc::Global;
+use std::fs::{File, Files};
 use std::io::{Read, Write};
 
 /// The status of a program that ran its script to the end.
@@ -19,8 +21,10 @@ const FAULT: u8 = 1;
 /// The status of a program that was given wrong words.
 pub const WRONG_WORDS: u8 = 2;
 
-/// Runs the program and gives its status. A fault of `errors` is ignored.
-pub fn run_program<R: Read, W: Write, E: Write>(
+/// Runs the program and gives its status. A file that is the device is opened, made and grown before the script is
+/// read. A fault of `errors` is ignored.
+pub fn run_program<F: Files<File = File>, R: Read, W: Write, E: Write>(
+    rt: &F,
     alloc: Global,
     words: &[&str],
     reader: &mut R,
@@ -28,7 +32,7 @@ pub fn run_program<R: Read, W: Write, E: Write>(
     errors: &mut E,
 ) -> u8 {
     match options(alloc, words) {
-        Ok(options) => match run_options(alloc, options, reader, writer) {
+        Ok(options) => match run_options(rt, alloc, options, reader, writer) {
             Ok(()) => DONE,
             Err(fault) => tell(alloc, fault, errors),
         },
@@ -36,18 +40,28 @@ pub fn run_program<R: Read, W: Write, E: Write>(
     }
 }
 
-fn run_options<R: Read, W: Write>(
+fn run_options<F: Files<File = File>, R: Read, W: Write>(
+    rt: &F,
     alloc: Global,
-    options: Options,
+    options: Options<'_>,
     reader: &mut R,
     writer: &mut W,
-) -> Result<(), ScriptFault> {
-    let device = MemoryDevice::new(alloc, options.sectors)?;
-    run_script(alloc, reader, writer, device)
+) -> Result<(), ProgramFault> {
+    match options.device {
+        Some(path) => {
+            let device = FileDevice::open(rt, alloc, path, options.sectors)?;
+            run_script(alloc, reader, writer, device)?;
+        }
+        None => {
+            let device = MemoryDevice::new(alloc, options.sectors).map_err(ScriptFault::from)?;
+            run_script(alloc, reader, writer, device)?;
+        }
+    }
+    Ok(())
 }
 
 /// Tells a fault on one line of its own, and gives the status that it ends with. A fault of `errors` is ignored.
-pub fn tell<E: Write>(alloc: Global, fault: ScriptFault, errors: &mut E) -> u8 {
+pub fn tell<E: Write>(alloc: Global, fault: ProgramFault, errors: &mut E) -> u8 {
     let _ = match format!(in alloc; "{fault}\n") {
         Ok(text) => write_all(errors, text.as_bytes()),
         Err(_) => write_all(errors, b"out of memory\n"),
@@ -63,10 +77,10 @@ fn tell_words<W: Write, E: Write>(
     errors: &mut E,
 ) -> u8 {
     if error.kind() == ErrorKind::OutOfMemory {
-        return tell(alloc, ScriptFault::Memory, errors);
+        return tell(alloc, ProgramFault::MEMORY, errors);
     }
     let Ok(text) = error.to_string(alloc) else {
-        return tell(alloc, ScriptFault::Memory, errors);
+        return tell(alloc, ProgramFault::MEMORY, errors);
     };
     if error.use_stderr() {
         let _ = write_all(errors, text.as_bytes());
@@ -74,6 +88,6 @@ fn tell_words<W: Write, E: Write>(
     }
     match write_all(writer, text.as_bytes()) {
         Ok(()) => DONE,
-        Err(_) => tell(alloc, ScriptFault::Write, errors),
+        Err(_) => tell(alloc, ProgramFault::Script(ScriptFault::Write), errors),
     }
 }

@@ -5,11 +5,13 @@ use crate::reading::read_within;
 use fakes::{Endless, Failing, Interrupted, OneByte, Refusing};
 use sector_device::MemoryDevice;
 use std::alloc::Global;
+use std::fs::{File, Files};
 use std::io::{Read, Write};
 use std::process::Abort;
 use std::test::Fail;
 
 mod fakes;
+mod files;
 
 // What a script prints on a device of 64 sectors, and how it ends.
 fn told(alloc: Global, script: &str) -> Result<(Vec<u8>, Result<(), ScriptFault>), Fail> {
@@ -358,7 +360,7 @@ fn the_program_tells_how_it_ended(rt: HostRuntime) -> Result<(), Fail> {
             Vec::new(alloc),
             Vec::new(alloc),
         );
-        let status = run_program(alloc, words, &mut reader, &mut writer, &mut errors);
+        let status = run_program(&rt, alloc, words, &mut reader, &mut writer, &mut errors);
         assert_eq!(rt; status, wanted, "{script}");
         assert_eq!(rt; writer.as_slice(), prints.as_bytes(), "{script}");
         assert_eq!(rt; errors.as_slice(), tells.as_bytes(), "{script}");
@@ -383,7 +385,7 @@ fn wrong_words_and_help(rt: HostRuntime) -> Result<(), Fail> {
             Vec::new(alloc),
             Vec::new(alloc),
         );
-        let status = run_program(alloc, words, &mut reader, &mut writer, &mut errors);
+        let status = run_program(&rt, alloc, words, &mut reader, &mut writer, &mut errors);
         assert_eq!(rt; status, 2, "{words:?}");
         assert_eq!(rt; writer.len(), 0, "{words:?}");
         assert!(rt; errors.as_slice().starts_with(b"error: "), "{words:?}");
@@ -394,7 +396,7 @@ fn wrong_words_and_help(rt: HostRuntime) -> Result<(), Fail> {
         Vec::new(alloc),
     );
     let words = ["console", "--help"];
-    let status = run_program(alloc, &words, &mut reader, &mut writer, &mut errors);
+    let status = run_program(&rt, alloc, &words, &mut reader, &mut writer, &mut errors);
     assert_eq!(rt; status, 0);
     assert_eq!(rt; errors.len(), 0);
     assert!(rt; writer.as_slice().ends_with(b"  balances\n"));
@@ -402,8 +404,8 @@ fn wrong_words_and_help(rt: HostRuntime) -> Result<(), Fail> {
 }
 
 // How the program ends over a reader and a writer: its status, and what it tells on its errors.
-fn fails_with<R: Read, W: Write>(
-    rt: &impl Abort,
+fn fails_with<S: Abort + Files<File = File>, R: Read, W: Write>(
+    rt: &S,
     alloc: Global,
     words: &[&str],
     reader: &mut R,
@@ -411,7 +413,7 @@ fn fails_with<R: Read, W: Write>(
     tells: &str,
 ) {
     let mut errors = Vec::new(alloc);
-    let status = run_program(alloc, words, reader, writer, &mut errors);
+    let status = run_program(rt, alloc, words, reader, writer, &mut errors);
     assert_eq!(rt; status, 1);
     assert_eq!(rt; errors.as_slice(), tells.as_bytes());
 }
