@@ -1,20 +1,18 @@
 -- Laws of histories that the crates above may cite: what one turn more adds.
-use Rattle.std.specs.Prelude.{◌≡◌, ℕ, ◌+◌, ◌<◌, List, [], ◌∷◌, ◌++◌, length, map, take, Some, slice_get}
-use Rattle.std.specs.List.{flat_map}
-use Rattle.std.proofs.Common.{refl, sym, ◌∙◌, ap, subst, arith, inl, inr, length-append}
+use Rattle.std.specs.Prelude.{◌≡◌, ◌+◌, ◌<◌, List, [], ◌∷◌, ◌++◌, length, take, Some, slice_get}
+use Rattle.std.proofs.Common.{refl, sym, ◌∙◌, ap, subst, arith, inl, inr}
 use Rattle.std.proofs.lemmas.List.{map-append, take-append-le, take_all, length_push, get_or_push, get_or_append_left}
 use Rattle.std.proofs.lemmas.Grind.{flat_map-append}
 use Rattle.std.proofs.lemmas.Option.{slice_get_within, get_or_from_slice_get, slice_get-get_or}
 use Rattle.std.proofs.lemmas.Bool.{cases_eq}
 use Rattle.four_state.specs.Configuration.{Configuration}
-use Rattle.sweep_auditor.specs.declared.moves.Move.{Move}
 use Rattle.sweep_auditor.specs.Run.{next, after}
 use Rattle.sweep_auditor.specs.RunLaws.{after-push}
 use Rattle.turn_ledger.specs.declared.entry.Entry.{Entry}
 use Rattle.turn_ledger.specs.State.{IsLedger}
 use Rattle.turn_ledger.specs.Screen.{AreAccepted, posted_in_turn, accepted, with_yes}
 use Rattle.turn_ledger.specs.ScreenLaws.{AreAccepted-accepted}
-use Rattle.turn_ledger.specs.Ledger.{entries_of, ledger_after}
+use Rattle.turn_ledger.specs.Ledger.{entries_of}
 use Rattle.turn_ledger.specs.LedgerLaws.{entries_of-one, ledger_after-none, posted_in_turn-is-ledger_after_one, AreAccepted-batches}
 use Rattle.journal_recovery.specs.State.{State, state_after}
 use Rattle.journal_recovery.specs.RecoveryLaws.{state_after-append}

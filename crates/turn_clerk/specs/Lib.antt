@@ -5,3 +5,4 @@ pub mod Clerk
 pub mod Refused
 pub mod Reply
 pub mod Opened
+pub mod Taken

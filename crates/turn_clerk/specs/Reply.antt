@@ -1,16 +1,14 @@
 -- The replies to a list of events.
-use Rattle.std.specs.Prelude.{◌≡◌, ℕ, Bool, true, false, ◌||◌, List, [], ◌∷◌, ◌++◌, length, take, Result, Ok, Err, Option, Some, slice_get}
+use Rattle.std.specs.Prelude.{◌≡◌, ℕ, Bool, true, false, ◌||◌, List, [], ◌∷◌, ◌++◌, length, take, Result, Ok, Err, Some, slice_get}
 use Rattle.std.specs.List.{flat_map, list_any}
-use Rattle.turn_ledger.specs.declared.entry.Entry.{Entry}
 use Rattle.turn_ledger.specs.Screen.{accepted}
-use Rattle.journal_recovery.specs.State.{State}
 use Rattle.turn_clerk.specs.declared.turns.Turn.{Turn}
 use Rattle.turn_clerk.specs.declared.refusals.TurnRefusal.{TurnRefusal}
 use Rattle.turn_clerk.specs.declared.refusals.TurnRefusal.TheVariants.{Faulted, NoStation, NotPrivileged, TooMany, Memory, Full, Device}
 use Rattle.turn_clerk.specs.declared.events.Event.{Event}
 use Rattle.turn_clerk.specs.Turn.{IsTurn}
 use Rattle.turn_clerk.specs.History.{line_after, state_after_turns}
-use Rattle.turn_clerk.specs.Clerk.{ClerkState, Opening, state_of}
+use Rattle.turn_clerk.specs.Clerk.{ClerkState}
 use Rattle.turn_clerk.specs.Refused.{Standing, standing_of, IsRefused}
 
 -- the turn, or why it was not taken

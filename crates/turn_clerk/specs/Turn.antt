@@ -1,12 +1,12 @@
 -- What a turn is.
-use Rattle.std.specs.Prelude.{◌≡◌, ◌≤◌, ◌<◌, ℕ, List, [], ◌∷◌, length, Option, Some, None}
-use Rattle.four_state.specs.Configuration.{Configuration, stations}
+use Rattle.std.specs.Prelude.{◌≡◌, ◌≤◌, ℕ, List, [], ◌∷◌, length, Option, Some, None}
+use Rattle.four_state.specs.Configuration.{Configuration}
 use Rattle.four_state.specs.Privilege.{IsPrivilege, choice}
 use Rattle.four_state.specs.declared.rules.Rule.{Rule}
 use Rattle.turn_ledger.specs.declared.entry.Entry.{Entry}
 use Rattle.turn_ledger.specs.declared.limits.TheConstants.{BATCH_LIMIT}
-use Rattle.turn_ledger.specs.Screen.{screened, accepted, with_yes}
-use Rattle.journal_recovery.specs.State.{State, state_after}
+use Rattle.turn_ledger.specs.Screen.{screened, with_yes}
+use Rattle.journal_recovery.specs.State.{State}
 use Rattle.turn_clerk.specs.declared.turns.Turn.{Turn}
 
 -- the entries of a turn that have a yes, in order

@@ -7,6 +7,7 @@ mod clerk;
 mod events;
 mod journaling;
 mod refusals;
+mod settling;
 mod turns;
 
 pub use clerk::Clerk;
