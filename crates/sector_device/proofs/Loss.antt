@@ -1,15 +1,15 @@
 -- What each call of a device in memory does to what a crash may leave.
-use Rattle.std.proofs.Common.{◌≡◌, ◌≢◌, ◌⊎◌, inl, inr, ⊎_elim, ℕ, ◌+◌, ◌<◌, ◌≤◌, List, [], ◌∷◌, length, get_or, set, refl, sym, ◌∙◌, ap, subst, arith, All, replicate}
-use Rattle.std.proofs.lemmas.List.{ext_get_or, set-set, set-get_or, length-set, get_or-set_same, get_or-set_other, length-reverse, length-replicate, get_or-replicate}
+use Rattle.std.proofs.Common.{◌≡◌, ◌⊎◌, inl, inr, ⊎_elim, ℕ, ◌+◌, ◌<◌, ◌≤◌, List, [], ◌∷◌, length, get_or, set, sym, ◌∙◌, ap, subst, arith}
+use Rattle.std.proofs.lemmas.List.{ext_get_or, set-set, set-get_or, length-set, get_or-set_same, get_or-set_other, length-reverse}
 use Rattle.std.proofs.lemmas.Bool.{cases_eq}
 use Rattle.sector_device.specs.Image.{Image, IsImage, IsSector, sector_at, with_sector, DiffersAt}
-use Rattle.sector_device.specs.Device.{DeviceState, IsSound}
-use Rattle.sector_device.specs.Crash.{Elapses, IsSame, IsTorn, IsDurable}
+use Rattle.sector_device.specs.Crash.{IsSame, IsTorn}
 use Rattle.sector_device.specs.Memory.{MayLeave, LeftSince, IsPending}
 use Rattle.sector_device.specs.MemoryDevice.{state_of, memory_state, calls_of}
 use Rattle.sector_device.specs.declared.memory.Call.{Call}
-use Rattle.sector_device.specs.declared.memory.Call.TheVariants.{Wrote, Synced}
+use Rattle.sector_device.specs.declared.memory.Call.TheVariants.{Wrote}
 use Rattle.sector_device.specs.declared.memory.MemoryDevice.{MemoryDevice}
+use Rattle.std.specs.declared.snapshot.Snapshot.{Snapshot}
 
 -- with nothing pending a crash leaves what reads give
 pub settled_durable : (reads : Image) (calls : List Call) → ((at : ℕ) → IsPending calls at → ⊥) → (image : Image) → MayLeave reads calls image → image ≡ reads
@@ -24,15 +24,12 @@ image_with image at bytes is sector = record {
   ];
 }
 
-module _ (reads : Image) (calls : List Call) (at : ℕ) (from : List ℕ) (lt : at < length reads) where
-  before : List ℕ
-  before = sector_at reads at
-
-  restored : (bytes : List ℕ) → with_sector (with_sector reads at bytes) at (sector_at reads at) ≡ reads
-  restored bytes = set-set reads at bytes (sector_at reads at) ∙ set-get_or reads at []
+module _ (reads : Image) (calls : List Call) (at : ℕ) (from : List ℕ) (lt : at < length reads) (before : Snapshot (List ℕ)) (kept : before.value ≡ sector_at reads at) where
+  restored : (bytes : List ℕ) → with_sector (with_sector reads at bytes) at before.value ≡ reads
+  restored bytes = set-set reads at bytes before.value ∙ ap (set reads at) kept ∙ set-get_or reads at []
 
   -- what may be left after the write might have been left before it, but for that sector
-  torn_write : IsImage reads → (image : Image) → MayLeave (with_sector reads at from) (Wrote at (sector_at reads at) ∷ calls) image → (old : Image) × MayLeave reads calls old × DiffersAt at old image
+  torn_write : IsImage reads → (image : Image) → MayLeave (with_sector reads at from) (Wrote at before ∷ calls) image → (old : Image) × MayLeave reads calls old × DiffersAt at old image
   torn_write is image left =
       let old = with_sector image at (sector_at reads at) in
       let size : length image ≡ length reads = left.sectors ∙ length-set reads at from in
@@ -53,21 +50,22 @@ module _ (reads : Image) (calls : List Call) (at : ℕ) (from : List ℕ) (lt : 
 
   -- since an earlier moment
   since_write : (since : ℕ) (image : Image) → since ≤ length calls
-      → LeftSince (with_sector reads at from) (Wrote at (sector_at reads at) ∷ calls) since image
-      → LeftSince reads calls since image ⊎ MayLeave (with_sector reads at from) (Wrote at (sector_at reads at) ∷ calls) image
+      → LeftSince (with_sector reads at from) (Wrote at before ∷ calls) since image
+      → LeftSince reads calls since image ⊎ MayLeave (with_sector reads at from) (Wrote at before ∷ calls) image
   since_write since image le (inl now) = inr now
   since_write since image le (inr earlier) = inl (subst (λ (sectors : Image). LeftSince sectors calls since image) (restored from) earlier.1)
 
-  kept_write : (since : ℕ) (image : Image) → since ≤ length calls → LeftSince reads calls since image → LeftSince (with_sector reads at from) (Wrote at (sector_at reads at) ∷ calls) since image
+  kept_write : (since : ℕ) (image : Image) → since ≤ length calls → LeftSince reads calls since image → LeftSince (with_sector reads at from) (Wrote at before ∷ calls) since image
   kept_write since image le was = inr (le, subst (λ (sectors : Image). LeftSince sectors calls since image) (sym (restored from)) was)
 
 -- a write that answered Ok
 pub write_torn : (old : MemoryDevice) (reads : Image) (calls : List Call) (moment faults : ℕ) (at : ℕ) (from : List ℕ) → IsSector from → at < length old.sectors.items
-    → reads ≡ with_sector old.sectors.items at from → calls ≡ Wrote at (sector_at old.sectors.items at) ∷ calls_of old → moment ≡ length calls
+    → (before : Snapshot (List ℕ)) → before.value ≡ sector_at old.sectors.items at
+    → reads ≡ with_sector old.sectors.items at from → calls ≡ Wrote at before ∷ calls_of old → moment ≡ length calls
     → IsTorn at (state_of old) (memory_state reads calls moment faults)
-write_torn old reads calls moment faults at from sector lt reads_are calls_are counts =
+write_torn old reads calls moment faults at from sector lt before kept reads_are calls_are counts =
     let was = old.sectors.items in
-    let made : List Call = Wrote at (sector_at was at) ∷ calls_of old in
+    let made : List Call = Wrote at before ∷ calls_of old in
     let old_moment : length old.calls.items ≡ length (calls_of old) = sym (length-reverse old.calls.items) in
     let new_moment : moment ≡ length (calls_of old) + 1 = counts ∙ ap length calls_are ∙ omega arith in
     let same : (since : ℕ) (image : Image) → LeftSince reads calls since image ≡ LeftSince (with_sector was at from) made since image = λ since image i. LeftSince (reads_are i) (calls_are i) since image in
@@ -76,11 +74,11 @@ write_torn old reads calls moment faults at from sector lt reads_are calls_are c
       time = record {
         later = omega (arith, old_moment, new_moment);
         nothing_else = λ since image le left. ⊎_elim (λ earlier. inl earlier) (λ now. inr (coe_back (same_now image) now))
-            (since_write was (calls_of old) at from lt since image (omega (arith, le, old_moment)) (coe_along (same since image) left));
-        nothing_forgotten = λ since image le earlier. coe_back (same since image) (kept_write was (calls_of old) at from lt since image (omega (arith, le, old_moment)) earlier);
+            (since_write was (calls_of old) at from lt before kept since image (omega (arith, le, old_moment)) (coe_along (same since image) left));
+        nothing_forgotten = λ since image le earlier. coe_back (same since image) (kept_write was (calls_of old) at from lt before kept since image (omega (arith, le, old_moment)) earlier);
       };
       reads = record { bytes = from; sector = sector; is = reads_are };
-      torn = λ image left. torn_write was (calls_of old) at from lt old.whole image (coe_along (same_now image) left);
+      torn = λ image left. torn_write was (calls_of old) at from lt before kept old.whole image (coe_along (same_now image) left);
     }
   where
     coe_along : {A B : Type 0} → A ≡ B → A → B

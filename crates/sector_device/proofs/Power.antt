@@ -1,9 +1,7 @@
 -- What a power loss leaves, pick by pick.
-use Rattle.std.proofs.Common.{◌≡◌, ℕ, ◌<◌, Bool, cond, eq-eqb, List, [], ◌∷◌, ◌++◌, length, refl, sym, ◌∙◌, ap, subst, arith, inl, inr}
+use Rattle.std.proofs.Common.{◌≡◌, ℕ, List, [], ◌∷◌, ◌++◌, refl, sym, ◌∙◌, ap, arith}
 use Rattle.std.specs.Prelude.{◌==◌, if◌then◌else◌}
-use Rattle.std.proofs.lemmas.Bool.{cases_eq, ne_eqb}
-use Rattle.std.proofs.lemmas.List.{length-set, get_or-set_same, get_or-set_other}
-use Rattle.sector_device.specs.Image.{Image, sector_at, with_sector}
+use Rattle.sector_device.specs.Image.{Image, sector_at}
 use Rattle.sector_device.specs.Picks.{last_pick, TakesPicks}
 
 last_pick-append : (first second : List (ℕ × List ℕ)) (at : ℕ) (bytes : List ℕ) → last_pick (first ++ second) at bytes ≡ last_pick second at (last_pick first at bytes)

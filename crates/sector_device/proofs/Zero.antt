@@ -1,8 +1,8 @@
 -- A device of zero sectors.
 use Rattle.std.proofs.Common.{◌≡◌, ℕ, ◌<◌, List, [], length, replicate, get_or, sym, ◌∙◌, subst, arith, inl, inr}
-use Rattle.std.proofs.lemmas.List.{length-replicate, get_or-replicate, same_lists, ext_get_or, get_or_past}
+use Rattle.std.proofs.lemmas.List.{length-replicate, get_or-replicate, ext_get_or, get_or_past}
 use Rattle.std.proofs.lemmas.Bool.{cases_lt}
-use Rattle.sector_device.specs.Image.{Image, IsImage, IsSector}
+use Rattle.sector_device.specs.Image.{IsImage, IsSector}
 
 pub zero_sector : IsSector (replicate 512 0)
 zero_sector = record {

@@ -1,5 +1,5 @@
 -- What a crash may leave before, within and after the calls of an honest device.
-use Rattle.std.specs.Prelude.{◌≡◌, ◌⊎◌, ◌<◌, ◌≤◌, ℕ, List, length}
+use Rattle.std.specs.Prelude.{◌≡◌, ◌⊎◌, ◌<◌, ◌≤◌, ℕ, length}
 use Rattle.std.proofs.Common.{inl, inr, ⊎_elim, refl, sym, ◌∙◌, subst, arith}
 use Rattle.sector_device.specs.Image.{Image, DiffersAt, differs_nowhere}
 use Rattle.sector_device.specs.Device.{DeviceState, IsSound}

@@ -1,8 +1,7 @@
 -- What a crash may leave of a device in memory, told from what reads give now and from its record of writes and
 -- syncs, the newest first. Each write in it has the bytes that stood there before.
-use Rattle.std.specs.Prelude.{◌≡◌, ◌≢◌, ◌⊎◌, ◌+◌, ◌<◌, ◌≤◌, ℕ, zero, suc, List, [], ◌∷◌, ◌++◌, length, reverse, slice_set}
-use Rattle.std.proofs.Common.{inl, inr, ⊎_elim, sym, ◌∙◌, refl, ap, subst, arith}
-use Rattle.sector_device.specs.Image.{Image, IsImage, IsSector, sector_at, with_sector, DiffersAt}
+use Rattle.std.specs.Prelude.{◌≡◌, ◌⊎◌, ◌≤◌, ℕ, List, [], ◌∷◌, length}
+use Rattle.sector_device.specs.Image.{Image, IsImage, sector_at, with_sector}
 use Rattle.sector_device.specs.declared.memory.Call.{Call}
 use Rattle.sector_device.specs.declared.memory.Call.TheVariants.{Wrote, Synced}
 
@@ -21,7 +20,7 @@ pub record MayLeave (reads : Image) (calls : List Call) (image : Image) : Type 0
 -- what reads gave before the call
 abbrev pub undone : Call → Image → Image
 undone Synced reads = reads
-undone (Wrote place before) reads = with_sector reads place before
+undone (Wrote place before) reads = with_sector reads place before.value
 
 -- What a crash might have left at some moment when at least so many of the calls had been made.
 abbrev pub LeftSince : Image → List Call → ℕ → Image → Type 0

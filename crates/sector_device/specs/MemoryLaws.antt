@@ -1,8 +1,8 @@
 -- A device in memory keeps the law of devices.
-use Rattle.std.specs.Prelude.{◌≡◌, ◌⊎◌, ◌+◌, ◌<◌, ◌≤◌, ℕ, zero, suc, List, [], ◌∷◌, length, reverse}
-use Rattle.std.proofs.Common.{inl, inr, refl, sym, ◌∙◌, arith, subst}
+use Rattle.std.specs.Prelude.{◌≤◌, ℕ, List, [], ◌∷◌, length}
+use Rattle.std.proofs.Common.{inl, inr, refl, arith}
 use Rattle.std.proofs.lemmas.List.{length-reverse}
-use Rattle.sector_device.specs.Image.{Image, IsImage}
+use Rattle.sector_device.specs.Image.{Image}
 use Rattle.sector_device.specs.Device.{IsSound}
 use Rattle.sector_device.specs.Memory.{MayLeave, LeftSince}
 use Rattle.sector_device.specs.MemoryDevice.{state_of, calls_of}

@@ -1,5 +1,5 @@
 -- What a power loss puts into pending sectors.
-use Rattle.std.specs.Prelude.{◌≡◌, ◌<◌, ℕ, List, [], ◌∷◌, ◌==◌, if◌then◌else◌, length, unwrap_or, Option, Some, None}
+use Rattle.std.specs.Prelude.{◌≡◌, ◌<◌, ℕ, List, [], ◌∷◌, ◌==◌, if◌then◌else◌, length}
 use Rattle.sector_device.specs.Image.{Image, sector_at}
 
 -- the bytes of the last pick for a sector, or else those

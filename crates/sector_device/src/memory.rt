@@ -7,13 +7,24 @@ ghost use Rattle.sector_device.specs.Memory.{IsPending};
 
 use crate::{Device, DeviceFault, SECTOR, Sector};
 use std::alloc::{AllocError, Global};
+use std::fmt;
+use std::snapshot::Snapshot;
 
 /// An entry of the record that a memory device keeps of its calls.
-#[derive(Clone, Copy, Debug)]
+#[derive(Drop)]
 enum Call {
-    /// A write to sector `at`, and the bytes that stood there before.
-    Wrote { at: u64, before: Sector },
+    /// A write to sector `at`, and the bytes that stood there before, which contracts alone see.
+    Wrote { at: u64, before: Snapshot<Sector> },
     Synced,
+}
+
+impl fmt::Debug for Call {
+    fn fmt<W: fmt::Write>(&self, f: &mut fmt::Formatter<W>) -> fmt::Result {
+        match self {
+            Call::Wrote { at, .. } => write!(f, "Wrote({at})"),
+            Call::Synced => f.write_str("Synced"),
+        }
+    }
 }
 
 /// What a power loss is to leave in sectors that are pending: sector numbers with their bytes. The last pick for a
@@ -25,8 +36,8 @@ pub struct Picks {
 
 /// A device in memory, which is honest: it keeps every fact of `Device`.
 ///
-/// It remembers each write and sync that answered `Ok`, as the loss model has to see what a crash at an earlier
-/// moment might have left. Its reads never fail. A write or a sync fails only where that record can't grow, and then
+/// It remembers each write and sync that answered `Ok`, in a few bytes each, as the loss model has to see what a crash
+/// at an earlier moment might have left. Its reads never fail. A write or a sync fails only where that record can't grow, and then
 /// changes no byte and no pending sector.
 #[derive(Debug, Drop)]
 pub struct MemoryDevice {
@@ -144,7 +155,7 @@ impl Device for MemoryDevice {
         ensures unwritten { OnErr result ((state_of self.new).reads ≡ (state_of self.old).reads) }
         ensures not_pending { OnErr result ((sector : ℕ) → IsPendingIn self.new sector ↔ IsPendingIn self.old sector) }
     {
-        let before = self.sectors[at as usize];
+        let before = Snapshot::of(&self.sectors[at as usize]);
         self.record(Call::Wrote { at, before })?;
         self.put(at as usize, from);
         Ok(())

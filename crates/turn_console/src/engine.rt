@@ -48,11 +48,20 @@ fn run_lines<W: Write, D: PowerLoss + Drop>(
     for text in Lines::of(script) {
         line = line.saturating_add(1);
         let command = match read_command(text, line) {
-            Ok(command) => command,
+            Ok(Some(command)) => command,
+            Ok(None) => continue,
             Err(cause) => return Err(ScriptFault::Line { line, cause }),
         };
-        if let Some(command) = command {
-            session = session.run(alloc, &command, output)?;
+        match command {
+            Command::Format { slots } => session.format(slots, output)?,
+            Command::Open { stations, x, up } => {
+                session = session.open(alloc, stations, &x, &up, output)?;
+            }
+            Command::Post { station, entry } => session.post(station, entry, output)?,
+            Command::Turn { station } => session.turn(station, output)?,
+            Command::Bits => session.bits(output)?,
+            Command::Balances => session.balances(output)?,
+            Command::Crash => session = session.crash(alloc, output)?,
         }
     }
     Ok(())
@@ -60,34 +69,12 @@ fn run_lines<W: Write, D: PowerLoss + Drop>(
 
 /// Where a script stands: on a device, or with an office open on it.
 #[derive(Drop)]
-pub enum Session<D: Device> {
+enum Session<D: Device> {
     Closed(D),
     Open(Office<D>),
 }
 
 impl<D: PowerLoss + Drop> Session<D> {
-    /// Runs one command, and prints what it answers.
-    pub fn run<W: Write>(
-        self,
-        alloc: Global,
-        command: &Command,
-        output: &mut Output<'_, W>,
-    ) -> Result<Session<D>, ScriptFault> {
-        let mut session = self;
-        match *command {
-            Command::Format { slots } => session.format(slots, output)?,
-            Command::Open { stations, x, up } => {
-                return session.open(alloc, stations, &x, &up, output);
-            }
-            Command::Post { station, entry } => session.post(station, entry, output)?,
-            Command::Turn { station } => session.turn(station, output)?,
-            Command::Bits => session.bits(output)?,
-            Command::Balances => session.balances(output)?,
-            Command::Crash => return session.crash(alloc, output),
-        }
-        Ok(session)
-    }
-
     fn format<W: Write>(
         &mut self,
         slots: NonZeroU64,

@@ -1,4 +1,4 @@
-use Rattle.std.proofs.Common.{◌≡◌, ◌<◌, ℕ, List, length, ap, arith, [], ◌∷◌, get_or, reverse, sym, ◌∙◌, subst}
+use Rattle.std.proofs.Common.{◌<◌, ℕ, List, length, ap, arith, [], ◌∷◌, get_or, reverse, sym, ◌∙◌, subst}
 use Rattle.std.proofs.lemmas.List.{take_more}
 use Rattle.sector_device.specs.Memory.{IsPending}
 use Rattle.sector_device.specs.MemoryDevice.{IsPendingIn}

@@ -1,8 +1,8 @@
-use Rattle.std.proofs.Common.{◌≡◌, ℕ, ◌<◌, List, [], length, replicate, get_or, sym, ◌∙◌, ap, subst, arith, reverse}
-use Rattle.sector_device.specs.Image.{Image, IsImage}
+use Rattle.std.proofs.Common.{sym, subst, reverse}
+use Rattle.sector_device.specs.Image.{IsImage}
 use Rattle.sector_device.specs.Memory.{IsPending}
 use Rattle.sector_device.proofs.Loss.{settled_durable}
-use Rattle.sector_device.proofs.Zero.{zero_sector, zero_image, same_sector}
+use Rattle.sector_device.proofs.Zero.{zero_image, same_sector}
 use Rattle.sector_device.proofs.memory.MemoryDevice.new.Goals as goal
 
 pub returns-clause-zero : goal.returns-clause-zero

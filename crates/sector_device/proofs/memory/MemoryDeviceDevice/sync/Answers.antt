@@ -1,4 +1,4 @@
-use Rattle.std.proofs.Common.{subst, sym}
+use Rattle.std.proofs.Common.{subst}
 use Rattle.sector_device.specs.Memory.{IsPending}
 use Rattle.sector_device.specs.MemoryDevice.{calls_of}
 use Rattle.sector_device.proofs.Loss.{settled_durable}

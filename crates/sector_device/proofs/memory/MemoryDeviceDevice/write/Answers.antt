@@ -1,8 +1,6 @@
-use Rattle.std.proofs.Common.{◌≡◌, [], ◌∷◌, sym, ◌∙◌, ap, subst, rules, get_or, List, length, arith, refl}
+use Rattle.std.proofs.Common.{[], sym, ◌∙◌, ap, length}
 use Rattle.std.proofs.lemmas.List.{get_or_read, length-reverse}
-use Rattle.sector_device.specs.declared.memory.Call.{Call}
-use Rattle.sector_device.specs.declared.memory.Call.TheVariants.{Wrote}
-use Rattle.sector_device.specs.Image.{Image, IsSector, sector_at, with_sector}
+use Rattle.sector_device.specs.Image.{Image, with_sector}
 use Rattle.sector_device.specs.MemoryDevice.{state_of, calls_of}
 use Rattle.sector_device.specs.MemoryLaws.{memory_sound}
 use Rattle.sector_device.specs.Crash.{torn_nothing}
@@ -17,9 +15,9 @@ returns-in_err-record-clause-torn c honest =
 pub returns-clause-torn : goal.returns-clause-torn
 returns-clause-torn c honest =
     let reads = c.args.self.now.sectors.items in
-    let before : c.index-before.result.now ≡ sector_at reads c.args.at = get_or_read reads c.args.at c.index-before.result.now c.requires c.index-before.ensures [] in
     write_torn c.args.self.now (state_of c.put.new.self).reads (calls_of c.put.new.self) (length c.put.new.self.calls.items) c.put.new.self.faults c.args.at c.args.from.now
     (record { size = c.told-from; values = c.fits-from }) c.requires
+    c.of-before.result (c.of-before.ensures ∙ get_or_read reads c.args.at c.index.result.now c.requires c.index.ensures [])
     (c.put.ensures.put ∙ ap (λ (image : Image). with_sector image c.args.at c.args.from.now) c.record.ensures.sectors)
-    (c.put.ensures.calls ∙ c.in_ok-record.ensures.ok.0 ∙ ap (λ (bytes : _). Wrote c.args.at bytes ∷ calls_of c.args.self.now) before)
+    (c.put.ensures.calls ∙ c.in_ok-record.ensures.ok.0)
     (sym (length-reverse c.put.new.self.calls.items))
