@@ -11,6 +11,9 @@ class Result:
     seconds: float
     kilobytes: int
 
+    def megabytes(self):
+        return f"{self.kilobytes / 1024:,.1f} MB"
+
 
 @dataclasses.dataclass
 class Work:
@@ -22,10 +25,10 @@ class Work:
 
 
 class Runs:
-    """Runs in a folder, where what a program prints stands under the program's name."""
+    """Runs in the folder of the programs, where what a program prints stands under the name of its work."""
 
-    def __init__(self, stopwatch, folder, rounds):
-        self.stopwatch, self.folder, self.rounds = stopwatch, folder, rounds
+    def __init__(self, folder, rounds):
+        self.folder, self.rounds = folder, rounds
 
     def answers(self, name):
         return self.folder / f"{name}.answers"
@@ -33,24 +36,27 @@ class Runs:
     def once(self, name, work):
         if work.prepare:
             work.prepare()
+        words = [self.folder / "stopwatch", *work.words]
         with open(work.script or "/dev/null", "rb") as source, open(self.answers(name), "wb") as sink:
-            run = subprocess.run([self.stopwatch, *work.words], stdin=source, stdout=sink, stderr=subprocess.PIPE)
+            run = subprocess.run(words, stdin=source, stdout=sink, stderr=subprocess.PIPE)
         told = run.stderr.decode()
         if run.returncode != 0:
             sys.exit(f"{name} ended with {run.returncode}: {told}")
         nanoseconds, kilobytes = told.split()
         return Result(int(nanoseconds) / 1e9, int(kilobytes))
 
-    def best(self, works, same=()):
-        """The best time and the most memory by name. The answers of the programs in `same` have to be equal."""
+    def best(self, works, pairs, times=1):
+        """The best time and the most memory by name, over so many times the rounds. The answers of each pair have to
+        be equal.
+        """
         best = {}
-        for _ in range(self.rounds):
+        for _ in range(times * self.rounds):
             for name, work in works.items():
                 result = self.once(name, work)
                 known = best.setdefault(name, result)
                 best[name] = Result(min(known.seconds, result.seconds), max(known.kilobytes, result.kilobytes))
-            for name in same[1:]:
-                require_same(self.answers(same[0]), self.answers(name))
+            for one, other in pairs:
+                require_same(self.answers(one), self.answers(other))
         return best
 
 

@@ -45,9 +45,7 @@ class Ratios:
 
 class Memory:
     def __init__(self):
-        self.rows = [("most memory", "proved", "plain Rust", "others")]
+        self.rows = [("most memory", "proved", "plain Rust", "beside")]
 
-    def add(self, work, results):
-        cells = {name: f"{result.kilobytes / 1024:,.1f} MB" for name, result in results.items()}
-        proved, plain = cells.pop("proved"), cells.pop("plain Rust", "")
-        self.rows.append((work, proved, plain, ", ".join(f"{name} {cell}" for name, cell in cells.items())))
+    def add(self, work, proved, plain, beside=""):
+        self.rows.append((work, proved.megabytes(), plain.megabytes(), beside))
