@@ -6,10 +6,11 @@ import scripts
 from runs import Work, require_same
 from table import Aim
 
-BATCHES = 2_000
+BATCHES = 1_000
 
-# How many times as many rounds as other works have, since the speed of a disk spreads most.
-TIMES = 3
+# How many times as many rounds as other works have. The speed of a disk changes from one second to the next, so runs
+# are short and many, and each is compared with the one beside it.
+TIMES = 6
 
 
 def formatted(program, path):
@@ -49,12 +50,12 @@ def measure(runs, ratios, memory):
         works |= {f"proved {entries}": proved, f"plain {entries}": plain}
         pairs.append((f"proved {entries}", f"plain {entries}"))
         files.append((proved_file, plain_file))
-    best = runs.best(works, pairs, TIMES)
+    times = runs.taking_turns(works, pairs, TIMES)
     for one, other in files:
         require_same(one, other)
     for entries in (15, 1):
         work = f"durable batches, {entries} a batch"
-        proved, plain = best[f"proved {entries}"], best[f"plain {entries}"]
-        ratios.speed(work, BATCHES, proved, "plain Rust", plain, Aim(least=0.95))
-        ratios.speed(work, BATCHES, proved, "C floor", best["floor"], Aim(least=0.85))
-        memory.add(f"{BATCHES:,} {work}", proved, plain, f"C floor {best['floor'].megabytes()}")
+        proved, plain = times[f"proved {entries}"], times[f"plain {entries}"]
+        ratios.paired_speed(work, BATCHES, proved, "plain Rust", plain, Aim(least=0.95))
+        ratios.paired_speed(work, BATCHES, proved, "C floor", times["floor"], Aim(least=0.85))
+        memory.add(f"{BATCHES:,} {work}", proved, plain, f"C floor {times['floor'].megabytes()}")

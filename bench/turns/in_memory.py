@@ -11,10 +11,10 @@ def measure(runs, entries, ratios, memory):
     count, folder = TURNS[entries], runs.folder
     script = scripts.write(folder / "turns", scripts.in_memory(count, entries))
     sectors = ["--sectors", str(2 * count + 1)]
-    best = runs.best({
+    times = runs.taking_turns({
         "proved": Work([folder / "proved", *sectors], script),
         "plain": Work([folder / "plain", *sectors], script),
     }, [("proved", "plain")])
     work = f"turns in memory, {entries} a batch"
-    ratios.speed(work, count, best["proved"], "plain Rust", best["plain"], Aim(least=0.8))
-    memory.add(f"{count:,} {work}", best["proved"], best["plain"])
+    ratios.speed(work, count, times["proved"], "plain Rust", times["plain"], Aim(least=0.8))
+    memory.add(f"{count:,} {work}", times["proved"], times["plain"])

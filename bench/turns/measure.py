@@ -26,7 +26,7 @@ def main():
     in_memory.measure(runs, 1, ratios, memory)
     durable.measure(runs, ratios, memory)
     opening.measure(runs, ratios, memory)
-    print(f"best of {rounds} runs, durable batches of {durable.TIMES * rounds}, taking turns")
+    print(f"taking turns: the best of {rounds} runs; of durable batches the median of {durable.TIMES * rounds}")
     print(f"files on {filesystem(folder)}; the opened file is in the page cache")
     print("what proved and plain print, and the files that they leave, are equal byte for byte")
     print()

@@ -1,15 +1,27 @@
-"""Runs programs on the same work, taking turns, and keeps the best time and the most memory of each."""
+"""Runs programs on the same work, taking turns, and keeps the time of each run and the most memory."""
 import dataclasses
 import filecmp
 import pathlib
+import statistics
 import subprocess
 import sys
 
 
-@dataclasses.dataclass
-class Result:
-    seconds: float
-    kilobytes: int
+class Times:
+    """The seconds of each run, and the most kilobytes of all."""
+
+    def __init__(self):
+        self.seconds, self.kilobytes = [], 0
+
+    def add(self, seconds, kilobytes):
+        self.seconds.append(seconds)
+        self.kilobytes = max(self.kilobytes, kilobytes)
+
+    def best(self):
+        return min(self.seconds)
+
+    def median(self):
+        return statistics.median(self.seconds)
 
     def megabytes(self):
         return f"{self.kilobytes / 1024:,.1f} MB"
@@ -34,6 +46,7 @@ class Runs:
         return self.folder / f"{name}.answers"
 
     def once(self, name, work):
+        """The seconds and the kilobytes of one run."""
         if work.prepare:
             work.prepare()
         words = [self.folder / "stopwatch", *work.words]
@@ -43,21 +56,17 @@ class Runs:
         if run.returncode != 0:
             sys.exit(f"{name} ended with {run.returncode}: {told}")
         nanoseconds, kilobytes = told.split()
-        return Result(int(nanoseconds) / 1e9, int(kilobytes))
+        return int(nanoseconds) / 1e9, int(kilobytes)
 
-    def best(self, works, pairs, times=1):
-        """The best time and the most memory by name, over so many times the rounds. The answers of each pair have to
-        be equal.
-        """
-        best = {}
+    def taking_turns(self, works, pairs, times=1):
+        """The times of each work, over so many times the rounds. What the two of a pair print has to be equal."""
+        found = {name: Times() for name in works}
         for _ in range(times * self.rounds):
             for name, work in works.items():
-                result = self.once(name, work)
-                known = best.setdefault(name, result)
-                best[name] = Result(min(known.seconds, result.seconds), max(known.kilobytes, result.kilobytes))
+                found[name].add(*self.once(name, work))
             for one, other in pairs:
                 require_same(self.answers(one), self.answers(other))
-        return best
+        return found
 
 
 def require_same(one, other):

@@ -1,5 +1,6 @@
 """Tables of ratios beside their aims, and of memory."""
 import dataclasses
+import statistics
 
 
 @dataclasses.dataclass
@@ -22,21 +23,32 @@ def print_rows(rows):
         print("  ".join(cell.ljust(width) for cell, width in zip(row, widths)).rstrip())
 
 
+def per_second(count, seconds):
+    return f"{count / seconds:,.0f} a second"
+
+
+def milliseconds(seconds):
+    return f"{1000 * seconds:,.1f} ms"
+
+
 class Ratios:
     def __init__(self):
         self.rows = [("work", "proved", "beside", "ratio", "aim", "")]
 
     def speed(self, work, count, proved, name, other, aim):
-        """Work done per second, beside another program's."""
-        ratio = other.seconds / proved.seconds
-        speeds = [f"{count / result.seconds:,.0f} a second" for result in (proved, other)]
-        self.add(work, speeds[0], f"{name} {speeds[1]}", ratio, aim)
+        """Work done per second in the best run, beside another program's."""
+        ratio = other.best() / proved.best()
+        self.add(work, per_second(count, proved.best()), f"{name} {per_second(count, other.best())}", ratio, aim)
+
+    def paired_speed(self, work, count, proved, name, other, aim):
+        """The same by the median run, with the median of the ratios of the runs beside each other."""
+        ratio = statistics.median(one / two for one, two in zip(other.seconds, proved.seconds))
+        self.add(work, per_second(count, proved.median()), f"{name} {per_second(count, other.median())}", ratio, aim)
 
     def time(self, work, proved, name, other, aim):
-        """The time that a work takes, beside another program's."""
-        ratio = proved.seconds / other.seconds
-        times = [f"{1000 * result.seconds:,.1f} ms" for result in (proved, other)]
-        self.add(work, times[0], f"{name} {times[1]}", ratio, aim)
+        """The time that a work takes in the best run, beside another program's."""
+        ratio = proved.best() / other.best()
+        self.add(work, milliseconds(proved.best()), f"{name} {milliseconds(other.best())}", ratio, aim)
 
     def add(self, work, proved, beside, ratio, aim):
         verdict = "" if aim is None else "met" if aim.is_met(ratio) else "missed"
