@@ -13,7 +13,8 @@ turns=200
 
 echo "format $turns" | "$program" --device "$work/ledger" --sectors $((2 * turns + 1)) > /dev/null
 python3 bench/durable_order/script.py "$turns" > "$work/script"
-strace -f -y -xx -s 131072 -o "$work/trace" \
-    -e trace=write,writev,pwrite64,pwritev,pwritev2,ftruncate,fallocate,copy_file_range,sendfile,splice,fsync,fdatasync,sync_file_range,msync,sync,syncfs \
+writing=write,writev,pwrite64,pwritev,pwritev2,ftruncate,fallocate,copy_file_range,sendfile,splice
+syncing=fsync,fdatasync,sync_file_range,msync,sync,syncfs
+strace -f -y -xx -s 131072 -o "$work/trace" -e trace="$writing,$syncing" \
     "$program" --device "$work/ledger" < "$work/script" > "$work/answers"
 python3 bench/durable_order/check.py "$work/trace" ledger "$turns"

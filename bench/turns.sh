@@ -1,7 +1,8 @@
 #!/usr/bin/env bash
-# Turns in memory, durable batches on a file, and the opening of a long file: the proved console beside the same console
-# in plain Rust, a floor in C, and one read of the file. It proves and builds the console in its own folder. What the
-# proved and the plain program print, and the files that they leave, have to be equal. Words: how many rounds, 7 without.
+# Turns in memory, durable batches on a file, and the opening of a long file: the proved console beside the same
+# console in plain Rust, a floor in C, and one read of the file. It proves and builds the console in its own folder.
+# What the proved and the plain program print, and the files that they leave, have to be equal. Words: how many rounds,
+# 7 without.
 set -euo pipefail
 cd "$(dirname "$0")/.."
 work=$(mktemp -d "${BENCH_FOLDER:-/var/tmp}/turns.XXXXXX")

@@ -3,6 +3,8 @@
 
 #[path = "console/device.rs"]
 mod device;
+#[path = "console/engine.rs"]
+mod engine;
 #[path = "console/entry.rs"]
 mod entry;
 #[path = "console/faults.rs"]
@@ -17,12 +19,10 @@ mod line;
 mod office;
 #[path = "console/script.rs"]
 mod script;
-#[path = "console/session.rs"]
-mod session;
 
 use device::{Device, FileDevice, MemoryDevice};
+use engine::Console;
 use faults::Fault;
-use session::Session;
 use std::env;
 use std::io::{self, BufWriter, Read};
 use std::path::Path;
@@ -96,7 +96,7 @@ fn run(options: &Options) -> Result<(), Fault> {
 fn run_script<D: Device>(device: D) -> Result<(), Fault> {
     let script = read_script()?;
     let output = BufWriter::with_capacity(GATHERED, io::stdout().lock());
-    Session::new(device, output).run(&script)
+    Console::new(device, output).run(&script)
 }
 
 fn read_script() -> Result<Vec<u8>, Fault> {

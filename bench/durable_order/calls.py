@@ -19,18 +19,12 @@ class Call:
     result: int
 
     def text(self):
-        """The call on one line, with the first bytes of what it writes."""
+        """The call on one line, of a sector the first bytes alone."""
         words = [str(self.number)]
         if self.data:
-            shown = self.data[:4].decode("latin-1").encode("unicode_escape").decode() if self.is_placed() else self.lines()
-            words.append(f'"{shown}"')
+            data = self.data[:4] if self.name == "pwrite64" else self.data
+            words.append('"' + data.decode("latin-1").encode("unicode_escape").decode() + '"')
         return f"{self.name}({', '.join(words + [str(number) for number in self.numbers])}) = {self.result}"
-
-    def is_placed(self):
-        return self.name == "pwrite64"
-
-    def lines(self):
-        return self.data.decode("ascii").replace("\n", "\\n")
 
 
 def unhexed(text):

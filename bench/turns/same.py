@@ -1,5 +1,5 @@
-"""Shows that the plain program is the same console: on random scripts, with refusals and wrong lines, it prints what the
-proved one prints, ends as it ends, and leaves the same file.
+"""Shows that the plain program is the same console: on random scripts, with refusals and wrong lines, it prints what
+the proved one prints, ends as it ends, and leaves the same file.
 """
 import random
 import subprocess
@@ -7,7 +7,9 @@ import sys
 
 SCRIPTS = 300
 SECTORS = (21, 21, 21, 9, 1)
-WRONG = ("turn", "frob", "post 0 seal 1", "format 0", "turn x", "post 1 deposit 4294967296 1", "open 3 000 102", "bits 1")
+WRONG = (
+    "turn", "frob", "post 0 seal 1", "format 0", "turn x", "post 1 deposit 4294967296 1", "open 3 000 102", "bits 1",
+)
 
 
 def entry(words):

@@ -21,15 +21,15 @@ enum Refusal {
     Turn(TurnRefusal),
 }
 
-pub struct Session<D: Device, W: Write> {
+pub struct Console<D: Device, W: Write> {
     device: D,
     office: Option<Office>,
     output: W,
 }
 
-impl<D: Device, W: Write> Session<D, W> {
-    pub fn new(device: D, output: W) -> Session<D, W> {
-        Session { device, office: None, output }
+impl<D: Device, W: Write> Console<D, W> {
+    pub fn new(device: D, output: W) -> Console<D, W> {
+        Console { device, office: None, output }
     }
 
     /// Runs the lines up to the first wrong one. What earlier lines printed stands.
