@@ -88,8 +88,8 @@ def main():
     print(f"{outside} runs ended before their moment, and were repeated")
     for stood, times in collections.Counter(outcome[2] for outcome in outcomes).most_common():
         print(f"of the turn under way stood {stood}: {times} rounds")
-    print(f"{count} rounds, {answers} turns acknowledged, {batches_found} batches recovered: each time all that were")
-    print("acknowledged, whole batches alone")
+    told = f"{answers} turns acknowledged, {batches_found} batches recovered"
+    print(f"{count} rounds, {told}: each time all acknowledged ones, and whole ones alone")
 
 
 main()
