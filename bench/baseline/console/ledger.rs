@@ -1,0 +1,179 @@
+//! The accounts, and the entries that are posted to them.
+
+use crate::entry::{Entry, EntryRefusal, Verdict};
+
+pub const ACCOUNTS: u32 = 64;
+pub const BATCH_LIMIT: usize = 15;
+const TOTAL_LIMIT: u64 = 1_000_000_000_000_000_000;
+
+/// Balances that entries are judged on and posted to.
+trait Accounts {
+    fn held_by(&self, account: u32) -> u64;
+    fn held_by_all(&self) -> u64;
+    fn credit(&mut self, account: u32, amount: u64);
+    fn debit(&mut self, account: u32, amount: u64);
+}
+
+fn is_account(number: u32) -> bool {
+    (1..=ACCOUNTS).contains(&number)
+}
+
+fn post<A: Accounts>(accounts: &mut A, entry: &Entry) -> Verdict {
+    let (Entry::Deposit { amount, .. } | Entry::Withdraw { amount, .. } | Entry::Transfer { amount, .. }) = *entry;
+    if amount == 0 {
+        return Err(EntryRefusal::ZeroAmount);
+    }
+    match *entry {
+        Entry::Deposit { to, .. } => {
+            if !is_account(to) {
+                return Err(EntryRefusal::NoAccount);
+            }
+            if amount > TOTAL_LIMIT - accounts.held_by_all() {
+                return Err(EntryRefusal::OverLimit);
+            }
+            accounts.credit(to, amount);
+        }
+        Entry::Withdraw { from, .. } => {
+            if !is_account(from) {
+                return Err(EntryRefusal::NoAccount);
+            }
+            take(accounts, from, amount)?;
+        }
+        Entry::Transfer { from, to, .. } => {
+            if !is_account(from) || !is_account(to) {
+                return Err(EntryRefusal::NoAccount);
+            }
+            if from == to {
+                return Err(EntryRefusal::SameAccount);
+            }
+            take(accounts, from, amount)?;
+            accounts.credit(to, amount);
+        }
+    }
+    Ok(())
+}
+
+fn take<A: Accounts>(accounts: &mut A, from: u32, amount: u64) -> Verdict {
+    if accounts.held_by(from) < amount {
+        return Err(EntryRefusal::Short);
+    }
+    accounts.debit(from, amount);
+    Ok(())
+}
+
+pub struct Ledger {
+    balances: Vec<u64>,
+    total: u64,
+}
+
+impl Ledger {
+    pub fn new() -> Ledger {
+        Ledger { balances: vec![0; ACCOUNTS as usize], total: 0 }
+    }
+
+    pub fn total(&self) -> u64 {
+        self.total
+    }
+
+    /// The accounts that hold something, in ascending order, with what they hold.
+    pub fn holding(&self) -> impl Iterator<Item = (u32, u64)> + '_ {
+        (1..).zip(self.balances.iter().copied()).filter(|&(_, balance)| balance > 0)
+    }
+
+    pub fn post(&mut self, entry: &Entry) -> Verdict {
+        post(self, entry)
+    }
+
+    /// The verdicts of at most 15 entries, each judged after the accepted ones before it. Nothing is posted.
+    pub fn screen(&self, entries: &[Entry]) -> Verdicts {
+        let mut scratch = Scratch::over(self);
+        let mut verdicts = Verdicts { verdicts: [Ok(()); BATCH_LIMIT], count: 0 };
+        for entry in entries {
+            verdicts.verdicts[verdicts.count] = post(&mut scratch, entry);
+            verdicts.count += 1;
+        }
+        verdicts
+    }
+}
+
+impl Accounts for Ledger {
+    fn held_by(&self, account: u32) -> u64 {
+        self.balances[account as usize - 1]
+    }
+
+    fn held_by_all(&self) -> u64 {
+        self.total
+    }
+
+    fn credit(&mut self, account: u32, amount: u64) {
+        self.balances[account as usize - 1] += amount;
+        self.total += amount;
+    }
+
+    fn debit(&mut self, account: u32, amount: u64) {
+        self.balances[account as usize - 1] -= amount;
+        self.total -= amount;
+    }
+}
+
+pub struct Verdicts {
+    verdicts: [Verdict; BATCH_LIMIT],
+    count: usize,
+}
+
+impl Verdicts {
+    pub fn as_slice(&self) -> &[Verdict] {
+        &self.verdicts[..self.count]
+    }
+}
+
+/// Balances written over those of a ledger, as many as one batch may change.
+struct Scratch<'a> {
+    balances: &'a [u64],
+    total: u64,
+    changes: [(usize, u64); 2 * BATCH_LIMIT],
+    count: usize,
+}
+
+impl Scratch<'_> {
+    fn over(ledger: &Ledger) -> Scratch<'_> {
+        Scratch {
+            balances: &ledger.balances,
+            total: ledger.total,
+            changes: [(0, 0); 2 * BATCH_LIMIT],
+            count: 0,
+        }
+    }
+
+    fn change(&mut self, account: u32, balance: u64) {
+        self.changes[self.count] = (account as usize - 1, balance);
+        self.count += 1;
+    }
+}
+
+impl Accounts for Scratch<'_> {
+    fn held_by(&self, account: u32) -> u64 {
+        let place = account as usize - 1;
+        let mut balance = self.balances[place];
+        for change in &self.changes[..self.count] {
+            if change.0 == place {
+                balance = change.1;
+            }
+        }
+        balance
+    }
+
+    fn held_by_all(&self) -> u64 {
+        self.total
+    }
+
+    fn credit(&mut self, account: u32, amount: u64) {
+        self.change(account, self.held_by(account) + amount);
+        self.total += amount;
+    }
+
+    fn debit(&mut self, account: u32, amount: u64) {
+        self.change(account, self.held_by(account) - amount);
+        self.total -= amount;
+    }
+}

@@ -1,0 +1,61 @@
+"""Durable batches on a file that has its length and an empty journal already."""
+import os
+import subprocess
+
+import scripts
+from runs import Work, require_same
+from table import Aim
+
+BATCHES = 1_000
+
+# How many times as many rounds as other works have. The speed of a disk changes from one second to the next, so runs
+# are short and many, and each is compared with the one beside it.
+TIMES = 6
+
+
+def formatted(program, path):
+    """Makes a file with the program, and an empty journal in it."""
+    def prepare():
+        path.unlink(missing_ok=True)
+        words = [program, "--device", path, "--sectors", str(2 * BATCHES + 1)]
+        subprocess.run(words, input=f"format {BATCHES}\n".encode(), stdout=subprocess.DEVNULL, check=True)
+    return prepare
+
+
+def zeros(path):
+    """Makes a file of zeros of the same length, on the disk."""
+    def prepare():
+        with open(path, "wb") as file:
+            file.write(bytes(512 * (2 * BATCHES + 1)))
+            file.flush()
+            os.fsync(file.fileno())
+    return prepare
+
+
+def on_file(folder, program, entries):
+    """The work of a console with so many entries in each batch, and its file."""
+    script = scripts.write(folder / f"batches {entries}", scripts.turns(BATCHES, entries))
+    path = folder / f"{program} {entries}.ledger"
+    return Work([folder / program, "--device", path], script, formatted(folder / program, path)), path
+
+
+def measure(runs, ratios, memory):
+    folder = runs.folder
+    floor = folder / "floor.ledger"
+    works = {"floor": Work([folder / "floor", floor, str(BATCHES)], prepare=zeros(floor))}
+    pairs, files = [], []
+    for entries in (15, 1):
+        proved, proved_file = on_file(folder, "proved", entries)
+        plain, plain_file = on_file(folder, "plain", entries)
+        works |= {f"proved {entries}": proved, f"plain {entries}": plain}
+        pairs.append((f"proved {entries}", f"plain {entries}"))
+        files.append((proved_file, plain_file))
+    times = runs.taking_turns(works, pairs, TIMES)
+    for one, other in files:
+        require_same(one, other)
+    for entries in (15, 1):
+        work = f"durable batches, {entries} a batch"
+        proved, plain = times[f"proved {entries}"], times[f"plain {entries}"]
+        ratios.paired_speed(work, BATCHES, proved, "plain Rust", plain, Aim(least=0.95))
+        ratios.paired_speed(work, BATCHES, proved, "C floor", times["floor"], Aim(least=0.85))
+        memory.add(f"{BATCHES:,} {work}", proved, plain, f"C floor {times['floor'].megabytes()}")

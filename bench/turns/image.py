@@ -1,0 +1,53 @@
+"""Writes a ledger's file as it stands after many turns, by the layout alone, and tells what it holds."""
+import random
+import struct
+
+SECTOR = 512
+PLACES = 15
+PAYLOADS = 64
+
+
+def place(kind, source, target, amount, reference):
+    return struct.pack(">B3xIIIQQ", kind, source, target, 0, amount, reference)
+
+
+def payload(words):
+    """Fifteen entries that take only what some of them brought, and what they change in each account."""
+    places, changes = [], {}
+    for reference in range(0, PLACES, 3):
+        account, other = words.sample(range(1, 65), 2)
+        brought = words.randint(3, 999)
+        moved, taken = words.randint(1, brought - 2), 1
+        places.append(place(1, 0, account, brought, reference))
+        places.append(place(3, account, other, moved, reference + 1))
+        places.append(place(2, account, 0, taken, reference + 2))
+        changes[account] = changes.get(account, 0) + brought - moved - taken
+        changes[other] = changes.get(other, 0) + moved
+    return b"".join(places), changes
+
+
+def balances(payloads, batches):
+    """What each account holds after so many batches, which take the payloads in turns."""
+    held = dict.fromkeys(range(1, 65), 0)
+    for number, (_, changes) in enumerate(payloads):
+        times = len(range(number, batches, len(payloads)))
+        for account, change in changes.items():
+            held[account] += times * change
+    return held
+
+
+def write(path, batches):
+    """Writes the file, and gives the lines that `open 3 000 100` and `balances` print on it."""
+    words = random.Random(1)
+    payloads = [payload(words) for _ in range(PAYLOADS)]
+    gate = b"\xa5" + bytes(SECTOR - 1)
+    with open(path, "wb") as file:
+        file.write(struct.pack(">4sHHQ", b"TLDG", 1, 0, batches) + bytes(SECTOR - 16))
+        for slot in range(batches):
+            header = struct.pack(">4sHHQ16x", b"TLB1", (0, 1, 2, 1)[slot % 4], PLACES, slot)
+            file.write(header + payloads[slot % PAYLOADS][0] + gate)
+    held = balances(payloads, batches)
+    total = sum(held.values())
+    lines = [f"opened 3 next {batches} total {total}"]
+    lines += [f"account {account} {balance}" for account, balance in held.items() if balance]
+    return lines + [f"total {total}"]

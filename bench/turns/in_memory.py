@@ -1,0 +1,20 @@
+"""Turns on the device in memory."""
+import scripts
+from runs import Work
+from table import Aim
+
+TURNS = {15: 30_000, 1: 100_000}
+
+
+def measure(runs, entries, ratios, memory):
+    """Turns with so many entries each."""
+    count, folder = TURNS[entries], runs.folder
+    script = scripts.write(folder / "turns", scripts.in_memory(count, entries))
+    sectors = ["--sectors", str(2 * count + 1)]
+    times = runs.taking_turns({
+        "proved": Work([folder / "proved", *sectors], script),
+        "plain": Work([folder / "plain", *sectors], script),
+    }, [("proved", "plain")])
+    work = f"turns in memory, {entries} a batch"
+    ratios.speed(work, count, times["proved"], "plain Rust", times["plain"], Aim(least=0.8))
+    memory.add(f"{count:,} {work}", times["proved"], times["plain"])
