@@ -48,10 +48,10 @@ fn run_lines<W: Write, D: PowerLoss + Drop>(
     for text in Lines::of(script) {
         line = line.saturating_add(1);
         let command = match read_command(text, line) {
-            Ok(Some(command)) => command,
-            Ok(None) => continue,
+            Ok(command) => command,
             Err(cause) => return Err(ScriptFault::Line { line, cause }),
         };
+        let Some(command) = command else { continue };
         match command {
             Command::Format { slots } => session.format(slots, output)?,
             Command::Open { stations, x, up } => {
