@@ -29,7 +29,7 @@ def main():
     durable.measure(runs, ratios, memory)
     opening.measure(runs, ratios, memory)
     print(f"taking turns: the best of {rounds} runs; of durable batches the median of {durable.TIMES * rounds}")
-    print(f"files on {filesystem(folder)}; the opened file is in the page cache")
+    print(f"files on {filesystem(folder)}")
     print("what proved and plain print, and the files that they leave, are equal byte for byte,")
     print(f"here and on {same.SCRIPTS} random scripts in memory and on a file")
     print()

@@ -1,4 +1,5 @@
-"""The opening of a long file, which the page cache holds."""
+"""The opening of a long file, which the page cache holds, and of the same file from the disk."""
+import os
 import sys
 
 import image
@@ -9,19 +10,35 @@ from table import Aim
 BATCHES = 100_000
 
 
-def measure(runs, ratios, memory):
+def forget(path):
+    """Makes the system drop what it holds of the file, so that it is read from the disk."""
+    def prepare():
+        with open(path, "rb") as file:
+            os.fsync(file.fileno())
+            os.posix_fadvise(file.fileno(), 0, 0, os.POSIX_FADV_DONTNEED)
+    return prepare
+
+
+def taking_turns(runs, path, prepare, wanted):
+    """The times of one read and of both consoles, which have to find these lines."""
     folder = runs.folder
-    path = folder / "opened.ledger"
-    wanted = image.write(path, BATCHES)
     script = scripts.write(folder / "opening", ["open 3 000 100", "balances"])
     times = runs.taking_turns({
-        "one read": Work([folder / "read_once", path]),
-        "proved": Work([folder / "proved", "--device", path], script),
-        "plain": Work([folder / "plain", "--device", path], script),
+        "one read": Work([folder / "read_once", path], prepare=prepare),
+        "proved": Work([folder / "proved", "--device", path], script, prepare),
+        "plain": Work([folder / "plain", "--device", path], script, prepare),
     }, [("proved", "plain")])
     if runs.answers("proved").read_text().splitlines() != wanted:
         sys.exit("the opened ledger holds something else than the file")
-    work, proved = f"opening {BATCHES:,} batches of 15", times["proved"]
-    ratios.time(work, proved, "one read", times["one read"], Aim(most=2.2))
-    ratios.time(work, proved, "plain Rust", times["plain"], None)
-    memory.add(work, proved, times["plain"], f"one read {times['one read'].megabytes()}")
+    return times
+
+
+def measure(runs, ratios, memory):
+    path = runs.folder / "opened.ledger"
+    wanted = image.write(path, BATCHES)
+    work = f"opening {BATCHES:,} batches of 15"
+    for told, prepare in ((f"{work}, from the disk", forget(path)), (f"{work}, from the page cache", None)):
+        times = taking_turns(runs, path, prepare, wanted)
+        ratios.time(told, times["proved"], "one read", times["one read"], Aim(most=2.2))
+        ratios.time(told, times["proved"], "plain Rust", times["plain"], None)
+    memory.add(work, times["proved"], times["plain"], f"one read {times['one read'].megabytes()}")
