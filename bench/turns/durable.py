@@ -56,6 +56,6 @@ def measure(runs, ratios, memory):
     for entries in (15, 1):
         work = f"durable batches, {entries} a batch"
         proved, plain = times[f"proved {entries}"], times[f"plain {entries}"]
-        ratios.paired_speed(work, BATCHES, proved, "plain Rust", plain, Aim(least=0.95))
-        ratios.paired_speed(work, BATCHES, proved, "C floor", times["floor"], Aim(least=0.85))
+        ratios.speed(work, BATCHES, proved, "plain Rust", plain, Aim(least=0.95))
+        ratios.speed(work, BATCHES, proved, "C floor", times["floor"], Aim(least=0.85))
         memory.add(f"{BATCHES:,} {work}", proved, plain, f"C floor {times['floor'].megabytes()}")

@@ -5,6 +5,9 @@ from table import Aim
 
 TURNS = {15: 30_000, 1: 100_000}
 
+# How many times as many rounds as other works have, since the runs are short.
+TIMES = 3
+
 
 def measure(runs, entries, ratios, memory):
     """Turns with so many entries each."""
@@ -14,7 +17,7 @@ def measure(runs, entries, ratios, memory):
     times = runs.taking_turns({
         "proved": Work([folder / "proved", *sectors], script),
         "plain": Work([folder / "plain", *sectors], script),
-    }, [("proved", "plain")])
+    }, [("proved", "plain")], TIMES)
     work = f"turns in memory, {entries} a batch"
     ratios.speed(work, count, times["proved"], "plain Rust", times["plain"], Aim(least=0.8))
     memory.add(f"{count:,} {work}", times["proved"], times["plain"])

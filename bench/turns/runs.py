@@ -17,9 +17,6 @@ class Times:
         self.seconds.append(seconds)
         self.kilobytes = max(self.kilobytes, kilobytes)
 
-    def best(self):
-        return min(self.seconds)
-
     def median(self):
         return statistics.median(self.seconds)
 

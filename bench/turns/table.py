@@ -31,24 +31,24 @@ def milliseconds(seconds):
     return f"{1000 * seconds:,.1f} ms"
 
 
+def median_ratio(one, other):
+    """The median of the ratios of the runs beside each other, since a shared machine changes its speed."""
+    return statistics.median(first / second for first, second in zip(one.seconds, other.seconds))
+
+
 class Ratios:
     def __init__(self):
         self.rows = [("work", "proved", "beside", "ratio", "aim", "")]
 
     def speed(self, work, count, proved, name, other, aim):
-        """Work done per second in the best run, beside another program's."""
-        ratio = other.best() / proved.best()
-        self.add(work, per_second(count, proved.best()), f"{name} {per_second(count, other.best())}", ratio, aim)
-
-    def paired_speed(self, work, count, proved, name, other, aim):
-        """The same by the median run, with the median of the ratios of the runs beside each other."""
-        ratio = statistics.median(one / two for one, two in zip(other.seconds, proved.seconds))
-        self.add(work, per_second(count, proved.median()), f"{name} {per_second(count, other.median())}", ratio, aim)
+        """Work done per second in the median run, beside another program's."""
+        beside = f"{name} {per_second(count, other.median())}"
+        self.add(work, per_second(count, proved.median()), beside, median_ratio(other, proved), aim)
 
     def time(self, work, proved, name, other, aim):
-        """The time that a work takes in the best run, beside another program's."""
-        ratio = proved.best() / other.best()
-        self.add(work, milliseconds(proved.best()), f"{name} {milliseconds(other.best())}", ratio, aim)
+        """The time that a work takes in the median run, beside another program's."""
+        beside = f"{name} {milliseconds(other.median())}"
+        self.add(work, milliseconds(proved.median()), beside, median_ratio(proved, other), aim)
 
     def add(self, work, proved, beside, ratio, aim):
         verdict = "" if aim is None else "met" if aim.is_met(ratio) else "missed"
