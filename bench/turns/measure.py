@@ -28,7 +28,8 @@ def main():
     in_memory.measure(runs, 1, ratios, memory)
     durable.measure(runs, ratios, memory)
     opening.measure(runs, ratios, memory)
-    print(f"taking turns: medians of {rounds} runs, {in_memory.TIMES * rounds} in memory, {durable.TIMES * rounds} of durable batches")
+    memory_runs, durable_runs = in_memory.TIMES * rounds, durable.TIMES * rounds
+    print(f"taking turns: medians of {rounds} runs, {memory_runs} in memory, {durable_runs} of durable batches")
     print(f"files on {filesystem(folder)}")
     print("what proved and plain print, and the files that they leave, are equal byte for byte,")
     print(f"here and on {same.SCRIPTS} random scripts in memory and on a file")
