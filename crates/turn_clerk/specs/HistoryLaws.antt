@@ -1,7 +1,7 @@
 -- Laws of histories that the crates above may cite: what one turn more adds.
 use Rattle.std.specs.Prelude.{◌≡◌, ◌+◌, ◌<◌, List, [], ◌∷◌, ◌++◌, length, take, Some, slice_get}
 use Rattle.std.proofs.Common.{refl, sym, ◌∙◌, ap, subst, arith, inl, inr}
-use Rattle.std.proofs.lemmas.List.{map-append, take-append-le, take_all, length_push, get_or_push, get_or_append_left}
+use Rattle.std.proofs.lemmas.List.{append-nil, map-append, take-append-le, take_all, length_push, get_or_push, get_or_append_left}
 use Rattle.std.proofs.lemmas.Grind.{flat_map-append}
 use Rattle.std.proofs.lemmas.Option.{slice_get_within, get_or_from_slice_get, slice_get-get_or}
 use Rattle.std.proofs.lemmas.Bool.{cases_eq}
@@ -19,11 +19,6 @@ use Rattle.journal_recovery.specs.RecoveryLaws.{state_after-append}
 use Rattle.turn_clerk.specs.declared.turns.Turn.{Turn}
 use Rattle.turn_clerk.specs.Turn.{accepted_of, as_batch, IsTurn}
 use Rattle.turn_clerk.specs.History.{move_of, moves_of, batches_of, line_after, state_after_turns, IsTurnAt, IsLegal}
-
--- nothing more
-append_nothing : {A : Type 0} (xs : List A) → xs ++ [] ≡ xs
-append_nothing [] = refl
-append_nothing (x ∷ xs) = ap (λ (ys : _). x ∷ ys) (append_nothing xs)
 
 -- one batch has its entries
 pub entries_of-as_batch : (batch : List Entry) → entries_of (as_batch batch) ≡ batch
@@ -52,7 +47,7 @@ moves_of-push turns turn = map-append move_of turns (turn ∷ [])
 pub batches_of-push : (turns : List Turn) (turn : Turn) → batches_of (turns ++ turn ∷ []) ≡ batches_of turns ++ as_batch (accepted_of turn)
 batches_of-push turns turn =
     flat_map-append (λ (t : Turn). as_batch (accepted_of t)) turns (turn ∷ [])
-    ∙ ap (λ (more : List (List Entry)). batches_of turns ++ more) (append_nothing (as_batch (accepted_of turn)))
+    ∙ ap (λ (more : List (List Entry)). batches_of turns ++ more) (append-nil (as_batch (accepted_of turn)))
 
 pub line_after-push : (line : Configuration) (turns : List Turn) (turn : Turn) → line_after line (turns ++ turn ∷ []) ≡ next (line_after line turns) (move_of turn)
 line_after-push line turns turn = ap (after line) (moves_of-push turns turn) ∙ after-push (moves_of turns) (move_of turn) line
