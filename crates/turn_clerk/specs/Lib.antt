@@ -7,3 +7,4 @@ pub mod Reply
 pub mod Opened
 pub mod Answered
 pub mod Journaled
+pub mod View
