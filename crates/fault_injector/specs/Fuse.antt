@@ -66,6 +66,10 @@ with_failures state failures = record {
   faults = state.faults + failures;
 }
 
+-- what is to be known of a fuse as a device
+abbrev pub fuse_state : {D : Type 0} → (D → DeviceState) → FuseState D → DeviceState
+fuse_state state fuse = with_failures (state fuse.inner) fuse.failures
+
 -- failures are nothing that a crash depends on
 pub sound_with_failures : (state : DeviceState) (failures : ℕ) → IsSound state → IsSound (with_failures state failures)
 sound_with_failures state failures sound = record {

@@ -2,7 +2,7 @@ ghost use Rattle.std.specs.Prelude.{◌≡◌, ◌⊎◌, ◌+◌, ◌<◌, ◌�
 ghost use Rattle.sector_device.specs.Image.{sector_at, with_sector};
 ghost use Rattle.sector_device.specs.Device.{IsCall, HasCause};
 ghost use Rattle.sector_device.specs.Crash.{IsSame, IsTorn, IsDurable};
-ghost use Rattle.fault_injector.specs.Fuse.{FuseState, Counts, Fails, HasCounted, with_failures, sound_with_failures};
+ghost use Rattle.fault_injector.specs.Fuse.{FuseState, Counts, Fails, HasCounted, fuse_state, sound_with_failures};
 
 use crate::op::Op;
 use sector_device::{Device, DeviceFault, Sector};
@@ -72,7 +72,7 @@ impl<D: Device> Fuse<D> {
 }
 
 impl<D: Device> Device for Fuse<D> {
-    ghost state = { λ f. with_failures (D.state f.inner) f.failures };
+    ghost state = { fuse_state D.state };
 
     fn sectors(&self) -> u64 {
         self.inner.sectors()
@@ -80,9 +80,11 @@ impl<D: Device> Device for Fuse<D> {
 
     fn read(&mut self, at: u64, into: &mut Sector) -> Result<(), DeviceFault>
         requires { at < length (D.state self.old.inner).reads }
-        ensures call { IsCall (with_failures (D.state self.old.inner) self.old.failures) (with_failures (D.state self.new.inner) self.new.failures) (IsErr result) }
-        ensures same { (D.state self.old.inner).honest → IsSame (with_failures (D.state self.old.inner) self.old.failures) (with_failures (D.state self.new.inner) self.new.failures) }
-        ensures bytes { (D.state self.old.inner).honest → OnOk result (into.new ≡ sector_at (D.state self.old.inner).reads at) }
+        ensures call { IsCall (fuse_state D.state self.old) (fuse_state D.state self.new) (IsErr result) }
+        ensures same { (D.state self.old.inner).honest
+            → IsSame (fuse_state D.state self.old) (fuse_state D.state self.new) }
+        ensures bytes { (D.state self.old.inner).honest
+            → OnOk result (into.new ≡ sector_at (D.state self.old.inner).reads at) }
         ensures counted { HasCounted self.old self.new Op.Read }
         ensures fails { Fails self.old Op.Read → IsErr result }
         ensures unreached { Fails self.old Op.Read → self.new.inner ≡ self.old.inner }
@@ -96,9 +98,11 @@ impl<D: Device> Device for Fuse<D> {
 
     fn write(&mut self, at: u64, from: &Sector) -> Result<(), DeviceFault>
         requires { at < length (D.state self.old.inner).reads }
-        ensures call { IsCall (with_failures (D.state self.old.inner) self.old.failures) (with_failures (D.state self.new.inner) self.new.failures) (IsErr result) }
-        ensures torn { (D.state self.old.inner).honest → IsTorn at (with_failures (D.state self.old.inner) self.old.failures) (with_failures (D.state self.new.inner) self.new.failures) }
-        ensures written { (D.state self.old.inner).honest → OnOk result ((D.state self.new.inner).reads ≡ with_sector (D.state self.old.inner).reads at from.now) }
+        ensures call { IsCall (fuse_state D.state self.old) (fuse_state D.state self.new) (IsErr result) }
+        ensures torn { (D.state self.old.inner).honest
+            → IsTorn at (fuse_state D.state self.old) (fuse_state D.state self.new) }
+        ensures written { (D.state self.old.inner).honest
+            → OnOk result ((D.state self.new.inner).reads ≡ with_sector (D.state self.old.inner).reads at from.now) }
         ensures counted { HasCounted self.old self.new Op.Write }
         ensures fails { Fails self.old Op.Write → IsErr result }
         ensures unreached { Fails self.old Op.Write → self.new.inner ≡ self.old.inner }
@@ -111,9 +115,11 @@ impl<D: Device> Device for Fuse<D> {
     }
 
     fn sync(&mut self) -> Result<(), DeviceFault>
-        ensures call { IsCall (with_failures (D.state self.old.inner) self.old.failures) (with_failures (D.state self.new.inner) self.new.failures) (IsErr result) }
-        ensures same { (D.state self.old.inner).honest → IsSame (with_failures (D.state self.old.inner) self.old.failures) (with_failures (D.state self.new.inner) self.new.failures) }
-        ensures durable { (D.state self.old.inner).honest → OnOk result (IsDurable (with_failures (D.state self.new.inner) self.new.failures)) }
+        ensures call { IsCall (fuse_state D.state self.old) (fuse_state D.state self.new) (IsErr result) }
+        ensures same { (D.state self.old.inner).honest
+            → IsSame (fuse_state D.state self.old) (fuse_state D.state self.new) }
+        ensures durable { (D.state self.old.inner).honest
+            → OnOk result (IsDurable (fuse_state D.state self.new)) }
         ensures counted { HasCounted self.old self.new Op.Sync }
         ensures fails { Fails self.old Op.Sync → IsErr result }
         ensures unreached { Fails self.old Op.Sync → self.new.inner ≡ self.old.inner }

@@ -11,7 +11,8 @@ use gate_journal::one_reading;
 /// device exactly where what reads give recovers to a state, want of memory and device faults apart.
 pub fn one_recovery()
     ensures state { (image : Image) (s t : State) → RecoversTo s image → RecoversTo t image → s ≡ t }
-    ensures refused { (image : Image) (s : State) (refusal : OpenRefusal) → RecoversTo s image → IsUnrecoverable image refusal → ⊥ }
+    ensures refused { (image : Image) (s : State) (refusal : OpenRefusal)
+        → RecoversTo s image → IsUnrecoverable image refusal → ⊥ }
     ensures refusals { (image : Image) (a b : OpenRefusal) → IsUnrecoverable image a → IsUnrecoverable image b → a ≡ b }
 {
     one_reading();

@@ -39,14 +39,16 @@ pub trait Device {
         requires { at < length (state self.old).reads }
         ensures call { IsCall (state self.old) (state self.new) (IsErr result) }
         ensures same { (state self.old).honest → IsSame (state self.old) (state self.new) }
-        ensures bytes { (state self.old).honest → OnOk result (into.new ≡ sector_at (state self.old).reads at) };
+        ensures bytes { (state self.old).honest
+            → OnOk result (into.new ≡ sector_at (state self.old).reads at) };
 
     /// Writes a sector. After a fault it reads as some 512 bytes, the same ones until it is written again.
     fn write(&mut self, at: u64, from: &Sector) -> Result<(), DeviceFault>
         requires { at < length (state self.old).reads }
         ensures call { IsCall (state self.old) (state self.new) (IsErr result) }
         ensures torn { (state self.old).honest → IsTorn at (state self.old) (state self.new) }
-        ensures written { (state self.old).honest → OnOk result ((state self.new).reads ≡ with_sector (state self.old).reads at from.now) };
+        ensures written { (state self.old).honest
+            → OnOk result ((state self.new).reads ≡ with_sector (state self.old).reads at from.now) };
 
     /// Makes all that was written durable. After a fault what was pending still is.
     fn sync(&mut self) -> Result<(), DeviceFault>

@@ -75,7 +75,8 @@ impl MemoryDevice {
     // Adds an entry to the record, or counts a failure where it can't grow.
     fn record(&mut self, call: Call) -> Result<(), DeviceFault>
         ensures sectors { self.new.sectors.items ≡ self.old.sectors.items }
-        ensures ok { OnOk result ((calls_of self.new ≡ call ∷ calls_of self.old) × (self.new.faults ≡ self.old.faults)) }
+        ensures ok { OnOk result ((calls_of self.new ≡ call ∷ calls_of self.old)
+                × (self.new.faults ≡ self.old.faults)) }
         ensures err { OnErr result (calls_of self.new ≡ calls_of self.old) }
         ensures cause { HasCause self.old.faults self.new.faults (IsErr result) }
         ensures count { self.old.faults ≤ self.new.faults }
@@ -139,7 +140,8 @@ impl Device for MemoryDevice {
         requires { at < length (state_of self.old).reads }
         ensures call { IsCall (state_of self.old) (state_of self.new) (IsErr result) }
         ensures same { (state_of self.old).honest → IsSame (state_of self.old) (state_of self.new) }
-        ensures bytes { (state_of self.old).honest → OnOk result (into.new ≡ sector_at (state_of self.old).reads at) }
+        ensures bytes { (state_of self.old).honest
+            → OnOk result (into.new ≡ sector_at (state_of self.old).reads at) }
         ensures never_fails { IsOk result }
         ensures pending { (sector : ℕ) → IsPendingIn self.new sector ↔ IsPendingIn self.old sector }
     {
@@ -151,8 +153,10 @@ impl Device for MemoryDevice {
         requires { at < length (state_of self.old).reads }
         ensures call { IsCall (state_of self.old) (state_of self.new) (IsErr result) }
         ensures torn { (state_of self.old).honest → IsTorn at (state_of self.old) (state_of self.new) }
-        ensures written { (state_of self.old).honest → OnOk result ((state_of self.new).reads ≡ with_sector (state_of self.old).reads at from.now) }
-        ensures pending { OnOk result ((sector : ℕ) → IsPendingIn self.new sector ↔ ((at ≡ sector) ⊎ IsPendingIn self.old sector)) }
+        ensures written { (state_of self.old).honest
+            → OnOk result ((state_of self.new).reads ≡ with_sector (state_of self.old).reads at from.now) }
+        ensures pending { OnOk result ((sector : ℕ) → IsPendingIn self.new sector
+                ↔ ((at ≡ sector) ⊎ IsPendingIn self.old sector)) }
         ensures unwritten { OnErr result ((state_of self.new).reads ≡ (state_of self.old).reads) }
         ensures not_pending { OnErr result ((sector : ℕ) → IsPendingIn self.new sector ↔ IsPendingIn self.old sector) }
     {

@@ -92,14 +92,22 @@ LeavesState state clerk = (image : Image) → (state clerk.journal.device).may_l
 abbrev pub LeavesPrefix : {D : Type 0} → (D → DeviceState) → ClerkState D → ClerkState D → Type 0
 LeavesPrefix state old new = LeavesOnly (state old.journal.device) (state new.journal.device) (RecoversToPrefix (opening_state old) (accepted_batches new) (length (batches_of old.history)))
 
+-- each image that a crash now leaves recovers to the ledger of a prefix of the accepted batches, with every acknowledged one
+abbrev pub LeavesAcknowledged : {D : Type 0} → (D → DeviceState) → ClerkState D → Type 0
+LeavesAcknowledged state clerk = (image : Image) → (state clerk.journal.device).may_leave image → RecoversToPrefix (opening_state clerk) (accepted_batches clerk) (length (batches_of clerk.history)) image
+
+-- each image that a crash left at any moment since the opening recovers to the ledger of a prefix of the accepted batches
+abbrev pub LeftPrefixEver : {D : Type 0} → (D → DeviceState) → ClerkState D → Type 0
+LeftPrefixEver state clerk = LeavesOnly (state clerk.opening.journal.device) (state clerk.journal.device) (RecoversToPrefix (opening_state clerk) (accepted_batches clerk) 0)
+
 -- At rest, on an honest device.
 pub record IsAtRest {D : Type 0} (state : D → DeviceState) (clerk : ClerkState D) : Type 0 where
   -- a journal that works holds the present state
   pub holds : clerk.journal.faulted ≡ false → HoldsState state clerk.journal (state_of clerk)
   -- a crash now leaves a prefix of the accepted batches with all those of the turns taken
-  pub now : (image : Image) → (state clerk.journal.device).may_leave image → RecoversToPrefix (opening_state clerk) (accepted_batches clerk) (length (batches_of clerk.history)) image
+  pub now : LeavesAcknowledged state clerk
   -- a crash at any moment since the opening left a prefix of the accepted batches
-  pub ever : LeavesOnly (state clerk.opening.journal.device) (state clerk.journal.device) (RecoversToPrefix (opening_state clerk) (accepted_batches clerk) 0)
+  pub ever : LeftPrefixEver state clerk
 
 -- What holds of every clerk.
 pub record IsClerk {D : Type 0} (state : D → DeviceState) (clerk : ClerkState D) : Type 0 where

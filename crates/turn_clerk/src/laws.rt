@@ -11,7 +11,8 @@ use journal_recovery::one_recovery;
 /// Two lives of a device, one after the other: where a crash left an image that recovers to the ledger of a prefix of
 /// the first life's batches, the state that the second life finds in it is the state after that prefix.
 pub fn lives_join()
-    ensures { (image : Image) (opened found : State) (batches : List (List Entry)) (least : ℕ) → (prefix : RecoversToPrefix opened batches least image)
+    ensures { (image : Image) (opened found : State) (batches : List (List Entry)) (least : ℕ)
+        → (prefix : RecoversToPrefix opened batches least image)
         → RecoversTo found image → found ≡ state_after opened (take prefix.count batches) }
 {
     one_recovery();
