@@ -8,3 +8,6 @@ pub const TOTAL_LIMIT: u64 = 1_000_000_000_000_000_000;
 
 /// The most entries of one batch.
 pub const BATCH_LIMIT: usize = 15;
+
+/// The bytes in which an entry is written.
+pub const ENTRY_BYTES: usize = 32;
