@@ -1,10 +1,10 @@
 -- Laws of histories that the crates above may cite: what one turn more adds.
-use Rattle.std.specs.Prelude.{◌≡◌, ◌+◌, ◌<◌, List, [], ◌∷◌, ◌++◌, length, take, Some, slice_get}
-use Rattle.std.proofs.Common.{refl, sym, ◌∙◌, ap, subst, arith, inl, inr}
-use Rattle.std.proofs.lemmas.List.{append-nil, map-append, take-append-le, take_all, length_push, get_or_push, get_or_append_left}
+use Rattle.std.specs.Prelude.{◌≡◌, ◌+◌, List, [], ◌∷◌, ◌++◌, length}
+use Rattle.std.proofs.Common.{refl, sym, ◌∙◌, ap, subst, arith}
+use Rattle.std.proofs.lemmas.List.{append-nil, map-append, take-append-le, take_all}
 use Rattle.std.proofs.lemmas.Grind.{flat_map-append}
-use Rattle.std.proofs.lemmas.Option.{slice_get_within, get_or_from_slice_get, slice_get-get_or}
-use Rattle.std.proofs.lemmas.Bool.{cases_eq}
+use Rattle.std.proofs.lemmas.Option.{slice_get_within}
+use Rattle.gate_journal.specs.OneMore.{each_there}
 use Rattle.four_state.specs.Configuration.{Configuration}
 use Rattle.sweep_auditor.specs.Run.{next, after}
 use Rattle.sweep_auditor.specs.RunLaws.{after-push}
@@ -76,26 +76,19 @@ IsLegal-none line state = record { each = λ place turn there. absurd (omega (ar
 pub IsLegal-push : (line : Configuration) (state : State) (turns : List Turn) (turn : Turn) → IsLegal line state turns → turn.index ≡ length turns
     → IsTurn (line_after line turns) (state_after_turns state turns) turn → IsLegal line state (turns ++ turn ∷ [])
 IsLegal-push line state turns turn legal index taken = record {
-  each = λ place t there. elim (cases_eq place (length turns)) [
-    | inl here ↦
-        let same : turn ≡ t =
-        sym (get_or_push turns turn turn place (sym here)) ∙ get_or_from_slice_get (turns ++ turn ∷ []) place t turn there in
-        let front : take place (turns ++ turn ∷ []) ≡ turns =
-        take-append-le place turns (turn ∷ []) (omega (arith, here)) ∙ take_all place turns (omega (arith, here)) in
-        subst (λ (u : Turn). IsTurnAt line state (turns ++ turn ∷ []) place u) same
-        (record {
-          index = index ∙ sym here;
-          taken = subst (λ (ts : List Turn). IsTurn (line_after line ts) (state_after_turns state ts) turn) (sym front) taken;
-        })
-    | inr differs ↦
-        let inside : place < length turns = omega (arith, differs, slice_get_within (turns ++ turn ∷ []) place t there, length_push turns turn) in
-        let old : slice_get turns place ≡ Some t =
-        slice_get-get_or turns place turn inside
-        ∙ ap (λ (u : Turn). Some u) (sym (get_or_append_left turns (turn ∷ []) turn place inside) ∙ get_or_from_slice_get (turns ++ turn ∷ []) place t turn there) in
-        let was = legal.each place t old in
-        record {
-          index = was.index;
-          taken = subst (λ (ts : List Turn). IsTurn (line_after line ts) (state_after_turns state ts) t) (sym (take-append-le place turns (turn ∷ []) (omega (arith, inside)))) was.taken;
-        }
-  ];
+  each =
+      each_there (IsTurnAt line state (turns ++ turn ∷ [])) turns turn
+      (λ place t there.
+      let was = legal.each place t there in
+      let front = take-append-le place turns (turn ∷ []) (omega (arith, slice_get_within turns place t there)) in
+      record {
+        index = was.index;
+        taken = subst (λ (ts : List Turn). IsTurn (line_after line ts) (state_after_turns state ts) t) (sym front) was.taken;
+      })
+      (record {
+        index = index;
+        taken =
+            subst (λ (ts : List Turn). IsTurn (line_after line ts) (state_after_turns state ts) turn)
+            (sym (take-append-le (length turns) turns (turn ∷ []) (omega arith) ∙ take_all (length turns) turns (omega arith))) taken;
+      });
 }
