@@ -37,9 +37,11 @@ impl Model for FileDevice {
 }
 
 impl FileDevice {
-    /// Opens the file, and makes it where it isn't there. Where it has fewer sectors than these, zero sectors are written
-    /// at its end until it has them; one that is longer stays as it is. Then it is synced, and the folder that it lies in.
-    /// Nobody else may write the file while the device is in use.
+    /// Opens the file, makes it where it isn't there, and locks it for as long as the device has it. Where it has fewer
+    /// sectors than these, zero sectors are written at its end until it has them; one that is longer stays as it is. Then
+    /// it is synced, and the folder that it lies in, unless that may not be read and the file was there.
+    ///
+    /// The lock keeps out those alone who ask for it too: nobody else may write the file while the device is in use.
     pub fn open<R: Files<File = File>>(
         rt: &R,
         alloc: Global,

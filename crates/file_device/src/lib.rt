@@ -7,6 +7,7 @@
 
 mod buffer;
 mod device;
+mod growth;
 mod opening;
 mod read_ahead;
 mod read_run;
