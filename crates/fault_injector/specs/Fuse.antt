@@ -1,5 +1,5 @@
 -- A device that fails from one call on.
-use Rattle.std.specs.Prelude.{◌≡◌, ◌⊎◌, ◌+◌, ◌<◌, ℕ, Bool, true, false, min, List, length}
+use Rattle.std.specs.Prelude.{◌≡◌, ◌⊎◌, ◌↔◌, ◌+◌, ◌-◌, ◌^◌, ℕ, Bool, true, min}
 use Rattle.sector_device.specs.Device.{DeviceState, IsSound}
 use Rattle.fault_injector.specs.declared.op.Op.{Op}
 use Rattle.fault_injector.specs.declared.op.Op.TheVariants.{Any, Read, Write, Sync}
@@ -36,6 +36,24 @@ Counts Sync Write = ⊥
 -- the next call of that kind fails without reaching the inner device
 abbrev pub Fails : {D : Type 0} → FuseState D → Op → Type 0
 Fails fuse call = (fuse.blown ≡ true) ⊎ (Counts fuse.op call × (fuse.calls ≡ fuse.at))
+
+-- a count of 64 bits that goes up by one, and stands at its greatest value
+abbrev pub one_more : ℕ → ℕ
+one_more count = min (count + 1) (2 ^ 64 - 1)
+
+-- What a call of this kind makes of the fuse itself, whatever the inner device answers.
+pub record HasCounted {D : Type 0} (old new : FuseState D) (call : Op) : Type 0 where
+  -- it waits for the same call
+  pub op : new.op ≡ old.op
+  pub at : new.at ≡ old.at
+  -- it is blown afterwards exactly where it was, or where it failed this call: a fault of the inner device doesn't blow it
+  pub blown : (new.blown ≡ true) ↔ Fails old call
+  -- calls of its kind are counted, and no others
+  pub counted : Counts old.op call → new.calls ≡ one_more old.calls
+  pub not_counted : (Counts old.op call → ⊥) → new.calls ≡ old.calls
+  -- so are the calls that it failed
+  pub failed : Fails old call → new.failures ≡ one_more old.failures
+  pub not_failed : (Fails old call → ⊥) → new.failures ≡ old.failures
 
 -- the inner device's state, with the fuse's own failures among the failures
 abbrev pub with_failures : DeviceState → ℕ → DeviceState

@@ -2,7 +2,7 @@ ghost use Rattle.std.specs.Prelude.{◌≡◌, ◌⊎◌, ◌+◌, ◌<◌, ◌�
 ghost use Rattle.sector_device.specs.Image.{sector_at, with_sector};
 ghost use Rattle.sector_device.specs.Device.{IsCall, HasCause};
 ghost use Rattle.sector_device.specs.Crash.{IsSame, IsTorn, IsDurable};
-ghost use Rattle.fault_injector.specs.Fuse.{FuseState, Counts, Fails, with_failures, sound_with_failures};
+ghost use Rattle.fault_injector.specs.Fuse.{FuseState, Counts, Fails, HasCounted, with_failures, sound_with_failures};
 
 use crate::op::Op;
 use sector_device::{Device, DeviceFault, Sector};
@@ -53,8 +53,7 @@ impl<D: Device> Fuse<D> {
     fn fails(&mut self, call: Op) -> bool
         ensures answer { IsTrue result ↔ Fails self.old call }
         ensures inner { self.new.inner ≡ self.old.inner }
-        ensures kind { (self.new.op ≡ self.old.op) × (self.new.at ≡ self.old.at) }
-        ensures blown { self.new.blown ≡ result }
+        ensures counted { HasCounted self.old self.new call }
         ensures failures { HasCause self.old.failures self.new.failures (IsTrue result) }
         ensures no_fewer { self.old.failures ≤ self.new.failures }
     {
@@ -84,6 +83,7 @@ impl<D: Device> Device for Fuse<D> {
         ensures call { IsCall (with_failures (D.state self.old.inner) self.old.failures) (with_failures (D.state self.new.inner) self.new.failures) (IsErr result) }
         ensures same { (D.state self.old.inner).honest → IsSame (with_failures (D.state self.old.inner) self.old.failures) (with_failures (D.state self.new.inner) self.new.failures) }
         ensures bytes { (D.state self.old.inner).honest → OnOk result (into.new ≡ sector_at (D.state self.old.inner).reads at) }
+        ensures counted { HasCounted self.old self.new Op.Read }
         ensures fails { Fails self.old Op.Read → IsErr result }
         ensures unreached { Fails self.old Op.Read → self.new.inner ≡ self.old.inner }
         ensures passed_on { (Fails self.old Op.Read → ⊥) → IsCall (D.state self.old.inner) (D.state self.new.inner) (IsErr result) }
@@ -99,6 +99,7 @@ impl<D: Device> Device for Fuse<D> {
         ensures call { IsCall (with_failures (D.state self.old.inner) self.old.failures) (with_failures (D.state self.new.inner) self.new.failures) (IsErr result) }
         ensures torn { (D.state self.old.inner).honest → IsTorn at (with_failures (D.state self.old.inner) self.old.failures) (with_failures (D.state self.new.inner) self.new.failures) }
         ensures written { (D.state self.old.inner).honest → OnOk result ((D.state self.new.inner).reads ≡ with_sector (D.state self.old.inner).reads at from.now) }
+        ensures counted { HasCounted self.old self.new Op.Write }
         ensures fails { Fails self.old Op.Write → IsErr result }
         ensures unreached { Fails self.old Op.Write → self.new.inner ≡ self.old.inner }
         ensures passed_on { (Fails self.old Op.Write → ⊥) → IsCall (D.state self.old.inner) (D.state self.new.inner) (IsErr result) }
@@ -113,6 +114,7 @@ impl<D: Device> Device for Fuse<D> {
         ensures call { IsCall (with_failures (D.state self.old.inner) self.old.failures) (with_failures (D.state self.new.inner) self.new.failures) (IsErr result) }
         ensures same { (D.state self.old.inner).honest → IsSame (with_failures (D.state self.old.inner) self.old.failures) (with_failures (D.state self.new.inner) self.new.failures) }
         ensures durable { (D.state self.old.inner).honest → OnOk result (IsDurable (with_failures (D.state self.new.inner) self.new.failures)) }
+        ensures counted { HasCounted self.old self.new Op.Sync }
         ensures fails { Fails self.old Op.Sync → IsErr result }
         ensures unreached { Fails self.old Op.Sync → self.new.inner ≡ self.old.inner }
         ensures passed_on { (Fails self.old Op.Sync → ⊥) → IsCall (D.state self.old.inner) (D.state self.new.inner) (IsErr result) }

@@ -29,9 +29,11 @@ pub record IsSound (state : DeviceState) : Type 0 where
   -- since this moment there is no other
   pub only_now : (image : Image) → state.left_since state.moment image → state.may_leave image
 
--- Where fault holds, the count of failures rose, or stands at its greatest value.
-abbrev pub HasCause : ℕ → ℕ → Type 0 → Type 0
-HasCause before after fault = fault → (before < after) ⊎ (2 ^ 64 - 1 ≤ after)
+-- The count of failures tells of a fault, both ways: where fault holds the count rose, or stands at its greatest
+-- value; where it doesn't, the count is as it was.
+pub record HasCause (before after : ℕ) (fault : Type 0) : Type 0 where
+  pub rose : fault → (before < after) ⊎ (2 ^ 64 - 1 ≤ after)
+  pub stayed : (fault → ⊥) → after ≡ before
 
 -- What any call, and any run of calls, keeps on every device, honest or not.
 pub record IsCall (old new : DeviceState) (fault : Type 0) : Type 0 where
@@ -48,7 +50,7 @@ not_called state fault none = record {
   stays_honest = λ honest. honest;
   was_honest = λ honest. honest;
   faults = omega arith;
-  cause = λ fault. absurd (none fault);
+  cause = record { rose = λ fault. absurd (none fault); stayed = λ _. refl };
 }
 
 later_cause : (before mid after : ℕ) → mid ≤ after → (before < mid) ⊎ (2 ^ 64 - 1 ≤ mid) → (before < after) ⊎ (2 ^ 64 - 1 ≤ after)
@@ -59,15 +61,19 @@ earlier_cause : (before mid after : ℕ) → before ≤ mid → (mid < after) �
 earlier_cause before mid after le (inl rose) = inl (omega arith)
 earlier_cause before mid after le (inr last) = inr last
 
--- two runs of calls, one after the other
-pub calls_joined : (old mid new : DeviceState) (first second either : Type 0) → (either → first ⊎ second) → IsCall old mid first → IsCall mid new second → IsCall old new either
-calls_joined old mid new first second either which before after = record {
+-- Two runs of calls, one after the other: either of them tells of a fault.
+pub calls_joined : (old mid new : DeviceState) (first second either : Type 0) → (either → first ⊎ second) → (first ⊎ second → either)
+    → IsCall old mid first → IsCall mid new second → IsCall old new either
+calls_joined old mid new first second either which told before after = record {
   sectors = after.sectors ∙ before.sectors;
   stays_honest = λ honest. after.stays_honest (before.stays_honest honest);
   was_honest = λ honest. before.was_honest (after.was_honest honest);
   faults = omega (arith, before.faults, after.faults);
-  cause = λ fault. ⊎_elim
-      (λ one. later_cause old.faults mid.faults new.faults after.faults (before.cause one))
-      (λ two. earlier_cause old.faults mid.faults new.faults before.faults (after.cause two))
-      (which fault);
+  cause = record {
+    rose = λ fault. ⊎_elim
+        (λ one. later_cause old.faults mid.faults new.faults after.faults (before.cause.rose one))
+        (λ two. earlier_cause old.faults mid.faults new.faults before.faults (after.cause.rose two))
+        (which fault);
+    stayed = λ none. after.cause.stayed (λ two. none (told (inr two))) ∙ before.cause.stayed (λ one. none (told (inl one)));
+  };
 }

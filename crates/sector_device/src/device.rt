@@ -8,6 +8,11 @@ use thiserror::Error;
 /// The size of a sector, in bytes.
 pub const SECTOR: usize = 512;
 
+/// A sector's size in numbers, as a statement; the body does nothing.
+pub fn sector_in_numbers()
+    ensures { SECTOR ≡ 512 }
+{}
+
 /// The bytes of one sector.
 pub type Sector = [u8; SECTOR];
 

@@ -8,7 +8,7 @@
 mod device;
 mod memory;
 
-pub use device::{Device, DeviceFault, SECTOR, Sector};
+pub use device::{Device, DeviceFault, SECTOR, Sector, sector_in_numbers};
 pub use memory::{MemoryDevice, Picks};
 
 #[cfg(test)]

@@ -1,5 +1,21 @@
 //! Laws of the rules, each as the contract of a function that does nothing.
+ghost use Rattle.std.specs.Prelude.{◌≡◌, ◌↔◌, ◌≤◌, ℕ, length};
+ghost use Rattle.turn_ledger.specs.State.{LedgerState, IsAccount, IsLedger};
+ghost use Rattle.turn_ledger.specs.Place.{place_bytes};
+ghost use Rattle.turn_ledger.specs.declared.entry.Entry.{Entry};
 ghost use Rattle.turn_ledger.specs.Laws.{AYesMeansAllRules, PostingGivesTheSums, NothingIsLostOrMade, BatchesCompose, AcceptedEntriesArePosted, LaterEntriesSeeTheAccepted};
+
+use crate::{BATCH_LIMIT, TOTAL_LIMIT};
+
+/// The limits in numbers: accounts are numbered 1 to 64, all of them together hold at most 10^18, a batch has at most
+/// 15 entries, and an entry is written in 32 bytes.
+pub fn limits_in_numbers()
+    ensures accounts { (account : ℕ) → IsAccount account ↔ ((1 ≤ account) × (account ≤ 64)) }
+    ensures balances { (state : LedgerState) → IsLedger state → length state.balances ≡ 64 }
+    ensures total { TOTAL_LIMIT ≡ 1000000000000000000 }
+    ensures batch { BATCH_LIMIT ≡ 15 }
+    ensures place { (entry : Entry) → length (place_bytes entry) ≡ 32 }
+{}
 
 /// An entry has a yes exactly where it keeps all rules: its amount isn't zero, the accounts that it
 /// names are accounts, a transfer names two, its source holds enough, and the total stays within its

@@ -23,7 +23,8 @@ pub use batch::Batch;
 pub use entry::Entry;
 pub use laws::{
     a_yes_means_all_rules, accepted_entries_are_posted, batches_compose,
-    later_entries_see_the_accepted, nothing_is_lost_or_made, posting_gives_the_sums,
+    later_entries_see_the_accepted, limits_in_numbers, nothing_is_lost_or_made,
+    posting_gives_the_sums,
 };
 pub use ledger::Ledger;
 pub use limits::{ACCOUNTS, BATCH_LIMIT, TOTAL_LIMIT};

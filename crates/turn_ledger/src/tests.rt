@@ -59,6 +59,21 @@ fn an_entry_is_judged_after_the_accepted_ones_before_it(rt: HostRuntime) -> Resu
 }
 
 #[test]
+fn the_last_account_is_number_64(rt: HostRuntime) -> Result<(), Fail> {
+    let mut ledger = Ledger::new(rt.alloc())?;
+    assert_eq!(rt; ledger.post(&deposit(64, 7)), Ok(()));
+    assert_eq!(rt; ledger.post(&deposit(65, 7)), Err(EntryRefusal::NoAccount));
+    assert_eq!(rt;
+        ledger.post(&transfer(64, 65, 1)),
+        Err(EntryRefusal::NoAccount)
+    );
+    assert_eq!(rt; ledger.balance(64), Some(7));
+    assert_eq!(rt; ledger.balance(65), None);
+    assert_eq!(rt; ledger.total(), 7);
+    Ok(())
+}
+
+#[test]
 fn a_deposit_may_fill_the_ledger_and_not_pass_the_limit(rt: HostRuntime) -> Result<(), Fail> {
     let mut ledger = Ledger::new(rt.alloc())?;
     let table = [
