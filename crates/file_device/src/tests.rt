@@ -1,4 +1,6 @@
-use crate::{Device, DeviceFault, FileDevice, FileRefusal, ReadAhead, ReadBuffer, SECTOR, Sector};
+use crate::{
+    Device, DeviceFault, FailStop, FileDevice, FileRefusal, ReadAhead, ReadBuffer, SECTOR, Sector,
+};
 use sector_device::MemoryDevice;
 use std::fs;
 use std::fs::{File, Files};
@@ -164,6 +166,9 @@ fn reads_see_what_was_written(rt: HostRuntime) -> Result<(), Fail> {
     let memory = MemoryDevice::new(rt.alloc(), 300)?;
     let mut ahead = ReadAhead::new(memory, ReadBuffer::new(rt.alloc())?);
     agrees_with_a_list(&rt, &mut ahead, &mut written)?;
+    let mut stops = FailStop::new(MemoryDevice::new(rt.alloc(), 300)?);
+    agrees_with_a_list(&rt, &mut stops, &mut written)?;
+    stops.sync()?;
     fs::remove_dir_all(&rt, "file_device_coherent")?;
     Ok(())
 }
