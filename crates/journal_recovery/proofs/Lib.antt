@@ -1,3 +1,4 @@
 mod Posting
 mod Standing
 mod OneRecovery
+mod OneRefusal

@@ -55,6 +55,7 @@ impl MemoryDevice {
         ensures zero { IfOk result (λ device. (state_of device).reads ≡ replicate sectors (replicate 512 0)) }
         ensures durable { IfOk result (λ device. IsDurable (state_of device)) }
         ensures settled { IfOk result (λ device. (at : ℕ) → IsPendingIn device at → ⊥) }
+        ensures no_failure { IfOk result (λ device. (state_of device).faults ≡ 0) }
     {
         Ok(MemoryDevice {
             sectors: vec![in alloc; [0; SECTOR]; sectors as usize]?,

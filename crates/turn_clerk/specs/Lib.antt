@@ -6,3 +6,4 @@ pub mod Refused
 pub mod Reply
 pub mod Opened
 pub mod Taken
+pub mod Journaled

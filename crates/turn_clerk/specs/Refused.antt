@@ -27,6 +27,10 @@ pub record WantsSlot (standing : Standing) (station : ℕ) (entries : List Entry
   pub may : MayTurn standing.line station entries
   pub some : accepted standing.state.ledger entries ≢ []
 
+-- no slot of the journal is free
+abbrev pub HasNoSlot : Standing → Type 0
+HasNoSlot standing = standing.state.next ≡ standing.slots
+
 -- What holds where a turn is refused: of the first four exactly, and where none of them holds, of the others at least.
 abbrev pub IsRefused : Standing → ℕ → List Entry → TurnRefusal → Type 0
 IsRefused standing station entries Faulted = standing.faulted ≡ true
@@ -34,5 +38,5 @@ IsRefused standing station entries NoStation = (standing.faulted ≡ false) × (
 IsRefused standing station entries NotPrivileged = (standing.faulted ≡ false) × (station < stations standing.line) × ¬ HasPrivilege standing.line station
 IsRefused standing station entries TooMany = (standing.faulted ≡ false) × HasPrivilege standing.line station × (BATCH_LIMIT < length entries)
 IsRefused standing station entries Memory = (standing.faulted ≡ false) × MayTurn standing.line station entries
-IsRefused standing station entries Full = WantsSlot standing station entries × (standing.state.next ≡ standing.slots)
-IsRefused standing station entries Device = WantsSlot standing station entries
+IsRefused standing station entries Full = WantsSlot standing station entries × HasNoSlot standing
+IsRefused standing station entries Device = WantsSlot standing station entries × ¬ HasNoSlot standing
