@@ -16,7 +16,7 @@ turns=200
 sectors=$((2 * turns + 1))
 writing=write,writev,pwrite64,pwritev,pwritev2,ftruncate,fallocate,copy_file_range,sendfile,splice
 syncing=fsync,fdatasync,sync_file_range,msync,sync,syncfs
-opening=open,openat,openat2,creat,close,read,flock,fcntl,$writing,$syncing
+opening=open,openat,openat2,creat,close,flock,fcntl,read,readv,pread64,preadv,$writing,$syncing
 
 # An opening of the ledger that is there, or isn't, under strace with these words of its own: its trace goes to the
 # first word.

@@ -16,7 +16,7 @@ SYNCS = ["fsync(ledger)", "fsync(folder)"]
 
 
 def calls_of(trace, names):
-    """The calls on these files up to the reading of the script: each with the number of its file, and as a text."""
+    """The calls on these files, each with the number of its file, and as a text."""
     for line in trace:
         found = LINE.match(line)
         if not found:
@@ -25,10 +25,8 @@ def calls_of(trace, names):
         result = f" = {found['error']}" if found["error"] else ""
         file, opened = FILE.match(words), OPENED.match(words)
         if opened and opened["path"] in names:
-            how = opened["how"].replace("|O_CLOEXEC", "")
+            how = re.sub(r"\|O_(NOCTTY|CLOEXEC)", "", opened["how"])
             yield int(found["result"]), f"{name}({names[opened['path']]}, {how}){result}"
-        elif file and name == "read" and file["number"] == "0":
-            return
         elif file and file["path"] in names:
             behind = re.sub(r'"(?:\\0)*"(?:\.\.\.)?', "zeros", words[file.end():])
             said = ", ".join(word for word in (names[file["path"]], behind) if word)

@@ -12,7 +12,8 @@ pub enum FileRefusal {
     #[error("out of memory")]
     Memory,
     /// The file, or the folder that it lies in, can't be opened, read, grown or synced, it is no regular file, its length
-    /// isn't a multiple of 512, another holds it, or the system has no locks for it. It may have been made.
+    /// isn't a multiple of 512, another holds it, or the system has no locks for it. It may have been made; and grown,
+    /// where it couldn't be synced after that.
     #[error("the file can't be used as a device")]
     File,
 }
