@@ -1,3 +1,4 @@
+mod Reached
 mod Posting
 mod Standing
 mod OneRecovery

@@ -1,5 +1,5 @@
 -- What is to be known of a device at one moment, and what one call changes.
-use Rattle.std.specs.Prelude.{◌≡◌, ◌⊎◌, ◌<◌, ◌≤◌, ◌^◌, ◌-◌, ℕ, length}
+use Rattle.std.specs.Prelude.{◌≡◌, ◌⊎◌, ◌<◌, ◌≤◌, ◌^◌, ◌-◌, ℕ, length, Result, Ok, Err}
 use Rattle.std.proofs.Common.{refl, ◌∙◌, inl, inr, ⊎_elim, arith}
 use Rattle.sector_device.specs.Image.{Image, IsImage}
 
@@ -77,3 +77,8 @@ calls_joined old mid new first second either which told before after = record {
     stayed = λ none. after.cause.stayed (λ two. none (told (inr two))) ∙ before.cause.stayed (λ one. none (told (inl one)));
   };
 }
+
+-- the device that an opening hands on, in what it opened or beside the refusal
+abbrev pub handed_on : {A D E : Type 0} → (A → D) → Result A (D × E) → D
+handed_on device (Ok opened) = device opened
+handed_on device (Err refused) = refused.0

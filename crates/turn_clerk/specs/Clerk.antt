@@ -4,15 +4,17 @@ use Rattle.four_state.specs.Configuration.{Configuration}
 use Rattle.sector_device.specs.Image.{Image}
 use Rattle.sector_device.specs.Device.{DeviceState}
 use Rattle.sector_device.specs.Crash.{LeavesOnly}
-use Rattle.gate_journal.specs.Journal.{JournalState}
+use Rattle.four_state.specs.Motion.{moved}
+use Rattle.gate_journal.specs.Journal.{JournalState, after_appends, after_fault}
 use Rattle.turn_ledger.specs.declared.entry.Entry.{Entry}
 use Rattle.turn_ledger.specs.State.{LedgerState, IsLedger}
-use Rattle.turn_ledger.specs.Screen.{AreAccepted}
+use Rattle.turn_ledger.specs.Screen.{AreAccepted, posted_in_turn}
 use Rattle.turn_ledger.specs.Ledger.{entries_of}
 use Rattle.journal_recovery.specs.State.{State, state_after}
 use Rattle.journal_recovery.specs.Recovery.{RecoversTo, HoldsState}
 use Rattle.sweep_auditor.specs.Run.{IsRun}
 use Rattle.turn_clerk.specs.declared.turns.Turn.{Turn}
+use Rattle.turn_clerk.specs.Turn.{accepted_of, as_batch}
 use Rattle.turn_clerk.specs.History.{moves_of, batches_of, line_after, state_after_turns, IsLegal}
 
 -- what a clerk found when it was opened
@@ -48,6 +50,19 @@ pub record KeepsHistory {D : Type 0} (clerk : ClerkState D) : Type 0 where
   pub line : clerk.line ≡ line_after clerk.opening.line clerk.history
   pub state : state_of clerk ≡ state_after_turns (opening_state clerk) clerk.history
 
+-- The clerk after a turn: its batch is journaled and posted, its move is made, and it is the last of the history.
+abbrev pub after_turn : {D : Type 0} → ClerkState D → D → Turn → ClerkState D
+after_turn old device turn = record old {
+  journal = after_appends old.journal device (length (as_batch (accepted_of turn)));
+  ledger = posted_in_turn old.ledger (accepted_of turn);
+  line = moved old.line turn.station turn.rule;
+  history = old.history ++ turn ∷ [];
+}
+
+-- the clerk after a turn in which the device failed: these entries are in flight
+abbrev pub after_failed_turn : {D : Type 0} → ClerkState D → D → List Entry → ClerkState D
+after_failed_turn old device entries = record old { journal = after_fault old.journal device; in_flight = Some entries }
+
 -- The batches accepted since the opening, in order: those of the turns taken, and last that of the turn in flight.
 abbrev pub in_flight_batch : Option (List Entry) → List (List Entry)
 in_flight_batch None = []
@@ -67,6 +82,15 @@ pub record RecoversToPrefix (from : State) (batches : List (List Entry)) (least 
   pub at_least : least ≤ count
   pub at_most : count ≤ length batches
   pub recovers : RecoversTo (state_after from (take count batches)) image
+
+-- each image that a crash now leaves recovers to the present state
+abbrev pub LeavesState : {D : Type 0} → (D → DeviceState) → ClerkState D → Type 0
+LeavesState state clerk = (image : Image) → (state clerk.journal.device).may_leave image → RecoversTo (state_of clerk) image
+
+-- Each image that a crash leaves from one moment of the clerk's life to a later one recovers to the ledger of a prefix
+-- of the accepted batches, with all those of the turns that were taken before.
+abbrev pub LeavesPrefix : {D : Type 0} → (D → DeviceState) → ClerkState D → ClerkState D → Type 0
+LeavesPrefix state old new = LeavesOnly (state old.journal.device) (state new.journal.device) (RecoversToPrefix (opening_state old) (accepted_batches new) (length (batches_of old.history)))
 
 -- At rest, on an honest device.
 pub record IsAtRest {D : Type 0} (state : D → DeviceState) (clerk : ClerkState D) : Type 0 where

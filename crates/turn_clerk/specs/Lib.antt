@@ -5,5 +5,5 @@ pub mod Clerk
 pub mod Refused
 pub mod Reply
 pub mod Opened
-pub mod Taken
+pub mod Answered
 pub mod Journaled

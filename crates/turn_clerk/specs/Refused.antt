@@ -1,6 +1,7 @@
 -- Why a turn was not taken.
 use Rattle.std.specs.Prelude.{◌≡◌, ◌≢◌, ◌<◌, ◌≤◌, ℕ, Bool, true, false, List, [], length}
 use Rattle.four_state.specs.Configuration.{Configuration, stations}
+use Rattle.gate_journal.specs.Journal.{IsFull}
 use Rattle.turn_ledger.specs.declared.entry.Entry.{Entry}
 use Rattle.turn_ledger.specs.declared.limits.TheConstants.{BATCH_LIMIT}
 use Rattle.turn_ledger.specs.Screen.{accepted}
@@ -29,7 +30,7 @@ pub record WantsSlot (standing : Standing) (station : ℕ) (entries : List Entry
 
 -- no slot of the journal is free
 abbrev pub HasNoSlot : Standing → Type 0
-HasNoSlot standing = standing.state.next ≡ standing.slots
+HasNoSlot standing = IsFull standing.slots standing.state.next
 
 -- What holds where a turn is refused: of the first four exactly, and where none of them holds, of the others at least.
 abbrev pub IsRefused : Standing → ℕ → List Entry → TurnRefusal → Type 0
