@@ -65,6 +65,7 @@ impl FileDevice {
     pub fn open(path: &Path, sectors: u64) -> io::Result<FileDevice> {
         let file = OpenOptions::new().read(true).write(true).create(true).truncate(false).open(path)?;
         let buffer = vec![[0; SECTOR]; SPAN];
+        file.try_lock()?;
         let found = whole_sectors(&file)?;
         grow(&file, found, sectors, &buffer)?;
         file.sync_all()?;
@@ -143,6 +144,7 @@ fn grow(file: &File, from: u64, to: u64, zeros: &[Sector]) -> io::Result<()> {
     let mut at = from;
     while at < to {
         let count = (to - at).min(zeros.len() as u64);
+        file.set_len(place_of(at + count))?;
         file.write_all_at(zeros[..count as usize].as_flattened(), place_of(at))?;
         at += count;
     }

@@ -1,4 +1,4 @@
-ghost use Rattle.std.specs.Prelude.{◌≡◌, ◌+◌, ◌-◌, ◌<◌, ◌≤◌, ◌↔◌, length, vec_len, IsTrue, IsErr, IfOk, OnOk, OnErr};
+ghost use Rattle.std.specs.Prelude.{◌≡◌, ◌+◌, ◌-◌, ◌<◌, ◌≤◌, ◌↔◌, length, vec_len, IsTrue, IfOk, OnOk, OnErr};
 ghost use Rattle.sector_device.specs.Image.{sector_at};
 ghost use Rattle.sector_device.specs.Device.{IsCall};
 ghost use Rattle.sector_device.specs.Crash.{IsSame};
@@ -60,7 +60,7 @@ impl ReadBuffer {
     /// Reads the sectors round one. After a fault it is empty.
     pub(crate) fn fill<D: ReadRun>(&mut self, device: &mut D, at: u64) -> Result<(), DeviceFault>
         requires { at < length (D.state device.old).reads }
-        ensures call { IsCall (D.state device.old) (D.state device.new) (IsErr result) }
+        ensures call { IsCall (D.state device.old) (D.state device.new) ⊥ }
         ensures same { (D.state device.old).honest → IsSame (D.state device.old) (D.state device.new) }
         ensures holds { OnOk result (Holds self.new at) }
         ensures mirrors { (D.state device.old).honest → OnOk result (Mirrors self.new (D.state device.old).reads) }
@@ -85,7 +85,7 @@ fn read_front<D: ReadRun>(
 ) -> Result<(), DeviceFault>
     requires room { count ≤ length sectors.old }
     requires there { at + count ≤ length (D.state device.old).reads }
-    ensures call { IsCall (D.state device.old) (D.state device.new) (IsErr result) }
+    ensures call { IsCall (D.state device.old) (D.state device.new) ⊥ }
     ensures same { (D.state device.old).honest → IsSame (D.state device.old) (D.state device.new) }
     ensures bytes { (D.state device.old).honest → OnOk result (Shows sectors.new count (D.state device.old).reads at) }
 {

@@ -7,6 +7,8 @@
 
 mod buffer;
 mod device;
+mod fail_stop;
+mod growth;
 mod opening;
 mod read_ahead;
 mod read_run;
@@ -15,10 +17,12 @@ mod sector_file;
 
 pub use buffer::ReadBuffer;
 pub use device::FileDevice;
+pub use fail_stop::FailStop;
 pub use read_ahead::ReadAhead;
 pub use read_run::ReadRun;
 pub use refusal::FileRefusal;
 pub use sector_device::{Device, DeviceFault, SECTOR, Sector};
+pub use sector_file::SectorFile;
 
 #[cfg(test)]
 mod tests;

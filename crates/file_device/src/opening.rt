@@ -1,11 +1,12 @@
 ghost use Rattle.std.specs.Prelude.{◌≡◌, ◌*◌, ◌<◌, ◌≤◌, ◌^◌, length, IfOk, IfErr};
 
+use crate::growth::grow;
 use crate::refusal::FileRefusal;
 use crate::sector_file::SectorFile;
 use sector_device::{SECTOR, Sector};
 use std::fs::{File, Files, OpenOptions};
+use std::io::ErrorKind;
 use std::os::fd::AsRawFd;
-use std::os::unix::fs::FileExt;
 use std::path::Path;
 use std::{fs, io};
 
@@ -15,7 +16,7 @@ const SECTOR_LENGTH: u64 = SECTOR as u64;
 /// The most sectors of a file, whose length the system counts below 2^63.
 const MOST_SECTORS: u64 = i64::MAX as u64 / SECTOR_LENGTH;
 
-/// Opens a file with at least so many sectors, or makes or grows it.
+/// Opens a file with at least so many sectors, or makes or grows it, and keeps others off it.
 pub(crate) fn open_sectors<R: Files<File = File>>(
     rt: &R,
     path: &str,
@@ -31,14 +32,46 @@ pub(crate) fn open_sectors<R: Files<File = File>>(
     if sectors > MOST_SECTORS {
         return Err(FileRefusal::File);
     }
-    let mut how = OpenOptions::new();
-    how.read(true).write(true).create(true);
-    let file = clear_of_streams(how.open(rt, path)?)?;
+    let (file, folder) = open_in_folder(rt, path)?;
+    let file = clear_of_streams(file)?;
+    file.try_lock().map_err(io::Error::from)?;
     let found = whole_sectors(&file)?;
     grow(&file, found, sectors, zeros)?;
     file.sync_all()?;
-    sync_folder(rt, path)?;
+    if let Some(folder) = folder {
+        folder.sync_all()?;
+    }
     Ok(SectorFile::new(file, found.max(sectors)))
+}
+
+// The file, which is made where it isn't there, and the folder that has its name. A folder that may not be read can't be
+// synced: there a file is opened, and none is made.
+fn open_in_folder<R: Files<File = File>>(rt: &R, path: &str) -> io::Result<(File, Option<File>)> {
+    let mut how = OpenOptions::new();
+    how.read(true).write(true);
+    match how.open(rt, path) {
+        Ok(file) => Ok((file, readable_folder(rt, path)?)),
+        Err(error) if error.kind() == ErrorKind::NotFound => {
+            let folder = fs::open(rt, folder_of(path))?;
+            Ok((how.create(true).open(rt, path)?, Some(folder)))
+        }
+        Err(error) => Err(error),
+    }
+}
+
+fn readable_folder<R: Files<File = File>>(rt: &R, path: &str) -> io::Result<Option<File>> {
+    match fs::open(rt, folder_of(path)) {
+        Ok(folder) => Ok(Some(folder)),
+        Err(error) if error.kind() == ErrorKind::PermissionDenied => Ok(None),
+        Err(error) => Err(error),
+    }
+}
+
+fn folder_of(path: &str) -> Path<'_> {
+    match Path::new(path).parent() {
+        Some(folder) if !folder.as_str().is_empty() => folder,
+        _ => Path::new("."),
+    }
 }
 
 // Moves the file off the numbers of the standard streams: where one of these is closed, what is printed to it would
@@ -50,8 +83,8 @@ fn clear_of_streams(file: File) -> io::Result<File> {
     file.try_clone()
 }
 
-// How many sectors the file has, where it has whole ones.
-fn whole_sectors(file: &File) -> Result<u64, FileRefusal>
+/// How many sectors the file has, where it has whole ones.
+pub(crate) fn whole_sectors(file: &File) -> Result<u64, FileRefusal>
     ensures fits { IfOk result (λ sectors. sectors * 512 < 2 ^ 63) }
     ensures refused { IfErr result (λ refusal. refusal ≡ FileRefusal.File) }
 {
@@ -61,27 +94,4 @@ fn whole_sectors(file: &File) -> Result<u64, FileRefusal>
         return Err(FileRefusal::File);
     }
     Ok(length / SECTOR_LENGTH)
-}
-
-// Writes zero sectors behind the first `from` ones, until there are `to` of them.
-fn grow(file: &File, from: u64, to: u64, zeros: &[Sector]) -> io::Result<()>
-    requires room { to * 512 < 2 ^ 63 }
-    requires some { 0 < length zeros.now }
-{
-    let mut at = from;
-    while at < to {
-        let count = (to - at).min(zeros.len() as u64);
-        file.write_all_at(zeros[..count as usize].as_flattened(), at * SECTOR_LENGTH)?;
-        at += count;
-    }
-    Ok(())
-}
-
-// Makes the file's name in its folder durable.
-fn sync_folder<R: Files<File = File>>(rt: &R, path: &str) -> io::Result<()> {
-    let folder = match Path::new(path).parent() {
-        Some(folder) if !folder.as_str().is_empty() => folder,
-        _ => Path::new("."),
-    };
-    fs::open(rt, folder)?.sync_all()
 }

@@ -1,6 +1,7 @@
-ghost use Rattle.std.specs.Prelude.{◌+◌, ◌<◌, ◌≤◌, length, IsErr, OnOk};
+ghost use Rattle.std.specs.Prelude.{◌+◌, ◌<◌, ◌≤◌, length, IsOk, OnOk};
 ghost use Rattle.sector_device.specs.Device.{IsCall};
 ghost use Rattle.sector_device.specs.Crash.{IsSame};
+ghost use Rattle.sector_device.specs.MemoryDevice.{state_of};
 ghost use Rattle.file_device.specs.Run.{Shows};
 
 use sector_device::{Device, DeviceFault, MemoryDevice, Sector};
@@ -8,12 +9,23 @@ use sector_device::{Device, DeviceFault, MemoryDevice, Sector};
 /// A device that can read several sectors in one call.
 pub trait ReadRun: Device {
     /// Reads as many sectors as `into` has, one behind another, the first one at `at`. After a fault `into` holds any
-    /// bytes, and the device is as before. Without a body of its own, a device reads them one by one.
+    /// bytes, and the device is as before. A fault isn't counted among the failures: whoever needs one of the sectors
+    /// reads it alone, and that read tells whether it can be read.
     fn read_run(&mut self, at: u64, into: &mut [Sector]) -> Result<(), DeviceFault>
         requires { at + length into.old ≤ length (Self.state self.old).reads }
-        ensures call { IsCall (Self.state self.old) (Self.state self.new) (IsErr result) }
+        ensures call { IsCall (Self.state self.old) (Self.state self.new) ⊥ }
         ensures same { (Self.state self.old).honest → IsSame (Self.state self.old) (Self.state self.new) }
-        ensures bytes { (Self.state self.old).honest → OnOk result (Shows into.new (length into.new) (Self.state self.old).reads at) }
+        ensures bytes { (Self.state self.old).honest → OnOk result (Shows into.new (length into.new) (Self.state self.old).reads at) };
+}
+
+/// It reads them one by one, and none fails.
+impl ReadRun for MemoryDevice {
+    fn read_run(&mut self, at: u64, into: &mut [Sector]) -> Result<(), DeviceFault>
+        requires { at + length into.old ≤ length (state_of self.old).reads }
+        ensures call { IsCall (state_of self.old) (state_of self.new) ⊥ }
+        ensures same { (state_of self.old).honest → IsSame (state_of self.old) (state_of self.new) }
+        ensures bytes { (state_of self.old).honest → OnOk result (Shows into.new (length into.new) (state_of self.old).reads at) }
+        ensures never_fails { IsOk result }
     {
         // That the places fit their type.
         let _sectors = self.sectors();
@@ -23,6 +35,3 @@ pub trait ReadRun: Device {
         Ok(())
     }
 }
-
-/// It reads them one by one.
-impl ReadRun for MemoryDevice {}

@@ -11,8 +11,9 @@ pub enum FileRefusal {
     /// There was no memory for the buffer. The file hasn't been touched.
     #[error("out of memory")]
     Memory,
-    /// The file, or the folder that it lies in, can't be opened, read, grown or synced, it is no regular file, or its
-    /// length isn't a multiple of 512. It may have been made, and grown.
+    /// The file, or the folder that it lies in, can't be opened, read, grown or synced, it is no regular file, its length
+    /// isn't a multiple of 512, another holds it, or the system has no locks for it. It may have been made; and grown,
+    /// where it couldn't be synced after that.
     #[error("the file can't be used as a device")]
     File,
 }

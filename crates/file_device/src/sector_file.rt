@@ -1,21 +1,29 @@
 ghost use Rattle.std.specs.Prelude.{◌≡◌, ◌*◌, ◌<◌, ◌≤◌, ◌^◌, IsErr};
 ghost use Rattle.sector_device.specs.Device.{HasCause};
-ghost use Rattle.file_device.specs.RealFile.{unknown_sectors};
+ghost use Rattle.file_device.specs.RealFile.{FileState, unknown_sectors};
 
 use crate::read_run::ReadRun;
 use sector_device::{Device, DeviceFault, SECTOR, Sector};
 use std::fs::File;
 use std::io;
+use std::marker::Model;
 use std::os::unix::fs::FileExt;
 
-/// The sectors of an open file. It counts its failures, and knows nothing else of the file.
+/// The sectors of an open file: the system's own calls, with a count of their failures. Contracts know nothing else of
+/// the file; it is honest nowhere.
 #[derive(Drop)]
-pub(crate) struct SectorFile {
+pub struct SectorFile {
     file: File,
     sectors: u64,
     failures: u64,
-    // Each byte has a place below 2^63, as the system wants it.
-    ghost in_range: { sectors * 512 < 2 ^ 63 },
+}
+
+impl Model for SectorFile {
+    ghost Value = { FileState };
+
+    ghost view = { λ f. record { sectors = f.sectors; failures = f.failures } };
+
+    ghost invariant = { λ f. f.sectors * 512 < 2 ^ 63 };
 }
 
 // Counts a failure where the system's call failed.
@@ -47,7 +55,7 @@ impl SectorFile {
 }
 
 impl Device for SectorFile {
-    ghost state = { λ f. unknown_sectors f.sectors f.failures };
+    ghost state = { unknown_sectors };
 
     fn sectors(&self) -> u64 {
         self.sectors
@@ -76,6 +84,6 @@ impl ReadRun for SectorFile {
         let outcome = self
             .file
             .read_exact_at(into.as_flattened_mut(), at * SECTOR as u64);
-        counted(&mut self.failures, outcome)
+        outcome.or(Err(DeviceFault))
     }
 }

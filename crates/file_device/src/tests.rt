@@ -1,4 +1,6 @@
-use crate::{Device, DeviceFault, FileDevice, FileRefusal, ReadAhead, ReadBuffer, SECTOR, Sector};
+use crate::{
+    Device, DeviceFault, FailStop, FileDevice, FileRefusal, ReadAhead, ReadBuffer, SECTOR, Sector,
+};
 use sector_device::MemoryDevice;
 use std::fs;
 use std::fs::{File, Files};
@@ -7,6 +9,8 @@ use std::process::Abort;
 use std::test::Fail;
 
 mod failing;
+mod growth;
+mod opening;
 
 // A sector of its own for each number.
 fn sector_of(number: u64) -> Sector {
@@ -69,8 +73,9 @@ fn a_file_is_made_and_grown_and_never_cut(rt: HostRuntime) -> Result<(), Fail> {
     let mut device = FileDevice::open(&rt, rt.alloc(), GROWN, 3)?;
     write_at(&rt, &mut device, 1, &sector_of(1))?;
     device.sync()?;
+    drop(device);
     // How many sectors are asked for next, and how many there are then.
-    for (asked, found) in [(0, 3), (2, 3), (600, 600), (1, 600)] {
+    for (asked, found) in [(0, 3), (2, 3), (600, 600), (1, 600), (601, 601)] {
         find_grown(&rt, asked, found, &sector_of(1))?;
         assert_eq!(rt; fs::metadata(&rt, GROWN)?.len(), found * 512);
     }
@@ -161,6 +166,9 @@ fn reads_see_what_was_written(rt: HostRuntime) -> Result<(), Fail> {
     let memory = MemoryDevice::new(rt.alloc(), 300)?;
     let mut ahead = ReadAhead::new(memory, ReadBuffer::new(rt.alloc())?);
     agrees_with_a_list(&rt, &mut ahead, &mut written)?;
+    let mut stops = FailStop::new(MemoryDevice::new(rt.alloc(), 300)?);
+    agrees_with_a_list(&rt, &mut stops, &mut written)?;
+    stops.sync()?;
     fs::remove_dir_all(&rt, "file_device_coherent")?;
     Ok(())
 }

@@ -1,6 +1,6 @@
 //! Devices, and what power losses leave of them.
 use gate_journal::format;
-use journal_recovery::recover;
+use journal_recovery::{OpenRefusal, recover};
 use sector_device::{MemoryDevice, Picks, SECTOR, Sector};
 use std::alloc::{AllocError, Global};
 use std::process::Abort;
@@ -35,5 +35,17 @@ pub fn recovered(rt: &impl Abort, alloc: Global, device: MemoryDevice) -> (Optio
     match recover(alloc, device) {
         Ok(found) => (found.ledger.balance(1), found.journal.next()),
         Err((_, refusal)) => panic!(rt; "{refusal}"),
+    }
+}
+
+// The device, and why it isn't opened.
+pub fn refusal_of(
+    rt: &impl Abort,
+    alloc: Global,
+    device: MemoryDevice,
+) -> (MemoryDevice, OpenRefusal) {
+    match recover(alloc, device) {
+        Ok(_) => panic!(rt; "recovered"),
+        Err(refused) => refused,
     }
 }

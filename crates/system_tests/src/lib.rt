@@ -4,6 +4,16 @@
 #[cfg(test)]
 mod devices;
 #[cfg(test)]
+mod images;
+#[cfg(test)]
+mod limits;
+#[cfg(test)]
+mod lives;
+#[cfg(test)]
 mod power_losses;
+#[cfg(test)]
+mod refusals;
+#[cfg(test)]
+mod streams;
 #[cfg(test)]
 mod turns;

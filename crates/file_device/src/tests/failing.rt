@@ -1,14 +1,17 @@
 // What the system refuses.
+ghost use Rattle.file_device.specs.RealFile.{unknown_sectors};
+
 use super::{make_folder, read_at, sector_of, write_at};
-use crate::device::FileDevice;
-use crate::sector_file::SectorFile;
-use crate::{Device, ReadBuffer, SECTOR};
+use crate::{
+    Device, DeviceFault, FailStop, FileDevice, ReadAhead, ReadBuffer, ReadRun, SECTOR, Sector,
+    SectorFile,
+};
 use std::alloc::AllocError;
 use std::fs;
 use std::fs::File;
 use std::test::Fail;
 
-// Two sectors of whatever file this is. here.
+// Two sectors of whatever file this is.
 fn device_over(rt: &HostRuntime, file: File) -> Result<FileDevice, AllocError> {
     let buffer = ReadBuffer::new(rt.alloc())?;
     Ok(FileDevice::over(SectorFile::new(file, 2), buffer))
@@ -54,5 +57,73 @@ fn after_a_failed_sync_every_call_fails(rt: HostRuntime) -> Result<(), Fail> {
     assert!(rt; read_at(&rt, &mut device, 0).is_err());
     assert!(rt; write_at(&rt, &mut device, 0, &sector_of(0)).is_err());
     assert!(rt; device.sync().is_err());
+    Ok(())
+}
+
+// A device whose sectors all hold this byte. Its syncs fail, and leave another byte everywhere.
+#[derive(Drop)]
+struct Forgetful {
+    byte: u8,
+    failures: u64,
+}
+
+impl Device for Forgetful {
+    ghost state = { λ f. unknown_sectors (record { sectors = 2; failures = f.failures }) };
+
+    fn sectors(&self) -> u64 {
+        2
+    }
+
+    fn read(&mut self, _at: u64, into: &mut Sector) -> Result<(), DeviceFault> {
+        *into = [self.byte; SECTOR];
+        Ok(())
+    }
+
+    fn write(&mut self, _at: u64, _from: &Sector) -> Result<(), DeviceFault> {
+        Ok(())
+    }
+
+    fn sync(&mut self) -> Result<(), DeviceFault> {
+        self.byte = self.byte.wrapping_add(1);
+        self.failures = self.failures.saturating_add(1);
+        Err(DeviceFault)
+    }
+
+    ghost sound = { λ f honest. absurd honest };
+}
+
+impl ReadRun for Forgetful {
+    fn read_run(&mut self, _at: u64, into: &mut [Sector]) -> Result<(), DeviceFault> {
+        into.fill([self.byte; SECTOR]);
+        Ok(())
+    }
+}
+
+#[test]
+fn after_a_failed_sync_the_buffer_is_read_anew(rt: HostRuntime) -> Result<(), Fail> {
+    let forgetful = Forgetful {
+        byte: 1,
+        failures: 0,
+    };
+    let mut ahead = ReadAhead::new(forgetful, ReadBuffer::new(rt.alloc())?);
+    assert_eq!(rt; read_at(&rt, &mut ahead, 0)?, [1; SECTOR]);
+    assert!(rt; ahead.sync().is_err());
+    assert_eq!(rt; read_at(&rt, &mut ahead, 0)?, [2; SECTOR]);
+    Ok(())
+}
+
+#[test]
+fn a_device_that_stopped_hands_nothing_on(rt: HostRuntime) -> Result<(), Fail> {
+    let mut device = FailStop::new(Forgetful {
+        byte: 1,
+        failures: 0,
+    });
+    assert_eq!(rt; read_at(&rt, &mut device, 1)?, [1; SECTOR]);
+    write_at(&rt, &mut device, 1, &[4; SECTOR])?;
+    assert!(rt; device.sync().is_err());
+    assert!(rt; read_at(&rt, &mut device, 1).is_err());
+    assert!(rt; write_at(&rt, &mut device, 1, &[4; SECTOR]).is_err());
+    assert!(rt; device.sync().is_err());
+    assert_eq!(rt; device.sectors(), 2);
     Ok(())
 }

@@ -1,0 +1,158 @@
+//! Calls beyond any number at which a body might have given up.
+ghost use Rattle.file_device.specs.RealFile.{unknown_sectors};
+
+use crate::devices::recovered;
+use gate_journal::format;
+use journal_recovery::recover;
+use sector_device::{Device, DeviceFault, MemoryDevice, SECTOR, Sector};
+use std::alloc::Global;
+use std::process::Abort;
+use std::test::Fail;
+use turn_clerk::{Clerk, Entry, Line};
+
+fn deposit(to: u32, amount: u64) -> Entry {
+    Entry::Deposit {
+        to,
+        amount,
+        reference: 3,
+    }
+}
+
+// Two stations, the bottom one privileged, over a new journal of so many slots.
+fn two_stations(rt: &impl Abort, alloc: Global, slots: u64) -> Result<Clerk<MemoryDevice>, Fail> {
+    assert!(rt; 0 < slots && slots < 1000);
+    let mut device = MemoryDevice::new(alloc, 2 * slots + 1)?;
+    format(&mut device, slots)?;
+    let line = Line::from_bits(2, &[false; 2], &[true, false]).expect(rt, "a line");
+    match Clerk::open(alloc, device, line) {
+        Ok(clerk) => Ok(clerk),
+        Err((_, refusal)) => panic!(rt; "{refusal}"),
+    }
+}
+
+#[test]
+fn a_device_in_memory_takes_250_000_calls(rt: HostRuntime) -> Result<(), Fail> {
+    let mut device = MemoryDevice::new(rt.alloc(), 3)?;
+    let mut found = [0; SECTOR];
+    for number in 0..125_000u32 {
+        assert!(rt; device.sectors() == 3);
+        device.write(u64::from(number % 2), &[number.to_le_bytes()[0]; SECTOR])?;
+        device.sync()?;
+    }
+    assert!(rt; device.sectors() == 3);
+    // 124,998 and 124,999 have the last bytes 70 and 71.
+    for (at, byte) in [(0, 70), (1, 71), (2, 0)] {
+        assert!(rt; at < device.sectors());
+        device.read(at, &mut found)?;
+        assert_eq!(rt; found, [byte; SECTOR]);
+        assert!(rt; !device.pending(at));
+    }
+    Ok(())
+}
+
+#[test]
+fn a_clerk_takes_300_turns(rt: HostRuntime) -> Result<(), Fail> {
+    let mut clerk = two_stations(&rt, rt.alloc(), 300)?;
+    for number in 0..300u64 {
+        let turn = clerk.turn((number % 2) as u8, &[deposit(1, number)])?;
+        assert_eq!(rt; turn.index, number);
+        // The first one deposits nothing, and is refused.
+        assert_eq!(rt; turn.posted, number.checked_sub(1));
+    }
+    assert_eq!(rt; (clerk.history().len(), clerk.moves().len()), (300, 300));
+    // 1 + 2 + .. + 299
+    assert_eq!(rt; clerk.ledger().total(), 44_850);
+    assert_eq!(rt;
+        recovered(&rt, rt.alloc(), clerk.into_device()),
+        (Some(44_850), 299)
+    );
+    Ok(())
+}
+
+#[test]
+fn a_turn_takes_15_accepted_entries(rt: HostRuntime) -> Result<(), Fail> {
+    let mut clerk = two_stations(&rt, rt.alloc(), 1)?;
+    let mut entries = [deposit(1, 7); 15];
+    entries[14] = Entry::Transfer {
+        from: 1,
+        to: 64,
+        amount: 98,
+        reference: 3,
+    };
+    let turn = clerk.turn(0, &entries)?;
+    assert_eq!(rt; (turn.entries.len(), turn.verdicts.accepted()), (15, 15));
+    assert_eq!(rt; turn.posted, Some(0));
+    assert_eq!(rt; clerk.ledger().balance(64), Some(98));
+    match recover(rt.alloc(), clerk.into_device()) {
+        Ok(found) => assert_eq!(rt;
+            (found.ledger.balance(1), found.ledger.balance(64)),
+            (Some(0), Some(98))
+        ),
+        Err((_, refusal)) => panic!(rt; "{refusal}"),
+    }
+    Ok(())
+}
+
+// A device of so many sectors, of which all but the first three are zero. It can't be written.
+#[derive(Drop)]
+struct Sparse {
+    sectors: u64,
+    front: [Sector; 3],
+    failures: u64,
+}
+
+impl Device for Sparse {
+    ghost state = { λ s. unknown_sectors (record { sectors = s.sectors; failures = s.failures }) };
+
+    fn sectors(&self) -> u64 {
+        self.sectors
+    }
+
+    fn read(&mut self, at: u64, into: &mut Sector) -> Result<(), DeviceFault> {
+        *into = if at < 3 {
+            self.front[at as usize]
+        } else {
+            [0; SECTOR]
+        };
+        Ok(())
+    }
+
+    fn write(&mut self, _at: u64, _from: &Sector) -> Result<(), DeviceFault> {
+        self.failures = self.failures.saturating_add(1);
+        Err(DeviceFault)
+    }
+
+    fn sync(&mut self) -> Result<(), DeviceFault> {
+        Ok(())
+    }
+
+    ghost sound = { λ s honest. absurd honest };
+}
+
+// A journal of 1,000,000 slots with one record, and behind it as many sectors again that are not used.
+fn a_million_slots() -> Sparse {
+    let mut front = [[0; SECTOR]; 3];
+    front[0][..6].copy_from_slice(&[0x54, 0x4c, 0x44, 0x47, 0, 1]);
+    front[0][8..16].copy_from_slice(&1_000_000u64.to_be_bytes());
+    front[1][..8].copy_from_slice(&[0x54, 0x4c, 0x42, 0x31, 0, 0, 0, 1]);
+    front[1][32..64].copy_from_slice(&deposit(1, 500).write());
+    front[2][0] = 0xa5;
+    Sparse {
+        sectors: 4_000_000,
+        front,
+        failures: 0,
+    }
+}
+
+#[test]
+fn a_device_of_4_000_000_sectors_is_recovered(rt: HostRuntime) -> Result<(), Fail> {
+    match recover(rt.alloc(), a_million_slots()) {
+        Ok(found) => {
+            assert_eq!(rt; found.ledger.balance(1), Some(500));
+            assert_eq!(rt; found.journal.next(), 1);
+            assert_eq!(rt; found.journal.room(), 999_999);
+        }
+        Err((_, refusal)) => panic!(rt; "{refusal}"),
+    }
+    Ok(())
+}

@@ -1,0 +1,150 @@
+//! One device that is opened three times, with turns and a power loss in each of its lives.
+use crate::devices::{TORN, ZERO, picks_of, recovered, torn_open};
+use fault_injector::{Fuse, Op};
+use gate_journal::format;
+use sector_device::{MemoryDevice, Sector};
+use std::alloc::Global;
+use std::process::Abort;
+use std::test::Fail;
+use turn_clerk::{Clerk, Entry, Line, TurnRefusal};
+
+// A life: the bits that it starts from, and the two stations in the order of their turns, with what each deposits. No
+// batch deposits what others do together.
+struct Life {
+    bits: [bool; 2],
+    turns: [(u8, u64); 2],
+}
+
+const LIVES: [Life; 3] = [
+    Life {
+        bits: [false, false],
+        turns: [(0, 1), (1, 2)],
+    },
+    Life {
+        bits: [false, true],
+        turns: [(1, 4), (0, 8)],
+    },
+    Life {
+        bits: [true, true],
+        turns: [(0, 16), (1, 32)],
+    },
+];
+
+// A call that fails, and what the power loss leaves in the sectors that are pending then.
+#[derive(Clone, Copy)]
+struct Loss {
+    call: (Op, u64),
+    left: Sector,
+}
+
+// The calls of a life's second turn. The opening syncs once, and each turn writes and syncs its body's sector and then
+// its gate's.
+const CALLS: [(Op, u64); 4] = [(Op::Write, 2), (Op::Sync, 3), (Op::Write, 3), (Op::Sync, 4)];
+
+// What a device recovers to: what account 1 holds, and how many batches there are.
+#[derive(Clone, Copy)]
+struct Expected {
+    balance: u64,
+    batches: u64,
+}
+
+impl Expected {
+    // With a batch more, which deposits this.
+    fn and(self, amount: u64) -> Expected {
+        Expected {
+            balance: self.balance.saturating_add(amount),
+            batches: self.batches.saturating_add(1),
+        }
+    }
+}
+
+fn deposit(amount: u64) -> Entry {
+    Entry::Deposit {
+        to: 1,
+        amount,
+        reference: 3,
+    }
+}
+
+// Loses power on a device whose journal has so many records, with these bytes left in the slot behind them.
+fn lose_power(
+    rt: &impl Abort,
+    alloc: Global,
+    device: MemoryDevice,
+    records: u64,
+    left: Sector,
+) -> Result<MemoryDevice, Fail> {
+    assert!(rt; records < 6);
+    let body = 1 + 2 * records;
+    let picks = picks_of(alloc, &[(body, left), (body + 1, left)])?;
+    Ok(device.crash(&picks))
+}
+
+// One life: a turn that is acknowledged, one in which a call fails, and the power loss. The batch in flight is there
+// exactly where its gate was written and is left open.
+fn live(
+    rt: &impl Abort,
+    alloc: Global,
+    device: MemoryDevice,
+    life: &Life,
+    loss: &Loss,
+    before: Expected,
+) -> Result<(MemoryDevice, Expected), Fail> {
+    let line = Line::from_bits(2, &life.bits, &[true, false]).expect(rt, "a line");
+    let (op, number) = loss.call;
+    let Ok(mut clerk) = Clerk::open(alloc, Fuse::new(device, op, number), line) else {
+        panic!(rt; "not opened")
+    };
+    assert_eq!(rt; clerk.opening_balance(1), Some(before.balance));
+    assert_eq!(rt; clerk.opening_next(), before.batches);
+    let [(first, kept), (second, lost)] = life.turns;
+    let turn = clerk.turn(first, &[deposit(kept)])?;
+    assert_eq!(rt; turn.posted, Some(before.batches));
+    assert_eq!(rt;
+        clerk.turn(second, &[deposit(lost)]),
+        Err(TurnRefusal::Device)
+    );
+    let acknowledged = before.and(kept);
+    let device = clerk.into_device().into_inner();
+    let device = lose_power(rt, alloc, device, acknowledged.batches, loss.left)?;
+    if loss.call == CALLS[3] && loss.left[0] == 0xa5 {
+        return Ok((device, acknowledged.and(lost)));
+    }
+    Ok((device, acknowledged))
+}
+
+// All lives of one device, with these losses.
+fn live_three_times(rt: &impl Abort, alloc: Global, losses: [Loss; 3]) -> Result<(), Fail> {
+    let mut device = MemoryDevice::new(alloc, 13)?;
+    format(&mut device, 6)?;
+    let mut expected = Expected {
+        balance: 0,
+        batches: 0,
+    };
+    for (life, loss) in LIVES.iter().zip(&losses) {
+        (device, expected) = live(rt, alloc, device, life, loss, expected)?;
+    }
+    assert_eq!(rt;
+        recovered(rt, alloc, device),
+        (Some(expected.balance), expected.batches)
+    );
+    Ok(())
+}
+
+#[test]
+fn each_life_finds_what_the_ones_before_acknowledged(rt: HostRuntime) -> Result<(), Fail> {
+    let mut losses = Vec::new(rt.alloc());
+    for call in CALLS {
+        for left in [ZERO, torn_open(), TORN] {
+            losses.push(Loss { call, left })?;
+        }
+    }
+    for first in &losses {
+        for second in &losses {
+            for third in &losses {
+                live_three_times(&rt, rt.alloc(), [*first, *second, *third])?;
+            }
+        }
+    }
+    Ok(())
+}

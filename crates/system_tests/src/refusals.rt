@@ -1,0 +1,152 @@
+//! The text of every refusal.
+use gate_journal::{AppendRefusal, FormatRefusal, JournalCause, JournalRefusal, ReadRefusal};
+use journal_recovery::{Cause, OpenRefusal};
+use std::alloc::Global;
+use std::fmt::Display;
+use std::process::Abort;
+use std::test::Fail;
+use turn_clerk::{EntryRefusal, TurnRefusal};
+
+// Each refusal and its text.
+fn read_as<T: Display>(rt: &impl Abort, alloc: Global, table: &[(T, &str)]) -> Result<(), Fail> {
+    for (refusal, text) in table {
+        let told = format!(in alloc; "{refusal}")?;
+        assert_eq!(rt; told.as_str(), *text);
+    }
+    Ok(())
+}
+
+#[test]
+fn refusals_of_a_journal_have_texts(rt: HostRuntime) -> Result<(), Fail> {
+    use JournalRefusal::*;
+    let damaged = |cause| Damaged { slot: 3, cause };
+    read_as(
+        &rt,
+        rt.alloc(),
+        &[
+            (Unformatted, "the device is not formatted"),
+            (Version(9), "the device has version 9"),
+            (Size, "the number of slots is wrong for the device"),
+            (
+                damaged(JournalCause::Header),
+                "slot 3 is damaged: its body is no record",
+            ),
+            (
+                damaged(JournalCause::Sequence),
+                "slot 3 is damaged: its record has another slot's sequence",
+            ),
+            (
+                damaged(JournalCause::Tail),
+                "slot 3 is damaged: it is open behind a closed slot",
+            ),
+            (Device, "the device failed"),
+        ],
+    )
+}
+
+#[test]
+fn refusals_of_formatting_appending_and_reading_have_texts(rt: HostRuntime) -> Result<(), Fail> {
+    read_as(
+        &rt,
+        rt.alloc(),
+        &[
+            (FormatRefusal::TooManySlots, "more than 1000000 slots"),
+            (
+                FormatRefusal::TooSmall,
+                "the device has too few sectors for the slots",
+            ),
+            (FormatRefusal::Device, "the device failed"),
+        ],
+    )?;
+    read_as(
+        &rt,
+        rt.alloc(),
+        &[
+            (
+                AppendRefusal::Faulted,
+                "the journal has met a device fault and must be opened again",
+            ),
+            (AppendRefusal::Full, "no slot is free"),
+            (AppendRefusal::Device, "the device failed"),
+        ],
+    )?;
+    read_as(
+        &rt,
+        rt.alloc(),
+        &[
+            (ReadRefusal::Changed, "the record is no longer there"),
+            (ReadRefusal::Device, "the device failed"),
+        ],
+    )
+}
+
+#[test]
+fn refusals_of_recovery_have_texts(rt: HostRuntime) -> Result<(), Fail> {
+    use OpenRefusal::*;
+    let damaged = |cause| Damaged { slot: 3, cause };
+    read_as(
+        &rt,
+        rt.alloc(),
+        &[
+            (Memory, "out of memory"),
+            (Unformatted, "the device is not formatted"),
+            (Version(9), "the device has version 9"),
+            (Size, "the number of slots is wrong for the device"),
+            (
+                damaged(Cause::Header),
+                "slot 3 is damaged: its body is no record",
+            ),
+            (
+                damaged(Cause::Sequence),
+                "slot 3 is damaged: its record has another slot's sequence",
+            ),
+            (
+                damaged(Cause::Tail),
+                "slot 3 is damaged: it is open behind a closed slot",
+            ),
+            (
+                damaged(Cause::Entry(14)),
+                "slot 3 is damaged: place 14 is no entry",
+            ),
+            (
+                damaged(Cause::Verdict(0)),
+                "slot 3 is damaged: the entry at place 0 breaks a rule of the ledger",
+            ),
+            (Device, "the device failed"),
+        ],
+    )
+}
+
+#[test]
+fn refusals_of_turns_and_entries_have_texts(rt: HostRuntime) -> Result<(), Fail> {
+    read_as(
+        &rt,
+        rt.alloc(),
+        &[
+            (
+                TurnRefusal::Faulted,
+                "a device fault was met and the device must be opened again",
+            ),
+            (TurnRefusal::NoStation, "there is no such station"),
+            (TurnRefusal::NotPrivileged, "it is not the station's turn"),
+            (TurnRefusal::TooMany, "more entries than a batch holds"),
+            (TurnRefusal::Memory, "out of memory"),
+            (TurnRefusal::Full, "no slot is free"),
+            (TurnRefusal::Device, "the device failed"),
+        ],
+    )?;
+    read_as(
+        &rt,
+        rt.alloc(),
+        &[
+            (EntryRefusal::ZeroAmount, "the amount is zero"),
+            (EntryRefusal::NoAccount, "there is no such account"),
+            (EntryRefusal::SameAccount, "a transfer needs two accounts"),
+            (EntryRefusal::Short, "the account holds too little"),
+            (
+                EntryRefusal::OverLimit,
+                "the total of all accounts would pass its limit",
+            ),
+        ],
+    )
+}
