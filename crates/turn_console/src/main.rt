@@ -6,21 +6,18 @@
 #![tactic(auto)]
 
 mod command_line;
-mod commands;
 mod engine;
 mod faults;
-mod held;
+mod held_entries;
 mod names;
-mod numbers;
-mod office;
-mod output;
 mod power;
+mod printing;
 mod program;
-mod reading;
+mod scripted_clerk;
+mod session;
 mod settings;
 #[cfg(test)]
 mod tests;
-mod words;
 
 use faults::ProgramFault;
 use program::{WRONG_WORDS, run_program, tell};

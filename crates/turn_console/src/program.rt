@@ -2,11 +2,11 @@
 use crate::command_line::options;
 use crate::engine::run_script;
 use crate::faults::{ProgramFault, ScriptFault};
-use crate::output::write_all;
 use crate::settings::Options;
 use clap::Error;
 use clap::error::ErrorKind;
 use file_device::FileDevice;
+use script_streams::write_all;
 use sector_device::MemoryDevice;
 use std::alloc::Global;
 use std::fs::{File, Files};

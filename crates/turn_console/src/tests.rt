@@ -1,8 +1,8 @@
 use crate::engine::run_script;
-use crate::faults::{LineFault, ScriptFault};
+use crate::faults::ScriptFault;
 use crate::program::run_program;
-use crate::reading::read_within;
 use fakes::{Endless, Failing, Interrupted, OneByte, Refusing};
+use script_grammar::LineFault;
 use sector_device::MemoryDevice;
 use std::alloc::Global;
 use std::fs::{File, Files};
@@ -34,18 +34,6 @@ fn prints(rt: &impl Abort, alloc: Global, script: &str, wanted: &str) -> Result<
     let (output, end) = told(alloc, script)?;
     assert_eq!(rt; end, Ok(()), "{script}");
     assert_eq!(rt; output.as_slice(), wanted.as_bytes(), "{script}");
-    Ok(())
-}
-
-fn ends(
-    rt: &impl Abort,
-    alloc: Global,
-    script: &[u8],
-    line: u64,
-    cause: LineFault,
-) -> Result<(), Fail> {
-    let (_, end) = told_on(alloc, 64, script)?;
-    assert_eq!(rt; end, Err(ScriptFault::Line { line, cause }), "{script:?}");
     Ok(())
 }
 
@@ -177,49 +165,11 @@ fn an_empty_script_prints_nothing(rt: HostRuntime) -> Result<(), Fail> {
 
 #[test]
 fn a_wrong_line_ends_the_script(rt: HostRuntime) -> Result<(), Fail> {
-    let (output, end) = told(rt.alloc(), "format 4\nfrob\nformat 2\n")?;
-    let (line, cause) = (2, LineFault::UnknownCommand);
+    let (output, end) = told(rt.alloc(), "\n# x\nformat 4\n  \nfrob\nformat 2\n")?;
+    let (line, cause) = (5, LineFault::UnknownCommand);
     assert_eq!(rt; end, Err(ScriptFault::Line { line, cause }));
     assert_eq!(rt; output.as_slice(), b"formatted 4\n".as_slice());
     Ok(())
-}
-
-#[test]
-fn line_faults_come_in_their_order(rt: HostRuntime) -> Result<(), Fail> {
-    use LineFault::{BadBits, BadNumber, UnknownCommand, WrongNumberOfWords};
-    let table: [(&[u8], LineFault); 27] = [
-        (b"frob", UnknownCommand),
-        (b"Format 4", UnknownCommand),
-        (b"day 8", UnknownCommand),
-        (b"\xff", UnknownCommand),
-        (b"\tcrash", UnknownCommand),
-        (b"post 0 seal 1", UnknownCommand),
-        (b"post x frob", UnknownCommand),
-        (b"format", WrongNumberOfWords),
-        (b"format 1 2", WrongNumberOfWords),
-        (b"crash now", WrongNumberOfWords),
-        (b"post", WrongNumberOfWords),
-        (b"post 0", WrongNumberOfWords),
-        (b"post x deposit 1", WrongNumberOfWords),
-        (b"post 0 transfer 1 2", WrongNumberOfWords),
-        (b"open 2 00", WrongNumberOfWords),
-        (b"format 0", BadNumber),
-        (b"format 18446744073709551616", BadNumber),
-        (b"format +1", BadNumber),
-        (b"format -1", BadNumber),
-        (b"format 1x", BadNumber),
-        (b"format 1\xff", BadNumber),
-        (b"turn 1\r", BadNumber),
-        (b"post 0 deposit 4294967296 1", BadNumber),
-        (b"post 0 deposit 1 18446744073709551616", BadNumber),
-        (b"open x 2 2", BadNumber),
-        (b"open 2 02 10", BadBits),
-        (b"open 2 00 1\xff", BadBits),
-    ];
-    for (script, cause) in table {
-        ends(&rt, rt.alloc(), script, 1, cause)?;
-    }
-    ends(&rt, rt.alloc(), b"\n# x\n  \nturn\n", 4, WrongNumberOfWords)
 }
 
 #[test]
@@ -288,10 +238,6 @@ fn a_turn_is_acknowledged_at_once(rt: HostRuntime) -> Result<(), Fail> {
 #[test]
 fn interrupted_for_ever(rt: HostRuntime) -> Result<(), Fail> {
     let alloc = rt.alloc();
-    assert_eq!(rt;
-        read_within(alloc, &mut Interrupted, 1000),
-        Err(ScriptFault::Read)
-    );
     let mut script = DEPOSIT.as_bytes();
     let device = MemoryDevice::new(alloc, 64)?;
     let end = run_script(alloc, &mut script, &mut Interrupted, device);

@@ -6,7 +6,7 @@ use Rattle.clap.specs.declared.builder.action.ArgAction.TheVariants.{Set}
 use Rattle.clap.specs.declared.builder.value_parser.ValueParser.{ValueParser}
 use Rattle.clap.specs.declared.builder.value_parser.ValueParser.TheVariants as value_parser
 use Rattle.clap.proofs.WalkLemmas.{one_text-rows, first_value-rows}
-use Rattle.turn_console.specs.CommandLine.{AskForSectors, AskForDevice, console, sectors_option, device_option}
+use Rattle.turn_console.specs.CommandLine.{AskForSectors, console, sectors_option, device_option}
 use Rattle.turn_console.proofs.CommandLineLemmas.{console_is_simple, default_sectors, default_device}
 use Rattle.turn_console.proofs.command_line.options.Goals as goal
 
