@@ -66,9 +66,9 @@ fn begins_comment(name: &[u8]) -> bool
 // The command of this name, which begins no comment.
 fn read_named(name: &[u8], words: Words<'_>, line: u64) -> Result<Command, LineFault>
     requires { (slice_index name.now 0 == 35) ≡ false }
-    ensures fault { IfErr result (λ fault. line_fault (name.now ∷ words_of words.entry.rest.now) ≡ Some fault) }
-    ensures sound { OnOk result (line_fault (name.now ∷ words_of words.entry.rest.now) ≡ None) }
-    ensures command { IfOk result (λ command. Spells (name.now ∷ words_of words.entry.rest.now) line command) }
+    ensures fault { IfErr result (λ fault. line_fault (name.now ∷ words.entry) ≡ Some fault) }
+    ensures sound { OnOk result (line_fault (name.now ∷ words.entry) ≡ None) }
+    ensures command { IfOk result (λ command. Spells (name.now ∷ words.entry) line command) }
 {
     match text_of(name) {
         "format" => read_format(words),
@@ -93,9 +93,9 @@ fn text_of(word: &[u8]) -> &str
 }
 
 fn read_format(words: Words<'_>) -> Result<Command, LineFault>
-    ensures fault { IfErr result (λ fault. line_fault (codes "format" ∷ words_of words.entry.rest.now) ≡ Some fault) }
-    ensures sound { OnOk result (line_fault (codes "format" ∷ words_of words.entry.rest.now) ≡ None) }
-    ensures command { IfOk result (λ command. (line : ℕ) → Spells (codes "format" ∷ words_of words.entry.rest.now) line command) }
+    ensures fault { IfErr result (λ fault. line_fault (codes "format" ∷ words.entry) ≡ Some fault) }
+    ensures sound { OnOk result (line_fault (codes "format" ∷ words.entry) ≡ None) }
+    ensures command { IfOk result (λ command. (line : ℕ) → Spells (codes "format" ∷ words.entry) line command) }
 {
     let slots = one_word(words)?;
     Ok(Command::Format {
@@ -104,9 +104,9 @@ fn read_format(words: Words<'_>) -> Result<Command, LineFault>
 }
 
 fn read_open(words: Words<'_>) -> Result<Command, LineFault>
-    ensures fault { IfErr result (λ fault. line_fault (codes "open" ∷ words_of words.entry.rest.now) ≡ Some fault) }
-    ensures sound { OnOk result (line_fault (codes "open" ∷ words_of words.entry.rest.now) ≡ None) }
-    ensures command { IfOk result (λ command. (line : ℕ) → Spells (codes "open" ∷ words_of words.entry.rest.now) line command) }
+    ensures fault { IfErr result (λ fault. line_fault (codes "open" ∷ words.entry) ≡ Some fault) }
+    ensures sound { OnOk result (line_fault (codes "open" ∷ words.entry) ≡ None) }
+    ensures command { IfOk result (λ command. (line : ℕ) → Spells (codes "open" ∷ words.entry) line command) }
 {
     let (stations, x, up) = three_words(words)?;
     Ok(Command::Open {
@@ -117,9 +117,9 @@ fn read_open(words: Words<'_>) -> Result<Command, LineFault>
 }
 
 fn read_post(mut words: Words<'_>, reference: u64) -> Result<Command, LineFault>
-    ensures fault { IfErr result (λ fault. line_fault (codes "post" ∷ words_of words.entry.rest.now) ≡ Some fault) }
-    ensures sound { OnOk result (line_fault (codes "post" ∷ words_of words.entry.rest.now) ≡ None) }
-    ensures command { IfOk result (λ command. Spells (codes "post" ∷ words_of words.entry.rest.now) reference command) }
+    ensures fault { IfErr result (λ fault. line_fault (codes "post" ∷ words.entry) ≡ Some fault) }
+    ensures sound { OnOk result (line_fault (codes "post" ∷ words.entry) ≡ None) }
+    ensures command { IfOk result (λ command. Spells (codes "post" ∷ words.entry) reference command) }
 {
     let station = word(&mut words)?;
     let kind = word(&mut words)?;
@@ -132,9 +132,9 @@ fn read_post(mut words: Words<'_>, reference: u64) -> Result<Command, LineFault>
 }
 
 fn read_deposit(station: &[u8], words: Words<'_>, reference: u64) -> Result<Command, LineFault>
-    ensures fault { IfErr result (λ fault. line_fault (codes "post" ∷ station.now ∷ codes "deposit" ∷ words_of words.entry.rest.now) ≡ Some fault) }
-    ensures sound { OnOk result (line_fault (codes "post" ∷ station.now ∷ codes "deposit" ∷ words_of words.entry.rest.now) ≡ None) }
-    ensures command { IfOk result (λ command. Spells (codes "post" ∷ station.now ∷ codes "deposit" ∷ words_of words.entry.rest.now) reference command) }
+    ensures fault { IfErr result (λ fault. line_fault (codes "post" ∷ station.now ∷ codes "deposit" ∷ words.entry) ≡ Some fault) }
+    ensures sound { OnOk result (line_fault (codes "post" ∷ station.now ∷ codes "deposit" ∷ words.entry) ≡ None) }
+    ensures command { IfOk result (λ command. Spells (codes "post" ∷ station.now ∷ codes "deposit" ∷ words.entry) reference command) }
 {
     let (to, amount) = two_words(words)?;
     Ok(Command::Post {
@@ -148,9 +148,9 @@ fn read_deposit(station: &[u8], words: Words<'_>, reference: u64) -> Result<Comm
 }
 
 fn read_withdraw(station: &[u8], words: Words<'_>, reference: u64) -> Result<Command, LineFault>
-    ensures fault { IfErr result (λ fault. line_fault (codes "post" ∷ station.now ∷ codes "withdraw" ∷ words_of words.entry.rest.now) ≡ Some fault) }
-    ensures sound { OnOk result (line_fault (codes "post" ∷ station.now ∷ codes "withdraw" ∷ words_of words.entry.rest.now) ≡ None) }
-    ensures command { IfOk result (λ command. Spells (codes "post" ∷ station.now ∷ codes "withdraw" ∷ words_of words.entry.rest.now) reference command) }
+    ensures fault { IfErr result (λ fault. line_fault (codes "post" ∷ station.now ∷ codes "withdraw" ∷ words.entry) ≡ Some fault) }
+    ensures sound { OnOk result (line_fault (codes "post" ∷ station.now ∷ codes "withdraw" ∷ words.entry) ≡ None) }
+    ensures command { IfOk result (λ command. Spells (codes "post" ∷ station.now ∷ codes "withdraw" ∷ words.entry) reference command) }
 {
     let (from, amount) = two_words(words)?;
     Ok(Command::Post {
@@ -164,9 +164,9 @@ fn read_withdraw(station: &[u8], words: Words<'_>, reference: u64) -> Result<Com
 }
 
 fn read_transfer(station: &[u8], words: Words<'_>, reference: u64) -> Result<Command, LineFault>
-    ensures fault { IfErr result (λ fault. line_fault (codes "post" ∷ station.now ∷ codes "transfer" ∷ words_of words.entry.rest.now) ≡ Some fault) }
-    ensures sound { OnOk result (line_fault (codes "post" ∷ station.now ∷ codes "transfer" ∷ words_of words.entry.rest.now) ≡ None) }
-    ensures command { IfOk result (λ command. Spells (codes "post" ∷ station.now ∷ codes "transfer" ∷ words_of words.entry.rest.now) reference command) }
+    ensures fault { IfErr result (λ fault. line_fault (codes "post" ∷ station.now ∷ codes "transfer" ∷ words.entry) ≡ Some fault) }
+    ensures sound { OnOk result (line_fault (codes "post" ∷ station.now ∷ codes "transfer" ∷ words.entry) ≡ None) }
+    ensures command { IfOk result (λ command. Spells (codes "post" ∷ station.now ∷ codes "transfer" ∷ words.entry) reference command) }
 {
     let (from, to, amount) = three_words(words)?;
     Ok(Command::Post {
@@ -181,9 +181,9 @@ fn read_transfer(station: &[u8], words: Words<'_>, reference: u64) -> Result<Com
 }
 
 fn read_turn(words: Words<'_>) -> Result<Command, LineFault>
-    ensures fault { IfErr result (λ fault. line_fault (codes "turn" ∷ words_of words.entry.rest.now) ≡ Some fault) }
-    ensures sound { OnOk result (line_fault (codes "turn" ∷ words_of words.entry.rest.now) ≡ None) }
-    ensures command { IfOk result (λ command. (line : ℕ) → Spells (codes "turn" ∷ words_of words.entry.rest.now) line command) }
+    ensures fault { IfErr result (λ fault. line_fault (codes "turn" ∷ words.entry) ≡ Some fault) }
+    ensures sound { OnOk result (line_fault (codes "turn" ∷ words.entry) ≡ None) }
+    ensures command { IfOk result (λ command. (line : ℕ) → Spells (codes "turn" ∷ words.entry) line command) }
 {
     let station = one_word(words)?;
     Ok(Command::Turn {
@@ -193,8 +193,8 @@ fn read_turn(words: Words<'_>) -> Result<Command, LineFault>
 
 // The command, where there are no more words.
 fn alone(command: Command, words: Words<'_>) -> Result<Command, LineFault>
-    ensures ok { IfOk result (λ same. (words_of words.entry.rest.now ≡ []) × (same ≡ command)) }
-    ensures err { IfErr result (λ fault. (length (words_of words.entry.rest.now) ≢ 0) × (fault ≡ WrongNumberOfWords)) }
+    ensures ok { IfOk result (λ same. (words.entry ≡ []) × (same ≡ command)) }
+    ensures err { IfErr result (λ fault. (length words.entry ≢ 0) × (fault ≡ WrongNumberOfWords)) }
 {
     end(words)?;
     Ok(command)
@@ -202,8 +202,8 @@ fn alone(command: Command, words: Words<'_>) -> Result<Command, LineFault>
 
 // The one word that is left.
 fn one_word<'a>(mut words: Words<'a>) -> Result<&'a [u8], LineFault>
-    ensures ok { IfOk result (λ word. words_of words.entry.rest.now ≡ word.now ∷ []) }
-    ensures err { IfErr result (λ fault. (length (words_of words.entry.rest.now) ≢ 1) × (fault ≡ WrongNumberOfWords)) }
+    ensures ok { IfOk result (λ word. words.entry ≡ word.now ∷ []) }
+    ensures err { IfErr result (λ fault. (length words.entry ≢ 1) × (fault ≡ WrongNumberOfWords)) }
 {
     let only = word(&mut words)?;
     end(words)?;
@@ -212,8 +212,8 @@ fn one_word<'a>(mut words: Words<'a>) -> Result<&'a [u8], LineFault>
 
 // The two words that are left.
 fn two_words<'a>(mut words: Words<'a>) -> Result<(&'a [u8], &'a [u8]), LineFault>
-    ensures ok { IfOk result (λ pair. words_of words.entry.rest.now ≡ pair.0.now ∷ pair.1.now ∷ []) }
-    ensures err { IfErr result (λ fault. (length (words_of words.entry.rest.now) ≢ 2) × (fault ≡ WrongNumberOfWords)) }
+    ensures ok { IfOk result (λ pair. words.entry ≡ pair.0.now ∷ pair.1.now ∷ []) }
+    ensures err { IfErr result (λ fault. (length words.entry ≢ 2) × (fault ≡ WrongNumberOfWords)) }
 {
     let first = word(&mut words)?;
     let second = word(&mut words)?;
@@ -223,8 +223,8 @@ fn two_words<'a>(mut words: Words<'a>) -> Result<(&'a [u8], &'a [u8]), LineFault
 
 // The three words that are left.
 fn three_words<'a>(mut words: Words<'a>) -> Result<(&'a [u8], &'a [u8], &'a [u8]), LineFault>
-    ensures ok { IfOk result (λ three. words_of words.entry.rest.now ≡ three.0.now ∷ three.1.now ∷ three.2.now ∷ []) }
-    ensures err { IfErr result (λ fault. (length (words_of words.entry.rest.now) ≢ 3) × (fault ≡ WrongNumberOfWords)) }
+    ensures ok { IfOk result (λ three. words.entry ≡ three.0.now ∷ three.1.now ∷ three.2.now ∷ []) }
+    ensures err { IfErr result (λ fault. (length words.entry ≢ 3) × (fault ≡ WrongNumberOfWords)) }
 {
     let first = word(&mut words)?;
     let second = word(&mut words)?;
@@ -235,8 +235,8 @@ fn three_words<'a>(mut words: Words<'a>) -> Result<(&'a [u8], &'a [u8], &'a [u8]
 
 // The next word, which has to be there.
 fn word<'a>(words: &mut Words<'a>) -> Result<&'a [u8], LineFault>
-    ensures ok { IfOk result (λ word. words_of words.old.rest.now ≡ word.now ∷ words_of words.new.rest.now) }
-    ensures err { IfErr result (λ fault. (words_of words.old.rest.now ≡ []) × (fault ≡ WrongNumberOfWords)) }
+    ensures ok { IfOk result (λ word. words.old ≡ word.now ∷ words.new) }
+    ensures err { IfErr result (λ fault. (words.old ≡ []) × (fault ≡ WrongNumberOfWords)) }
 {
     match words.next() {
         Some(word) => Ok(word),
@@ -246,8 +246,8 @@ fn word<'a>(words: &mut Words<'a>) -> Result<&'a [u8], LineFault>
 
 // That there are no more words.
 fn end(mut words: Words<'_>) -> Result<(), LineFault>
-    ensures ok { OnOk result (words_of words.entry.rest.now ≡ []) }
-    ensures err { IfErr result (λ fault. (0 < length (words_of words.entry.rest.now)) × (fault ≡ WrongNumberOfWords)) }
+    ensures ok { OnOk result (words.entry ≡ []) }
+    ensures err { IfErr result (λ fault. (0 < length words.entry) × (fault ≡ WrongNumberOfWords)) }
 {
     match words.next() {
         Some(_) => Err(LineFault::WrongNumberOfWords),

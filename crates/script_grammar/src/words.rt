@@ -3,17 +3,28 @@ ghost use Rattle.std.specs.Prelude.{◌≡◌, ◌<◌, false, [], ◌∷◌, �
 ghost use Rattle.std.specs.Str.Lines.{lines, strip_carriage_return};
 ghost use Rattle.script_grammar.specs.Script.{words_of};
 
-/// The lines of a script, without their ends: a line feed, and one carriage return before it. What stands behind the
-/// last line feed is a line too, unless it is empty.
-#[derive(Clone, Copy)]
+use std::marker::Model;
+
+/// The lines of a script, seen as their list, without their ends: a line feed, and one carriage return before it. What
+/// stands behind the last line feed is a line too, unless it is empty.
+#[derive(Drop)]
 pub struct Lines<'a> {
     rest: &'a [u8],
+}
+
+impl<'a> Model for Lines<'a> {
+    ghost use Rattle.std.specs.Prelude.{List, ℕ};
+    ghost use Rattle.std.specs.Str.Lines.{lines};
+
+    ghost Value = { List (List ℕ) };
+
+    ghost view = { λ script. lines script.rest.now };
 }
 
 impl<'a> Lines<'a> {
     /// The lines of these bytes.
     pub fn of(script: &'a [u8]) -> Lines<'a>
-        ensures { lines result.rest.now ≡ lines script.now }
+        ensures { result ≡ lines script.now }
     {
         Lines { rest: script }
     }
@@ -24,9 +35,9 @@ impl<'a> Iterator for Lines<'a> {
 
     ghost use Rattle.std.specs.Iterator.{YieldsFirstRef, item_count};
 
-    ghost next_gives = { YieldsFirstRef (λ s. lines s.rest.now) };
+    ghost next_gives = { YieldsFirstRef (λ lines. lines) };
 
-    ghost remaining = { item_count (λ s. lines s.rest.now) };
+    ghost remaining = { item_count (λ lines. lines) };
 
     fn next(&mut self) -> Option<&'a [u8]> {
         match split_at_byte(self.rest, b'\n') {
@@ -48,16 +59,25 @@ fn without_return(line: &[u8]) -> &[u8]
     }
 }
 
-/// The words of a line: what stands between its spaces.
-#[derive(Clone, Copy)]
+/// The words of a line, seen as their list: what stands between its spaces.
+#[derive(Drop)]
 pub struct Words<'a> {
     rest: &'a [u8],
+}
+
+impl<'a> Model for Words<'a> {
+    ghost use Rattle.std.specs.Prelude.{List, ℕ};
+    ghost use Rattle.script_grammar.specs.Script.{words_of};
+
+    ghost Value = { List (List ℕ) };
+
+    ghost view = { λ words. words_of words.rest.now };
 }
 
 impl<'a> Words<'a> {
     /// The words of these bytes.
     pub fn of(line: &'a [u8]) -> Words<'a>
-        ensures { words_of result.rest.now ≡ words_of line.now }
+        ensures { result ≡ words_of line.now }
     {
         Words { rest: line }
     }
@@ -68,9 +88,9 @@ impl<'a> Iterator for Words<'a> {
 
     ghost use Rattle.std.specs.Iterator.{YieldsFirstRef, item_count};
 
-    ghost next_gives = { YieldsFirstRef (λ s. words_of s.rest.now) };
+    ghost next_gives = { YieldsFirstRef (λ words. words) };
 
-    ghost remaining = { item_count (λ s. words_of s.rest.now) };
+    ghost remaining = { item_count (λ words. words) };
 
     fn next(&mut self) -> Option<&'a [u8]> {
         'pieces: loop {

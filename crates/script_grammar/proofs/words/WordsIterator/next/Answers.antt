@@ -8,7 +8,7 @@ pub returns-then-not-is_empty-clause-steps : goal.returns-then-not-is_empty-clau
 returns-then-not-is_empty-clause-steps c =
     let cut = c.in-Some.ensures.some in
     let some : 0 < length c.in-Some.word.now = grind (arith, nat_tests) in
-    sym c.pieces.invariant ∙ ap words_of cut.0 ∙ words_cut_some c.in-Some.word.now c.in-Some.rest.now cut.1 some
+    sym c.self.view_is ∙ sym c.pieces.invariant ∙ ap words_of cut.0 ∙ words_cut_some c.in-Some.word.now c.in-Some.rest.now cut.1 some
 
 pub returns-then-not-is_empty-clause-goes : goal.returns-then-not-is_empty-clause-goes
 returns-then-not-is_empty-clause-goes c =
@@ -17,5 +17,5 @@ returns-then-not-is_empty-clause-goes c =
 
 pub returns-in-None-clause-steps : goal.returns-in-None-clause-steps
 returns-in-None-clause-steps c =
-    last_step _ _ _ _ c.pieces.invariant (ap words_of c.last_piece.ensures.emptied)
+    last_step _ _ _ _ (c.pieces.invariant ∙ c.self.view_is) (ap words_of c.last_piece.ensures.emptied)
     (last_word _ _ (c.in-None.ensures.none refl) c.last_piece.ensures.piece)
