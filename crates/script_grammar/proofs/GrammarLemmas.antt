@@ -1,26 +1,19 @@
 -- What the grammar says of a line, form by form.
-use Rattle.std.proofs.Common.{◌≡◌, ◌≢◌, ◌∙◌, ℕ, ◌<◌, ◌&&◌, Bool, true, false, Option, Some, None, Result, Ok, Err, List, [], ◌∷◌, length, ◌==◌, nat_lt, arith, refl, sym, ap, subst, codes}
-use Rattle.std.specs.Prelude.{slice_index, IfErr, IfOk, OnOk}
+use Rattle.std.proofs.Common.{◌≡◌, ◌≢◌, ◌∙◌, ◌⊎◌, inl, inr, ℕ, suc, ◌<◌, ◌&&◌, Bool, true, false, Option, Some, None, Result, List, [], ◌∷◌, length, ◌==◌, nat_lt, arith, refl, sym, ap, subst, codes}
+use Rattle.std.specs.Prelude.{slice_index}
 use Rattle.std.specs.Str.{bytes_eq, IsUtf8}
-use Rattle.std.specs.Str.Parse.{digits_value}
 use Rattle.std.specs.List.{list_all}
-use Rattle.std.specs.Int.NonZero.{non_zero_u64_get}
-use Rattle.std.specs.declared.num.NonZeroU64.{NonZeroU64}
-use Rattle.std.proofs.lemmas.Bool.{ne_eqb, false_from_ne_true, and_parts, ltb-true}
+use Rattle.std.proofs.lemmas.Bool.{eq-eqb, ne_eqb, false_from_ne_true, and_parts, ltb-true}
+use Rattle.std.proofs.lemmas.Bool.Decides.{eqb_tells}
 use Rattle.std.proofs.lemmas.List.Sums.{AllPass-from_list_all}
 use Rattle.std.proofs.lemmas.Slice.Eq.{bytes_eq-Decides}
 use Rattle.std.proofs.lemmas.Str.{IsUtf8-from_ascii}
 use Rattle.std.proofs.lemmas.Str.Ascii.{IsAscii-from_all}
-use Rattle.script_grammar.specs.Bits.{bits_of}
-use Rattle.script_grammar.specs.Script.{bits_written}
-use Rattle.script_grammar.specs.Grammar.{Place, Spells, first_wrong, line_fault, takes, told_as}
-use Rattle.script_grammar.specs.Grammar.{Slots, Number, Account, BitText}
-use Rattle.script_grammar.specs.declared.numbers.Bits.{Bits as BitsKept}
+use Rattle.script_grammar.specs.Grammar.{Fills, IsRead, Place, Value, first_wrong, line_fault, takes, told_as, told_of_one, values}
+use Rattle.script_grammar.specs.Grammar.{Name, Number}
 use Rattle.script_grammar.specs.declared.commands.Command.{Command}
-use Rattle.script_grammar.specs.declared.commands.Command.TheVariants.{Format, Open, Post, Turn, Bits, Balances, Crash}
 use Rattle.script_grammar.specs.declared.faults.LineFault.{LineFault}
 use Rattle.script_grammar.specs.declared.faults.LineFault.TheVariants.{UnknownCommand, WrongNumberOfWords}
-use Rattle.turn_ledger.specs.declared.entry.Entry.TheVariants.{Deposit, Withdraw, Transfer}
 
 abbrev Word : Type 0
 Word = List ℕ
@@ -45,148 +38,76 @@ none_wrong = refl
 pub told : (found : Option LineFault) (known : LineFault) → found ≡ Some known → (fault : LineFault) → fault ≡ known → found ≡ Some fault
 told found known e fault same = e ∙ ap (λ (f : LineFault). Some f) (sym same)
 
--- ---- each form: words of its length, and words of another
+-- ---- the one form with the names of a line
 
-pub format_is : (rest : List Word) (k : Word) → rest ≡ k ∷ [] → line_fault (codes "format" ∷ rest) ≡ first_wrong (Slots ∷ []) (k ∷ [])
-unfolding line_fault first_wrong takes
-format_is rest k e = rw e refl
+pub as_long : (form : List Place) (words exact : List Word) → words ≡ exact → length form ≡ length exact → told_of_one form words ≡ first_wrong form exact
+as_long form words exact same long =
+    let test : (length form == length exact) ≡ true = eq-eqb _ _ long in
+    ap (told_of_one form) same ∙ rw test refl
 
-pub format_not : (rest : List Word) → length rest ≢ 1 → line_fault (codes "format" ∷ rest) ≡ Some WrongNumberOfWords
-unfolding line_fault first_wrong takes
-format_not [] h = refl
-format_not (k ∷ more) h =
-    let other : (2 == length (codes "format" ∷ k ∷ more)) ≡ false = ne_eqb _ _ (λ e. h (omega arith)) in
-    rw other refl
+pub not_as_long : (form : List Place) (words : List Word) → length words ≢ length form → told_of_one form words ≡ Some WrongNumberOfWords
+not_as_long form words other =
+    let test : (length form == length words) ≡ false = ne_eqb _ _ (λ e. other (sym e)) in
+    rw test refl
 
-pub open_is : (rest : List Word) (j a b : Word) → rest ≡ j ∷ a ∷ b ∷ [] → line_fault (codes "open" ∷ rest) ≡ first_wrong (Number ∷ BitText ∷ BitText ∷ []) (j ∷ a ∷ b ∷ [])
-unfolding line_fault first_wrong takes
-open_is rest j a b e = rw e refl
+pub name_taken : (name : Word) → takes (Name name) name ≡ true
+unfolding takes
+name_taken name = (bytes_eq-Decides name name).1 refl
 
-pub open_not : (rest : List Word) → length rest ≢ 3 → line_fault (codes "open" ∷ rest) ≡ Some WrongNumberOfWords
-unfolding line_fault first_wrong takes
-open_not [] h = refl
-open_not (j ∷ []) h = refl
-open_not (j ∷ a ∷ []) h = refl
-open_not (j ∷ a ∷ b ∷ more) h =
-    let other : (4 == length (codes "open" ∷ j ∷ a ∷ b ∷ more)) ≡ false = ne_eqb _ _ (λ e. h (omega arith)) in
-    rw other refl
+name_aside : (name : Word) (places : List Place) (words : List Word)
+    → ((length places == length words) ≡ true) × (length places ≡ length words) ⊎ ((length places == length words) ≡ false) × (length places ≢ length words)
+    → told_of_one (Name name ∷ places) (name ∷ words) ≡ told_of_one places words
+name_aside name places words (inl same) =
+    as_long (Name name ∷ places) (name ∷ words) (name ∷ words) refl (ap suc same.1)
+    ∙ taken (Name name) places name words (name_taken name) ∙ sym (as_long places words words refl same.1)
+name_aside name places words (inr other) =
+    not_as_long (Name name ∷ places) (name ∷ words) (λ e. other.1 (omega arith)) ∙ sym (not_as_long places words (λ e. other.1 (sym e)))
 
-pub turn_is : (rest : List Word) (s : Word) → rest ≡ s ∷ [] → line_fault (codes "turn" ∷ rest) ≡ first_wrong (Number ∷ []) (s ∷ [])
-unfolding line_fault first_wrong takes
-turn_is rest s e = rw e refl
+-- what is told of words stays the same with a name in front
+pub behind_name : (name : Word) (places : List Place) (words : List Word) → told_of_one (Name name ∷ places) (name ∷ words) ≡ told_of_one places words
+behind_name name places words = name_aside name places words (eqb_tells (length places) (length words))
 
-pub turn_not : (rest : List Word) → length rest ≢ 1 → line_fault (codes "turn" ∷ rest) ≡ Some WrongNumberOfWords
-unfolding line_fault first_wrong takes
-turn_not [] h = refl
-turn_not (s ∷ more) h =
-    let other : (2 == length (codes "turn" ∷ s ∷ more)) ≡ false = ne_eqb _ _ (λ e. h (omega arith)) in
-    rw other refl
+second_taken : (place : Place) (name : Word) (places : List Place) (word : Word) (words : List Word)
+    → first_wrong (place ∷ Name name ∷ places) (word ∷ name ∷ words) ≡ first_wrong (place ∷ places) (word ∷ words)
+unfolding first_wrong
+second_taken place name places word words = rw (name_taken name) refl
 
-pub deposit_is : (s : Word) (rest : List Word) (a m : Word) → rest ≡ a ∷ m ∷ [] → line_fault (codes "post" ∷ s ∷ codes "deposit" ∷ rest) ≡ first_wrong (Number ∷ Account ∷ Number ∷ []) (s ∷ a ∷ m ∷ [])
-unfolding line_fault first_wrong takes
-deposit_is s rest a m e = rw e refl
+kind_aside : (place : Place) (name : Word) (places : List Place) (word : Word) (words : List Word)
+    → ((length places == length words) ≡ true) × (length places ≡ length words) ⊎ ((length places == length words) ≡ false) × (length places ≢ length words)
+    → told_of_one (place ∷ Name name ∷ places) (word ∷ name ∷ words) ≡ told_of_one (place ∷ places) (word ∷ words)
+kind_aside place name places word words (inl same) =
+    as_long (place ∷ Name name ∷ places) (word ∷ name ∷ words) (word ∷ name ∷ words) refl (ap (λ n. suc (suc n)) same.1)
+    ∙ second_taken place name places word words ∙ sym (as_long (place ∷ places) (word ∷ words) (word ∷ words) refl (ap suc same.1))
+kind_aside place name places word words (inr other) =
+    not_as_long (place ∷ Name name ∷ places) (word ∷ name ∷ words) (λ e. other.1 (omega arith))
+    ∙ sym (not_as_long (place ∷ places) (word ∷ words) (λ e. other.1 (omega arith)))
 
-pub deposit_not : (s : Word) (rest : List Word) → length rest ≢ 2 → line_fault (codes "post" ∷ s ∷ codes "deposit" ∷ rest) ≡ Some WrongNumberOfWords
-unfolding line_fault first_wrong takes
-deposit_not s [] h = refl
-deposit_not s (a ∷ []) h = refl
-deposit_not s (a ∷ m ∷ more) h =
-    let other : (5 == length (codes "post" ∷ s ∷ codes "deposit" ∷ a ∷ m ∷ more)) ≡ false = ne_eqb _ _ (λ e. h (omega arith)) in
-    rw other refl
+-- and with a name in the second place
+pub behind_kind : (place : Place) (name : Word) (places : List Place) (word : Word) (words : List Word)
+    → told_of_one (place ∷ Name name ∷ places) (word ∷ name ∷ words) ≡ told_of_one (place ∷ places) (word ∷ words)
+behind_kind place name places word words = kind_aside place name places word words (eqb_tells (length places) (length words))
 
-pub withdraw_is : (s : Word) (rest : List Word) (a m : Word) → rest ≡ a ∷ m ∷ [] → line_fault (codes "post" ∷ s ∷ codes "withdraw" ∷ rest) ≡ first_wrong (Number ∷ Account ∷ Number ∷ []) (s ∷ a ∷ m ∷ [])
-unfolding line_fault first_wrong takes
-withdraw_is s rest a m e = rw e refl
+-- ---- words that fill a form
 
-pub withdraw_not : (s : Word) (rest : List Word) → length rest ≢ 2 → line_fault (codes "post" ∷ s ∷ codes "withdraw" ∷ rest) ≡ Some WrongNumberOfWords
-unfolding line_fault first_wrong takes
-withdraw_not s [] h = refl
-withdraw_not s (a ∷ []) h = refl
-withdraw_not s (a ∷ m ∷ more) h =
-    let other : (5 == length (codes "post" ∷ s ∷ codes "withdraw" ∷ a ∷ m ∷ more)) ≡ false = ne_eqb _ _ (λ e. h (omega arith)) in
-    rw other refl
+pub fills : (form : List Place) (words exact : List Word) (these : List Value) → words ≡ exact → length exact ≡ length form
+    → first_wrong form exact ≡ None → values form exact ≡ these → Fills words form these
+unfolding Fills
+fills form words exact these same long right written =
+    subst (λ (l : List Word). (length l ≡ length form) × (first_wrong form l ≡ None) × (values form l ≡ these)) (sym same) (long, right, written)
 
-pub transfer_is : (s : Word) (rest : List Word) (a b m : Word) → rest ≡ a ∷ b ∷ m ∷ [] → line_fault (codes "post" ∷ s ∷ codes "transfer" ∷ rest) ≡ first_wrong (Number ∷ Account ∷ Account ∷ Number ∷ []) (s ∷ a ∷ b ∷ m ∷ [])
-unfolding line_fault first_wrong takes
-transfer_is s rest a b m e = rw e refl
+pub fills_named : (name : Word) (places : List Place) (words : List Word) (these : List Value) → Fills words places these
+    → Fills (name ∷ words) (Name name ∷ places) these
+unfolding Fills
+fills_named name places words these full = (ap suc full.0, taken (Name name) places name words (name_taken name) ∙ full.1, full.2)
 
-pub transfer_not : (s : Word) (rest : List Word) → length rest ≢ 3 → line_fault (codes "post" ∷ s ∷ codes "transfer" ∷ rest) ≡ Some WrongNumberOfWords
-unfolding line_fault first_wrong takes
-transfer_not s [] h = refl
-transfer_not s (a ∷ []) h = refl
-transfer_not s (a ∷ b ∷ []) h = refl
-transfer_not s (a ∷ b ∷ m ∷ more) h =
-    let other : (6 == length (codes "post" ∷ s ∷ codes "transfer" ∷ a ∷ b ∷ m ∷ more)) ≡ false = ne_eqb _ _ (λ e. h (omega arith)) in
-    rw other refl
+pub fills_kind : (name : Word) (places : List Place) (word : Word) (words : List Word) (these : List Value) → Fills (word ∷ words) (Number ∷ places) these
+    → Fills (word ∷ name ∷ words) (Number ∷ Name name ∷ places) these
+unfolding Fills
+fills_kind name places word words these full = (omega (arith, full.0), second_taken Number name places word words ∙ full.1, full.2)
 
-pub bits_is : (rest : List Word) → rest ≡ [] → line_fault (codes "bits" ∷ rest) ≡ None
-unfolding line_fault first_wrong takes
-bits_is rest e = rw e refl
-
-pub bits_not : (rest : List Word) → length rest ≢ 0 → line_fault (codes "bits" ∷ rest) ≡ Some WrongNumberOfWords
-unfolding line_fault first_wrong takes
-bits_not rest h =
-    let other : (1 == length (codes "bits" ∷ rest)) ≡ false = ne_eqb _ _ (λ e. h (omega arith)) in
-    rw other refl
-
-pub balances_is : (rest : List Word) → rest ≡ [] → line_fault (codes "balances" ∷ rest) ≡ None
-unfolding line_fault first_wrong takes
-balances_is rest e = rw e refl
-
-pub balances_not : (rest : List Word) → length rest ≢ 0 → line_fault (codes "balances" ∷ rest) ≡ Some WrongNumberOfWords
-unfolding line_fault first_wrong takes
-balances_not rest h =
-    let other : (1 == length (codes "balances" ∷ rest)) ≡ false = ne_eqb _ _ (λ e. h (omega arith)) in
-    rw other refl
-
-pub crash_is : (rest : List Word) → rest ≡ [] → line_fault (codes "crash" ∷ rest) ≡ None
-unfolding line_fault first_wrong takes
-crash_is rest e = rw e refl
-
-pub crash_not : (rest : List Word) → length rest ≢ 0 → line_fault (codes "crash" ∷ rest) ≡ Some WrongNumberOfWords
-unfolding line_fault first_wrong takes
-crash_not rest h =
-    let other : (1 == length (codes "crash" ∷ rest)) ≡ false = ne_eqb _ _ (λ e. h (omega arith)) in
-    rw other refl
-
--- ---- what the words of a form spell
-
-pub format_spelled : (rest : List Word) (k : Word) (slots : NonZeroU64) (line : ℕ) → rest ≡ k ∷ []
-    → non_zero_u64_get slots ≡ digits_value 10 k → Spells (codes "format" ∷ rest) line (Format slots)
-unfolding Spells
-format_spelled rest k slots line e is = (k, ap (λ (r : List Word). codes "format" ∷ r) e, is)
-
-pub open_spelled : (rest : List Word) (j a b : Word) (n : ℕ) (x up : BitsKept) (line : ℕ) → rest ≡ j ∷ a ∷ b ∷ []
-    → n ≡ digits_value 10 j → bits_of x ≡ bits_written a → bits_of up ≡ bits_written b
-    → Spells (codes "open" ∷ rest) line (Open n x up)
-unfolding Spells
-open_spelled rest j a b n x up line e is x_is up_is = (j, a, b, ap (λ (r : List Word). codes "open" ∷ r) e, is, x_is, up_is)
-
-pub turn_spelled : (rest : List Word) (s : Word) (n line : ℕ) → rest ≡ s ∷ [] → n ≡ digits_value 10 s
-    → Spells (codes "turn" ∷ rest) line (Turn n)
-unfolding Spells
-turn_spelled rest s n line e is = (s, ap (λ (r : List Word). codes "turn" ∷ r) e, is)
-
-pub deposit_spelled : (s : Word) (rest : List Word) (a m : Word) (n to amount line : ℕ) → rest ≡ a ∷ m ∷ []
-    → n ≡ digits_value 10 s → to ≡ digits_value 10 a → amount ≡ digits_value 10 m
-    → Spells (codes "post" ∷ s ∷ codes "deposit" ∷ rest) line (Post n (Deposit to amount line))
-unfolding Spells
-deposit_spelled s rest a m n to amount line e n_is to_is amount_is =
-    (s, a, m, ap (λ (r : List Word). codes "post" ∷ s ∷ codes "deposit" ∷ r) e, n_is, to_is, amount_is, refl)
-
-pub withdraw_spelled : (s : Word) (rest : List Word) (a m : Word) (n from amount line : ℕ) → rest ≡ a ∷ m ∷ []
-    → n ≡ digits_value 10 s → from ≡ digits_value 10 a → amount ≡ digits_value 10 m
-    → Spells (codes "post" ∷ s ∷ codes "withdraw" ∷ rest) line (Post n (Withdraw from amount line))
-unfolding Spells
-withdraw_spelled s rest a m n from amount line e n_is from_is amount_is =
-    (s, a, m, ap (λ (r : List Word). codes "post" ∷ s ∷ codes "withdraw" ∷ r) e, n_is, from_is, amount_is, refl)
-
-pub transfer_spelled : (s : Word) (rest : List Word) (a b m : Word) (n from to amount line : ℕ) → rest ≡ a ∷ b ∷ m ∷ []
-    → n ≡ digits_value 10 s → from ≡ digits_value 10 a → to ≡ digits_value 10 b → amount ≡ digits_value 10 m
-    → Spells (codes "post" ∷ s ∷ codes "transfer" ∷ rest) line (Post n (Transfer from to amount line))
-unfolding Spells
-transfer_spelled s rest a b m n from to amount line e n_is from_is to_is amount_is =
-    (s, a, b, m, ap (λ (r : List Word). codes "post" ∷ s ∷ codes "transfer" ∷ r) e, n_is, from_is, to_is, amount_is, refl)
+pub nothing_told : (form : List Place) (words : List Word) (these : List Value) → Fills words form these → told_of_one form words ≡ None
+unfolding Fills
+nothing_told form words these full = as_long form words words refl (sym full.0) ∙ full.1
 
 -- ---- names
 
@@ -213,6 +134,29 @@ no_name text word name same plain other =
     let alike = same name (plain_utf8 name plain) (ltb-true _ _ (and_parts _ _ plain).0) in
     sym alike ∙ false_from_ne_true _ (λ t. other ((bytes_eq-Decides text name).0 t))
 
+-- ---- every line
+
+pub unnamed : (name : Word) (rest : List Word) → (slice_index name 0 == 35) ≡ false
+    → bytes_eq name (codes "format") ≡ false → bytes_eq name (codes "open") ≡ false → bytes_eq name (codes "post") ≡ false
+    → bytes_eq name (codes "turn") ≡ false → bytes_eq name (codes "bits") ≡ false → bytes_eq name (codes "balances") ≡ false
+    → bytes_eq name (codes "crash") ≡ false → line_fault (name ∷ rest) ≡ Some UnknownCommand
+unfolding line_fault first_wrong takes
+unnamed name rest no_comment f o p t b l c = rw (no_comment, f, o, p, t, b, l, c) refl
+
+pub no_words : (words : List Word) → words ≡ [] → line_fault words ≡ None
+unfolding line_fault
+no_words words e = rw e refl
+
+pub comment : (words rest : List Word) (name : Word) → words ≡ name ∷ rest → (slice_index name 0 == 35) ≡ true → line_fault words ≡ None
+unfolding line_fault
+comment words rest name e is = rw (e, is) refl
+
+-- the words of a line whose first word is told to be a name
+pub named : (text word name : Word) (words : List Word)
+    → ((other : Word) → IsUtf8 other → 0 < length other → bytes_eq text other ≡ bytes_eq word other)
+    → is_plain name ≡ true → text ≡ name → (word ∷ words) ≡ (name ∷ words)
+named text word name words same plain e = ap (λ (w : Word). w ∷ words) (is_name text word name same plain e)
+
 -- ---- lines that begin with `post`
 
 pub post_alone : (rest : List Word) → rest ≡ [] → line_fault (codes "post" ∷ rest) ≡ Some WrongNumberOfWords
@@ -233,65 +177,7 @@ pub post_unknown : (rest more after : List Word) (s kind : Word) → rest ≡ s 
 unfolding line_fault first_wrong takes
 post_unknown rest more after s kind e f d w t = rw (e, f, d, w, t) refl
 
--- ---- every line
-
-pub unnamed : (name : Word) (rest : List Word) → (slice_index name 0 == 35) ≡ false
-    → bytes_eq name (codes "format") ≡ false → bytes_eq name (codes "open") ≡ false → bytes_eq name (codes "post") ≡ false
-    → bytes_eq name (codes "turn") ≡ false → bytes_eq name (codes "bits") ≡ false → bytes_eq name (codes "balances") ≡ false
-    → bytes_eq name (codes "crash") ≡ false → line_fault (name ∷ rest) ≡ Some UnknownCommand
-unfolding line_fault first_wrong takes
-unnamed name rest no_comment f o p t b l c = rw (no_comment, f, o, p, t, b, l, c) refl
-
-pub no_words : (words : List Word) → words ≡ [] → line_fault words ≡ None
-unfolding line_fault
-no_words words e = rw e refl
-
-pub comment : (words rest : List Word) (name : Word) → words ≡ name ∷ rest → (slice_index name 0 == 35) ≡ true → line_fault words ≡ None
-unfolding line_fault
-comment words rest name e is = rw (e, is) refl
-
 -- ---- what is known of a line by other words
 
-pub same_fault : (a b : List Word) (r : Result Command LineFault) → a ≡ b → IfErr r (λ fault. line_fault b ≡ Some fault) → IfErr r (λ fault. line_fault a ≡ Some fault)
-same_fault a b r e h = subst (λ (words : List Word). IfErr r (λ fault. line_fault words ≡ Some fault)) (sym e) h
-
-pub same_sound : (a b : List Word) (r : Result Command LineFault) → a ≡ b → OnOk r (line_fault b ≡ None) → OnOk r (line_fault a ≡ None)
-same_sound a b r e h = subst (λ (words : List Word). OnOk r (line_fault words ≡ None)) (sym e) h
-
-pub same_command : (a b : List Word) (r : Result Command LineFault) (line : ℕ) → a ≡ b
-    → IfOk r (λ command. Spells b line command) → IfOk r (λ command. Spells a line command)
-same_command a b r line e h = subst (λ (words : List Word). IfOk r (λ command. Spells words line command)) (sym e) h
-
-pub of_any_line : (words : List Word) (r : Result Command LineFault) (line : ℕ)
-    → IfOk r (λ command. (n : ℕ) → Spells words n command) → IfOk r (λ command. Spells words line command)
-of_any_line words (Ok command) line h = h line
-of_any_line words (Err fault) line h = tt
-
--- ---- a command of one word
-
-pub alone_fault : (words rest : List Word) (r : Result Command LineFault) → (length rest ≢ 0 → line_fault words ≡ Some WrongNumberOfWords)
-    → IfErr r (λ fault. (length rest ≢ 0) × (fault ≡ WrongNumberOfWords)) → IfErr r (λ fault. line_fault words ≡ Some fault)
-alone_fault words rest (Ok command) h e = tt
-alone_fault words rest (Err fault) h e = told _ _ (h e.0) fault e.1
-
-pub alone_sound : (words rest : List Word) (r : Result Command LineFault) (command : Command) → (rest ≡ [] → line_fault words ≡ None)
-    → IfOk r (λ same. (rest ≡ []) × (same ≡ command)) → OnOk r (line_fault words ≡ None)
-alone_sound words rest (Ok same) command h e = h e.0
-alone_sound words rest (Err fault) command h e = tt
-
-pub alone_command : (words rest : List Word) (r : Result Command LineFault) (command : Command) (line : ℕ) → (rest ≡ [] → Spells words line command)
-    → IfOk r (λ same. (rest ≡ []) × (same ≡ command)) → IfOk r (λ same. Spells words line same)
-alone_command words rest (Ok same) command line h e = subst (λ (c : Command). Spells words line c) (sym e.1) (h e.0)
-alone_command words rest (Err fault) command line h e = tt
-
-pub bits_spelled : (rest : List Word) (line : ℕ) → rest ≡ [] → Spells (codes "bits" ∷ rest) line Bits
-unfolding Spells
-bits_spelled rest line e = ap (λ (r : List Word). codes "bits" ∷ r) e
-
-pub balances_spelled : (rest : List Word) (line : ℕ) → rest ≡ [] → Spells (codes "balances" ∷ rest) line Balances
-unfolding Spells
-balances_spelled rest line e = ap (λ (r : List Word). codes "balances" ∷ r) e
-
-pub crash_spelled : (rest : List Word) (line : ℕ) → rest ≡ [] → Spells (codes "crash" ∷ rest) line Crash
-unfolding Spells
-crash_spelled rest line e = ap (λ (r : List Word). codes "crash" ∷ r) e
+pub same_words : (a b : List Word) (line : ℕ) (r : Result Command LineFault) → a ≡ b → IsRead b line r → IsRead a line r
+same_words a b line r e h = subst (λ (words : List Word). IsRead words line r) (sym e) h

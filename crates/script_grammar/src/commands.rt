@@ -3,8 +3,8 @@ ghost use Rattle.std.specs.Prelude.{◌≡◌, ◌≢◌, ℕ, ◌<◌, true, fa
 ghost use Rattle.std.specs.Int.NonZero.{non_zero_u64_get};
 ghost use Rattle.std.specs.Str.Parse.{digits_value};
 ghost use Rattle.script_grammar.specs.Bits.{bits_of};
-ghost use Rattle.script_grammar.specs.Grammar.{Spells, is_skipped, line_fault, takes};
-ghost use Rattle.script_grammar.specs.Grammar.{Account, BitText, Number, Slots};
+ghost use Rattle.script_grammar.specs.Grammar.{Fills, IsRead, Spells, is_skipped, line_fault, takes, told_of_one};
+ghost use Rattle.script_grammar.specs.Grammar.{Account, BitText, Number, NumberIs, Slots};
 ghost use Rattle.script_grammar.specs.Script.{bits_written, words_of};
 ghost use Rattle.script_grammar.specs.declared.faults.LineFault.TheVariants.{BadBits, BadNumber, WrongNumberOfWords};
 
@@ -66,9 +66,7 @@ fn begins_comment(name: &[u8]) -> bool
 // The command of this name, which begins no comment.
 fn read_named(name: &[u8], words: Words<'_>, line: u64) -> Result<Command, LineFault>
     requires { (slice_index name.now 0 == 35) ≡ false }
-    ensures fault { IfErr result (λ fault. line_fault (name.now ∷ words.entry) ≡ Some fault) }
-    ensures sound { OnOk result (line_fault (name.now ∷ words.entry) ≡ None) }
-    ensures command { IfOk result (λ command. Spells (name.now ∷ words.entry) line command) }
+    ensures { IsRead (name.now ∷ words.entry) line result }
 {
     match text_of(name) {
         "format" => read_format(words),
@@ -93,9 +91,7 @@ fn text_of(word: &[u8]) -> &str
 }
 
 fn read_format(words: Words<'_>) -> Result<Command, LineFault>
-    ensures fault { IfErr result (λ fault. line_fault (codes "format" ∷ words.entry) ≡ Some fault) }
-    ensures sound { OnOk result (line_fault (codes "format" ∷ words.entry) ≡ None) }
-    ensures command { IfOk result (λ command. (line : ℕ) → Spells (codes "format" ∷ words.entry) line command) }
+    ensures { (line : ℕ) → IsRead (codes "format" ∷ words.entry) line result }
 {
     let slots = one_word(words)?;
     Ok(Command::Format {
@@ -104,9 +100,7 @@ fn read_format(words: Words<'_>) -> Result<Command, LineFault>
 }
 
 fn read_open(words: Words<'_>) -> Result<Command, LineFault>
-    ensures fault { IfErr result (λ fault. line_fault (codes "open" ∷ words.entry) ≡ Some fault) }
-    ensures sound { OnOk result (line_fault (codes "open" ∷ words.entry) ≡ None) }
-    ensures command { IfOk result (λ command. (line : ℕ) → Spells (codes "open" ∷ words.entry) line command) }
+    ensures { (line : ℕ) → IsRead (codes "open" ∷ words.entry) line result }
 {
     let (stations, x, up) = three_words(words)?;
     Ok(Command::Open {
@@ -117,9 +111,7 @@ fn read_open(words: Words<'_>) -> Result<Command, LineFault>
 }
 
 fn read_post(mut words: Words<'_>, reference: u64) -> Result<Command, LineFault>
-    ensures fault { IfErr result (λ fault. line_fault (codes "post" ∷ words.entry) ≡ Some fault) }
-    ensures sound { OnOk result (line_fault (codes "post" ∷ words.entry) ≡ None) }
-    ensures command { IfOk result (λ command. Spells (codes "post" ∷ words.entry) reference command) }
+    ensures { IsRead (codes "post" ∷ words.entry) reference result }
 {
     let station = word(&mut words)?;
     let kind = word(&mut words)?;
@@ -132,41 +124,44 @@ fn read_post(mut words: Words<'_>, reference: u64) -> Result<Command, LineFault>
 }
 
 fn read_deposit(station: &[u8], words: Words<'_>, reference: u64) -> Result<Command, LineFault>
-    ensures fault { IfErr result (λ fault. line_fault (codes "post" ∷ station.now ∷ codes "deposit" ∷ words.entry) ≡ Some fault) }
-    ensures sound { OnOk result (line_fault (codes "post" ∷ station.now ∷ codes "deposit" ∷ words.entry) ≡ None) }
-    ensures command { IfOk result (λ command. Spells (codes "post" ∷ station.now ∷ codes "deposit" ∷ words.entry) reference command) }
+    ensures { IsRead (codes "post" ∷ station.now ∷ codes "deposit" ∷ words.entry) reference result }
 {
-    let (to, amount) = two_words(words)?;
+    let (station, to, amount) = with_one_account(station, words)?;
     Ok(Command::Post {
-        station: number(station)?,
+        station,
         entry: Entry::Deposit {
-            to: account(to)?,
-            amount: number(amount)?,
+            to,
+            amount,
             reference,
         },
     })
 }
 
 fn read_withdraw(station: &[u8], words: Words<'_>, reference: u64) -> Result<Command, LineFault>
-    ensures fault { IfErr result (λ fault. line_fault (codes "post" ∷ station.now ∷ codes "withdraw" ∷ words.entry) ≡ Some fault) }
-    ensures sound { OnOk result (line_fault (codes "post" ∷ station.now ∷ codes "withdraw" ∷ words.entry) ≡ None) }
-    ensures command { IfOk result (λ command. Spells (codes "post" ∷ station.now ∷ codes "withdraw" ∷ words.entry) reference command) }
+    ensures { IsRead (codes "post" ∷ station.now ∷ codes "withdraw" ∷ words.entry) reference result }
 {
-    let (from, amount) = two_words(words)?;
+    let (station, from, amount) = with_one_account(station, words)?;
     Ok(Command::Post {
-        station: number(station)?,
+        station,
         entry: Entry::Withdraw {
-            from: account(from)?,
-            amount: number(amount)?,
+            from,
+            amount,
             reference,
         },
     })
 }
 
+// The station, account and amount of an entry with one account.
+fn with_one_account(station: &[u8], words: Words<'_>) -> Result<(u64, u32, u64), LineFault>
+    ensures fault { IfErr result (λ fault. told_of_one (Number ∷ Account ∷ Number ∷ []) (station.now ∷ words.entry) ≡ Some fault) }
+    ensures ok { IfOk result (λ three. Fills (station.now ∷ words.entry) (Number ∷ Account ∷ Number ∷ []) (NumberIs three.0 ∷ NumberIs three.1 ∷ NumberIs three.2 ∷ [])) }
+{
+    let (one, amount) = two_words(words)?;
+    Ok((number(station)?, account(one)?, number(amount)?))
+}
+
 fn read_transfer(station: &[u8], words: Words<'_>, reference: u64) -> Result<Command, LineFault>
-    ensures fault { IfErr result (λ fault. line_fault (codes "post" ∷ station.now ∷ codes "transfer" ∷ words.entry) ≡ Some fault) }
-    ensures sound { OnOk result (line_fault (codes "post" ∷ station.now ∷ codes "transfer" ∷ words.entry) ≡ None) }
-    ensures command { IfOk result (λ command. Spells (codes "post" ∷ station.now ∷ codes "transfer" ∷ words.entry) reference command) }
+    ensures { IsRead (codes "post" ∷ station.now ∷ codes "transfer" ∷ words.entry) reference result }
 {
     let (from, to, amount) = three_words(words)?;
     Ok(Command::Post {
@@ -181,9 +176,7 @@ fn read_transfer(station: &[u8], words: Words<'_>, reference: u64) -> Result<Com
 }
 
 fn read_turn(words: Words<'_>) -> Result<Command, LineFault>
-    ensures fault { IfErr result (λ fault. line_fault (codes "turn" ∷ words.entry) ≡ Some fault) }
-    ensures sound { OnOk result (line_fault (codes "turn" ∷ words.entry) ≡ None) }
-    ensures command { IfOk result (λ command. (line : ℕ) → Spells (codes "turn" ∷ words.entry) line command) }
+    ensures { (line : ℕ) → IsRead (codes "turn" ∷ words.entry) line result }
 {
     let station = one_word(words)?;
     Ok(Command::Turn {
@@ -193,8 +186,8 @@ fn read_turn(words: Words<'_>) -> Result<Command, LineFault>
 
 // The command, where there are no more words.
 fn alone(command: Command, words: Words<'_>) -> Result<Command, LineFault>
-    ensures ok { IfOk result (λ same. (words.entry ≡ []) × (same ≡ command)) }
-    ensures err { IfErr result (λ fault. (length words.entry ≢ 0) × (fault ≡ WrongNumberOfWords)) }
+    ensures fault { IfErr result (λ fault. told_of_one [] words.entry ≡ Some fault) }
+    ensures ok { IfOk result (λ same. Fills words.entry [] [] × (same ≡ command)) }
 {
     end(words)?;
     Ok(command)

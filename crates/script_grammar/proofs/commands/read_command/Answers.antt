@@ -1,5 +1,5 @@
 use Rattle.std.proofs.Common.{◌∙◌, ℕ, List, sym, ap, subst}
-use Rattle.script_grammar.specs.Grammar.{Spells, is_skipped, line_fault}
+use Rattle.script_grammar.specs.Grammar.{IsRead, Spells, is_skipped, line_fault}
 use Rattle.script_grammar.proofs.GrammarLemmas.{comment, no_words}
 use Rattle.script_grammar.proofs.commands.read_command.Goals as goal
 
@@ -19,13 +19,16 @@ pub read_named-requires : goal.read_named-requires
 read_named-requires c = sym c.begins_comment.ensures ∙ c.if-begins_comment.false
 
 pub returns-in-Ok-clause-sound : goal.returns-in-Ok-clause-sound
-returns-in-Ok-clause-sound c = ap line_fault (sym c.of-words.ensures ∙ c.in-Some.ensures.steps) ∙ c.in-Ok.ensures.sound
+unfolding IsRead
+returns-in-Ok-clause-sound c = ap line_fault (sym c.of-words.ensures ∙ c.in-Some.ensures.steps) ∙ c.in-Ok.ensures.0
 
 pub returns-in-Ok-clause-skipped : goal.returns-in-Ok-clause-skipped
 returns-in-Ok-clause-skipped c = sym (ap is_skipped (sym c.of-words.ensures ∙ c.in-Some.ensures.steps) ∙ sym c.begins_comment.ensures ∙ c.if-begins_comment.false)
 
 pub returns-in-Ok-clause-command : goal.returns-in-Ok-clause-command
-returns-in-Ok-clause-command c = subst (λ (words : List (List ℕ)). Spells words c.args.number c.in-Ok.command) (sym (sym c.of-words.ensures ∙ c.in-Some.ensures.steps)) c.in-Ok.ensures.command
+unfolding IsRead
+returns-in-Ok-clause-command c = subst (λ (words : List (List ℕ)). Spells words c.args.number c.in-Ok.command) (sym (sym c.of-words.ensures ∙ c.in-Some.ensures.steps)) c.in-Ok.ensures.1
 
 pub returns-in-Err-clause-fault : goal.returns-in-Err-clause-fault
-returns-in-Err-clause-fault c = ap line_fault (sym c.of-words.ensures ∙ c.in-Some.ensures.steps) ∙ c.in-Err.ensures.fault
+unfolding IsRead
+returns-in-Err-clause-fault c = ap line_fault (sym c.of-words.ensures ∙ c.in-Some.ensures.steps) ∙ c.in-Err.ensures

@@ -1,69 +1,52 @@
-use Rattle.std.proofs.Common.{◌∷◌, ℕ, List, codes, ap, refl}
-use Rattle.script_grammar.proofs.GrammarLemmas.{alone_command, alone_fault, alone_sound, is_name, no_name, of_any_line, same_command, same_fault, same_sound, unnamed, bits_is, bits_not, bits_spelled, balances_is, balances_not, balances_spelled, crash_is, crash_not, crash_spelled}
+use Rattle.std.proofs.Common.{◌≡◌, ◌∙◌, ℕ, List, [], ◌∷◌, Some, Result, Ok, Err, codes, subst, sym, refl}
+use Rattle.std.specs.Prelude.{IfErr, IfOk}
+use Rattle.script_grammar.specs.Grammar.{Fills, IsRead, Spells, line_fault, told_of_one}
+use Rattle.script_grammar.specs.Grammar.{Name}
+use Rattle.script_grammar.specs.declared.commands.Command.{Command}
+use Rattle.script_grammar.specs.declared.commands.Command.TheVariants.{Bits, Balances, Crash}
+use Rattle.script_grammar.specs.declared.faults.LineFault.{LineFault}
+use Rattle.script_grammar.proofs.GrammarLemmas.{behind_name, fills_named, named, no_name, nothing_told, same_words, unnamed}
 use Rattle.script_grammar.proofs.commands.read_named.Goals as goal
 
-pub returns-in-format-clause-fault : goal.returns-in-format-clause-fault
-returns-in-format-clause-fault c = same_fault _ _ _ (ap (λ (name : List ℕ). name ∷ c.args.words) (is_name _ _ (codes "format") c.text_of.ensures refl c.in-format.is)) c.read_format.ensures.fault
+pub returns-in-format : goal.returns-in-format
+returns-in-format c = same_words _ _ _ _ (named _ _ (codes "format") c.args.words c.text_of.ensures refl c.in-format.is) (c.read_format.ensures _)
 
-pub returns-in-format-clause-sound : goal.returns-in-format-clause-sound
-returns-in-format-clause-sound c = same_sound _ _ _ (ap (λ (name : List ℕ). name ∷ c.args.words) (is_name _ _ (codes "format") c.text_of.ensures refl c.in-format.is)) c.read_format.ensures.sound
+pub returns-in-open : goal.returns-in-open
+returns-in-open c = same_words _ _ _ _ (named _ _ (codes "open") c.args.words c.text_of.ensures refl c.in-open.is) (c.read_open.ensures _)
 
-pub returns-in-format-clause-command : goal.returns-in-format-clause-command
-returns-in-format-clause-command c = same_command _ _ _ _ (ap (λ (name : List ℕ). name ∷ c.args.words) (is_name _ _ (codes "format") c.text_of.ensures refl c.in-format.is)) (of_any_line _ _ _ c.read_format.ensures.command)
+pub returns-in-post : goal.returns-in-post
+returns-in-post c = same_words _ _ _ _ (named _ _ (codes "post") c.args.words c.text_of.ensures refl c.in-post.is) (c.read_post.ensures)
 
-pub returns-in-open-clause-fault : goal.returns-in-open-clause-fault
-returns-in-open-clause-fault c = same_fault _ _ _ (ap (λ (name : List ℕ). name ∷ c.args.words) (is_name _ _ (codes "open") c.text_of.ensures refl c.in-open.is)) c.read_open.ensures.fault
+pub returns-in-turn : goal.returns-in-turn
+returns-in-turn c = same_words _ _ _ _ (named _ _ (codes "turn") c.args.words c.text_of.ensures refl c.in-turn.is) (c.read_turn.ensures _)
 
-pub returns-in-open-clause-sound : goal.returns-in-open-clause-sound
-returns-in-open-clause-sound c = same_sound _ _ _ (ap (λ (name : List ℕ). name ∷ c.args.words) (is_name _ _ (codes "open") c.text_of.ensures refl c.in-open.is)) c.read_open.ensures.sound
+-- a command of one word
+alone_read : (name : List ℕ) (command : Command) (words : List (List ℕ)) (line : ℕ) (r : Result Command LineFault)
+    → line_fault (name ∷ words) ≡ told_of_one (Name name ∷ []) (name ∷ words)
+    → (Fills (name ∷ words) (Name name ∷ []) [] → Spells (name ∷ words) line command)
+    → IfErr r (λ fault. told_of_one [] words ≡ Some fault) → IfOk r (λ same. Fills words [] [] × (same ≡ command)) → IsRead (name ∷ words) line r
+unfolding IsRead
+alone_read name command words line (Err fault) one spelled told ok = one ∙ behind_name name [] words ∙ told
+alone_read name command words line (Ok same) one spelled told ok = (
+  one ∙ behind_name name [] words ∙ nothing_told [] words [] ok.0,
+  subst (λ (this : Command). Spells (name ∷ words) line this) (sym ok.1) (spelled (fills_named name [] words [] ok.0)),
+)
 
-pub returns-in-open-clause-command : goal.returns-in-open-clause-command
-returns-in-open-clause-command c = same_command _ _ _ _ (ap (λ (name : List ℕ). name ∷ c.args.words) (is_name _ _ (codes "open") c.text_of.ensures refl c.in-open.is)) (of_any_line _ _ _ c.read_open.ensures.command)
+pub returns-in-bits : goal.returns-in-bits
+unfolding Spells line_fault
+returns-in-bits c = same_words _ _ _ _ (named _ _ (codes "bits") c.args.words c.text_of.ensures refl c.in-bits.is)
+    (alone_read (codes "bits") Bits _ _ _ refl (λ full. full) c.alone.ensures.fault c.alone.ensures.ok)
 
-pub returns-in-post-clause-fault : goal.returns-in-post-clause-fault
-returns-in-post-clause-fault c = same_fault _ _ _ (ap (λ (name : List ℕ). name ∷ c.args.words) (is_name _ _ (codes "post") c.text_of.ensures refl c.in-post.is)) c.read_post.ensures.fault
+pub returns-in-balances : goal.returns-in-balances
+unfolding Spells line_fault
+returns-in-balances c = same_words _ _ _ _ (named _ _ (codes "balances") c.args.words c.text_of.ensures refl c.in-balances.is)
+    (alone_read (codes "balances") Balances _ _ _ refl (λ full. full) c.alone-in-balances.ensures.fault c.alone-in-balances.ensures.ok)
 
-pub returns-in-post-clause-sound : goal.returns-in-post-clause-sound
-returns-in-post-clause-sound c = same_sound _ _ _ (ap (λ (name : List ℕ). name ∷ c.args.words) (is_name _ _ (codes "post") c.text_of.ensures refl c.in-post.is)) c.read_post.ensures.sound
+pub returns-in-crash : goal.returns-in-crash
+unfolding Spells line_fault
+returns-in-crash c = same_words _ _ _ _ (named _ _ (codes "crash") c.args.words c.text_of.ensures refl c.in-crash.is)
+    (alone_read (codes "crash") Crash _ _ _ refl (λ full. full) c.alone-in-crash.ensures.fault c.alone-in-crash.ensures.ok)
 
-pub returns-in-post-clause-command : goal.returns-in-post-clause-command
-returns-in-post-clause-command c = same_command _ _ _ _ (ap (λ (name : List ℕ). name ∷ c.args.words) (is_name _ _ (codes "post") c.text_of.ensures refl c.in-post.is)) c.read_post.ensures.command
-
-pub returns-in-turn-clause-fault : goal.returns-in-turn-clause-fault
-returns-in-turn-clause-fault c = same_fault _ _ _ (ap (λ (name : List ℕ). name ∷ c.args.words) (is_name _ _ (codes "turn") c.text_of.ensures refl c.in-turn.is)) c.read_turn.ensures.fault
-
-pub returns-in-turn-clause-sound : goal.returns-in-turn-clause-sound
-returns-in-turn-clause-sound c = same_sound _ _ _ (ap (λ (name : List ℕ). name ∷ c.args.words) (is_name _ _ (codes "turn") c.text_of.ensures refl c.in-turn.is)) c.read_turn.ensures.sound
-
-pub returns-in-turn-clause-command : goal.returns-in-turn-clause-command
-returns-in-turn-clause-command c = same_command _ _ _ _ (ap (λ (name : List ℕ). name ∷ c.args.words) (is_name _ _ (codes "turn") c.text_of.ensures refl c.in-turn.is)) (of_any_line _ _ _ c.read_turn.ensures.command)
-
-pub returns-in-bits-clause-fault : goal.returns-in-bits-clause-fault
-returns-in-bits-clause-fault c = same_fault _ _ _ (ap (λ (name : List ℕ). name ∷ c.args.words) (is_name _ _ (codes "bits") c.text_of.ensures refl c.in-bits.is)) (alone_fault _ _ _ (bits_not _) c.alone.ensures.err)
-
-pub returns-in-bits-clause-sound : goal.returns-in-bits-clause-sound
-returns-in-bits-clause-sound c = same_sound _ _ _ (ap (λ (name : List ℕ). name ∷ c.args.words) (is_name _ _ (codes "bits") c.text_of.ensures refl c.in-bits.is)) (alone_sound _ _ _ _ (bits_is _) c.alone.ensures.ok)
-
-pub returns-in-bits-clause-command : goal.returns-in-bits-clause-command
-returns-in-bits-clause-command c = same_command _ _ _ _ (ap (λ (name : List ℕ). name ∷ c.args.words) (is_name _ _ (codes "bits") c.text_of.ensures refl c.in-bits.is)) (alone_command _ _ _ _ _ (bits_spelled _ _) c.alone.ensures.ok)
-
-pub returns-in-balances-clause-fault : goal.returns-in-balances-clause-fault
-returns-in-balances-clause-fault c = same_fault _ _ _ (ap (λ (name : List ℕ). name ∷ c.args.words) (is_name _ _ (codes "balances") c.text_of.ensures refl c.in-balances.is)) (alone_fault _ _ _ (balances_not _) c.alone-in-balances.ensures.err)
-
-pub returns-in-balances-clause-sound : goal.returns-in-balances-clause-sound
-returns-in-balances-clause-sound c = same_sound _ _ _ (ap (λ (name : List ℕ). name ∷ c.args.words) (is_name _ _ (codes "balances") c.text_of.ensures refl c.in-balances.is)) (alone_sound _ _ _ _ (balances_is _) c.alone-in-balances.ensures.ok)
-
-pub returns-in-balances-clause-command : goal.returns-in-balances-clause-command
-returns-in-balances-clause-command c = same_command _ _ _ _ (ap (λ (name : List ℕ). name ∷ c.args.words) (is_name _ _ (codes "balances") c.text_of.ensures refl c.in-balances.is)) (alone_command _ _ _ _ _ (balances_spelled _ _) c.alone-in-balances.ensures.ok)
-
-pub returns-in-crash-clause-fault : goal.returns-in-crash-clause-fault
-returns-in-crash-clause-fault c = same_fault _ _ _ (ap (λ (name : List ℕ). name ∷ c.args.words) (is_name _ _ (codes "crash") c.text_of.ensures refl c.in-crash.is)) (alone_fault _ _ _ (crash_not _) c.alone-in-crash.ensures.err)
-
-pub returns-in-crash-clause-sound : goal.returns-in-crash-clause-sound
-returns-in-crash-clause-sound c = same_sound _ _ _ (ap (λ (name : List ℕ). name ∷ c.args.words) (is_name _ _ (codes "crash") c.text_of.ensures refl c.in-crash.is)) (alone_sound _ _ _ _ (crash_is _) c.alone-in-crash.ensures.ok)
-
-pub returns-in-crash-clause-command : goal.returns-in-crash-clause-command
-returns-in-crash-clause-command c = same_command _ _ _ _ (ap (λ (name : List ℕ). name ∷ c.args.words) (is_name _ _ (codes "crash") c.text_of.ensures refl c.in-crash.is)) (alone_command _ _ _ _ _ (crash_spelled _ _) c.alone-in-crash.ensures.ok)
-
-pub returns-in_default-clause-fault : goal.returns-in_default-clause-fault
-returns-in_default-clause-fault c = unnamed _ _ c.requires (no_name _ _ (codes "format") c.text_of.ensures refl c.in_default.not-format) (no_name _ _ (codes "open") c.text_of.ensures refl c.in_default.not-open) (no_name _ _ (codes "post") c.text_of.ensures refl c.in_default.not-post) (no_name _ _ (codes "turn") c.text_of.ensures refl c.in_default.not-turn) (no_name _ _ (codes "bits") c.text_of.ensures refl c.in_default.not-bits) (no_name _ _ (codes "balances") c.text_of.ensures refl c.in_default.not-balances) (no_name _ _ (codes "crash") c.text_of.ensures refl c.in_default.not-crash)
+pub returns-in_default : goal.returns-in_default
+unfolding IsRead
+returns-in_default c = unnamed _ _ c.requires (no_name _ _ (codes "format") c.text_of.ensures refl c.in_default.not-format) (no_name _ _ (codes "open") c.text_of.ensures refl c.in_default.not-open) (no_name _ _ (codes "post") c.text_of.ensures refl c.in_default.not-post) (no_name _ _ (codes "turn") c.text_of.ensures refl c.in_default.not-turn) (no_name _ _ (codes "bits") c.text_of.ensures refl c.in_default.not-bits) (no_name _ _ (codes "balances") c.text_of.ensures refl c.in_default.not-balances) (no_name _ _ (codes "crash") c.text_of.ensures refl c.in_default.not-crash)
