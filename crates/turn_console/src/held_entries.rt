@@ -6,7 +6,7 @@ use std::marker::Model;
 use turn_ledger::Entry;
 
 /// The most entries that one station may hold.
-pub const HELD_LIMIT: usize = 16;
+const HELD_LIMIT: usize = 16;
 
 /// What one station holds, seen as the list of its entries. Its places are reserved when it is made, so that keeping an
 /// entry takes no memory.

@@ -20,7 +20,7 @@ mod settings;
 mod tests;
 
 use faults::ProgramFault;
-use program::{WRONG_WORDS, run_program, tell};
+use program::{run_program, tell, tell_not_text};
 use std::alloc::{AllocError, Global};
 use std::io::ErrorKind;
 use std::process::ExitCode;
@@ -32,7 +32,7 @@ fn main(rt: HostRuntime) -> ExitCode {
         Err(error) if error.kind() == ErrorKind::OutOfMemory => {
             tell(rt.alloc(), ProgramFault::MEMORY, &mut rt.stderr())
         }
-        Err(_) => WRONG_WORDS,
+        Err(_) => tell_not_text(rt.alloc(), &mut rt.stdout(), &mut rt.stderr()),
     };
     ExitCode::from(status)
 }

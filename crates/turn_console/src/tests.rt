@@ -10,8 +10,11 @@ use std::io::{Read, Write};
 use std::process::Abort;
 use std::test::Fail;
 
+mod damage;
 mod fakes;
 mod files;
+mod names;
+mod words;
 
 // What a script prints on a device of 64 sectors, and how it ends.
 fn told(alloc: Global, script: &str) -> Result<(Vec<u8>, Result<(), ScriptFault>), Fail> {
@@ -110,6 +113,11 @@ fn refusals_come_in_their_order(rt: HostRuntime) -> Result<(), Fail> {
             "format 1\nopen 2 00 10\nturn 18446744073709551615",
             "refused NoStation\n",
         ),
+        ("format 1\nopen 2 00 10\nturn 256", "refused NoStation\n"),
+        (
+            "format 1\nopen 2 00 10\npost 256 deposit 1 1",
+            "refused NoStation\n",
+        ),
         ("format 1\nopen 2 00 10\nturn 1", "refused NotPrivileged\n"),
         // an office that is forgotten, and a device that is kept
         (
@@ -155,6 +163,16 @@ fn a_station_holds_sixteen_entries(rt: HostRuntime) -> Result<(), Fail> {
     let wanted = b"held 0 16\nrefused HeldFull\nrefused TooMany\nheld 1 1\n";
     assert!(rt; output.as_slice().ends_with(wanted));
     Ok(())
+}
+
+#[test]
+fn each_verdict_is_printed(rt: HostRuntime) -> Result<(), Fail> {
+    prints(
+        &rt,
+        rt.alloc(),
+        "format 1\nopen 2 00 10\npost 0 deposit 1 0\npost 0 deposit 65 1\npost 0 transfer 1 1 5\npost 0 withdraw 1 1\npost 0 deposit 1 1000000000000000001\npost 0 deposit 64 5\nturn 0\n",
+        "formatted 1\nopened 2 next 0 total 0\nheld 0 1\nheld 0 2\nheld 0 3\nheld 0 4\nheld 0 5\nheld 0 6\nturn 0 station 0 Bottom posted 0\nentry 0 ZeroAmount\nentry 1 NoAccount\nentry 2 SameAccount\nentry 3 Short\nentry 4 OverLimit\nentry 5 ok\n",
+    )
 }
 
 #[test]
@@ -311,41 +329,6 @@ fn the_program_tells_how_it_ended(rt: HostRuntime) -> Result<(), Fail> {
         assert_eq!(rt; writer.as_slice(), prints.as_bytes(), "{script}");
         assert_eq!(rt; errors.as_slice(), tells.as_bytes(), "{script}");
     }
-    Ok(())
-}
-
-#[test]
-fn wrong_words_and_help(rt: HostRuntime) -> Result<(), Fail> {
-    let alloc = rt.alloc();
-    let wrong: [&[&str]; 6] = [
-        &["console", "--sectors", "0"],
-        &["console", "--sectors", "4000040"],
-        &["console", "--sectors", "x"],
-        &["console", "--sectors"],
-        &["console", "frob"],
-        &["console", "--frob"],
-    ];
-    for words in wrong {
-        let (mut reader, mut writer, mut errors) = (
-            DEPOSIT.as_bytes(),
-            Vec::new(alloc),
-            Vec::new(alloc),
-        );
-        let status = run_program(&rt, alloc, words, &mut reader, &mut writer, &mut errors);
-        assert_eq!(rt; status, 2, "{words:?}");
-        assert_eq!(rt; writer.len(), 0, "{words:?}");
-        assert!(rt; errors.as_slice().starts_with(b"error: "), "{words:?}");
-    }
-    let (mut reader, mut writer, mut errors) = (
-        DEPOSIT.as_bytes(),
-        Vec::new(alloc),
-        Vec::new(alloc),
-    );
-    let words = ["console", "--help"];
-    let status = run_program(&rt, alloc, &words, &mut reader, &mut writer, &mut errors);
-    assert_eq!(rt; status, 0);
-    assert_eq!(rt; errors.len(), 0);
-    assert!(rt; writer.as_slice().ends_with(b"  balances\n"));
     Ok(())
 }
 
