@@ -42,15 +42,27 @@ fn a_word_that_is_no_text_is_wrong(rt: HostRuntime) {
 #[test]
 fn wrong_words_and_help(rt: HostRuntime) -> Result<(), Fail> {
     let alloc = rt.alloc();
-    let wrong: [&[&str]; 6] = [
-        &["console", "--sectors", "0"],
-        &["console", "--sectors", "4000040"],
-        &["console", "--sectors", "x"],
-        &["console", "--sectors"],
-        &["console", "frob"],
-        &["console", "--frob"],
+    let wrong: [(&[&str], &str); 6] = [
+        (
+            &["console", "--sectors", "0"],
+            "invalid value '0' for '--sectors <K>'",
+        ),
+        (
+            &["console", "--sectors", "4000040"],
+            "invalid value '4000040' for '--sectors <K>'",
+        ),
+        (
+            &["console", "--sectors", "x"],
+            "invalid value 'x' for '--sectors <K>'",
+        ),
+        (
+            &["console", "--sectors"],
+            "a value is required for '--sectors <K>'",
+        ),
+        (&["console", "frob"], "unexpected argument 'frob' found"),
+        (&["console", "--frob"], "unexpected argument '--frob' found"),
     ];
-    for words in wrong {
+    for (words, wanted) in wrong {
         let (mut reader, mut writer, mut errors) = (
             DEPOSIT.as_bytes(),
             Vec::new(alloc),
@@ -59,7 +71,8 @@ fn wrong_words_and_help(rt: HostRuntime) -> Result<(), Fail> {
         let status = run_program(&rt, alloc, words, &mut reader, &mut writer, &mut errors);
         assert_eq!(rt; status, 2, "{words:?}");
         assert_eq!(rt; writer.len(), 0, "{words:?}");
-        assert!(rt; errors.as_slice().starts_with(b"error: "), "{words:?}");
+        let told = errors.as_slice().strip_prefix(b"error: ").unwrap_or(b"");
+        assert!(rt; told.starts_with(wanted.as_bytes()), "{words:?}");
     }
     let (mut reader, mut writer, mut errors) = (
         DEPOSIT.as_bytes(),
