@@ -1,5 +1,5 @@
 //! Output that is gathered, and handed to a writer in large pieces.
-ghost use Rattle.std.specs.Prelude.{ℕ, ◌<◌, ◌≤◌, take, length, IfOk, OnOk, OnErr};
+ghost use Rattle.std.specs.Prelude.{ℕ, ◌<◌, ◌≤◌, [], ◌∷◌, ◌++◌, take, length, IfOk, IfSome, OnOk, OnErr};
 ghost use Rattle.std.specs.Io.KnownBytes.{Appends, Keeps};
 
 use crate::faults::StreamFault;
@@ -69,7 +69,12 @@ pub struct Output<'a, W: Write> {
 }
 
 impl<'a, W: Write> Output<'a, W> {
-    pub fn new(alloc: Global, writer: &'a mut W) -> Result<Output<'a, W>, AllocError> {
+    ghost use Rattle.script_streams.specs.Output.{given_to};
+
+    /// An output that was given nothing yet.
+    pub fn new(alloc: Global, writer: &'a mut W) -> Result<Output<'a, W>, AllocError>
+        ensures { IfOk result (λ output. Keeps (W.contents writer.entry.now) (given_to W.contents output)) }
+    {
         Ok(Output {
             writer,
             text: String::with_capacity(alloc, 2 * FULL)?,
@@ -77,7 +82,9 @@ impl<'a, W: Write> Output<'a, W> {
     }
 
     /// Adds a line.
-    pub fn line<L: fmt::Display + Drop>(&mut self, line: L) -> Result<(), StreamFault> {
+    pub fn line<L: fmt::Display + Drop>(&mut self, line: L) -> Result<(), StreamFault>
+        ensures { OnOk result (IfSome (L.output line) (λ bytes. Appends (given_to W.contents self.old) (given_to W.contents self.new) (bytes ++ 10 ∷ []))) }
+    {
         writeln!(self.text, "{line}")?;
         if self.text.len() >= FULL {
             self.flush()?;
@@ -86,7 +93,10 @@ impl<'a, W: Write> Output<'a, W> {
     }
 
     /// Hands all lines so far to the writer.
-    pub fn flush(&mut self) -> Result<(), StreamFault> {
+    pub fn flush(&mut self) -> Result<(), StreamFault>
+        ensures given { OnOk result (Keeps (given_to W.contents self.old) (given_to W.contents self.new)) }
+        ensures handed { OnOk result (Keeps (given_to W.contents self.old) (W.contents self.new.writer.now)) }
+    {
         write_all(self.writer, self.text.as_bytes())?;
         self.text.clear();
         Ok(())
