@@ -1,4 +1,2 @@
-pub mod Script
-pub mod Bits
-pub mod Grammar
 pub mod CommandLine
+pub mod Faults

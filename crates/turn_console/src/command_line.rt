@@ -1,6 +1,7 @@
 //! The words on the program's command line.
 ghost use Rattle.std.specs.Prelude.{◌≡◌, ◌≤◌, None, IfOk, length, map, option_map};
-ghost use Rattle.turn_console.specs.CommandLine.{AskForSectors, AskForDevice};
+ghost use Rattle.clap.specs.Words.{app_of};
+ghost use Rattle.turn_console.specs.CommandLine.{AskForSectors, AskForDevice, console};
 
 use crate::settings::Options;
 use clap::error::ErrorKind;
@@ -9,7 +10,8 @@ use std::alloc::Global;
 
 const HELP: &str = "\
 The script comes on standard input, one command a line:
-  format K                    make the device an empty journal of K slots
+  format K                    make the device an empty journal of K slots, which takes 2K + 1 sectors;
+                              what is there is erased
   open J XBITS UPBITS         recover the ledger, with a line of J stations
   post S deposit A M          keep an entry for station S: M units to account A
   post S withdraw A M         the same: M units from account A
@@ -43,6 +45,34 @@ pub fn options<'a>(alloc: Global, words: &'a [&'a str]) -> Result<Options<'a>, E
     ensures default { IfOk result (λ options. length words.entry.now ≡ 1 → options.sectors ≡ 64) }
     ensures memory { IfOk result (λ options. length words.entry.now ≡ 1 → options.device ≡ None) }
 {
+    let mut command = console_command(alloc)?;
+    let matches = command.try_get_matches_from_mut(words)?;
+    let device = matches.get_str("device");
+    match matches.get_one::<u64>("sectors") {
+        Some(sectors) if 1 <= sectors && sectors <= MOST_SECTORS => {
+            Ok(Options { device, sectors })
+        }
+        _ => Err(command.error(
+            ErrorKind::InvalidValue,
+            "the number of sectors is out of range",
+        )?),
+    }
+}
+
+/// What `clap` would answer to a word that isn't UTF-8.
+pub fn not_text(alloc: Global) -> Result<Error, Error> {
+    let mut command = console_command(alloc)?;
+    let error = command.error(
+        ErrorKind::InvalidValue,
+        "invalid UTF-8 was detected in one or more arguments",
+    )?;
+    Ok(error)
+}
+
+// The program's command line.
+fn console_command<'a>(alloc: Global) -> Result<Command<'a>, Error>
+    ensures { IfOk result (λ command. app_of command ≡ console) }
+{
     let device = Arg::new(alloc, "device")
         .long("device")
         .value_name("PATH")
@@ -57,20 +87,10 @@ pub fn options<'a>(alloc: Global, words: &'a [&'a str]) -> Result<Options<'a>, E
         .action(ArgAction::Set)
         .value_parser(value_parser!(u64).range(1..4_000_040))
         .default_value("64");
-    let mut command = Command::new(alloc, "turn_console")
+    let command = Command::new(alloc, "turn_console")
         .about("A ledger that stations in a row share, on a device that can lose its power")
         .after_help(HELP)
         .arg(device)?
         .arg(sectors)?;
-    let matches = command.try_get_matches_from_mut(words)?;
-    let device = matches.get_str("device");
-    match matches.get_one::<u64>("sectors") {
-        Some(sectors) if 1 <= sectors && sectors <= MOST_SECTORS => {
-            Ok(Options { device, sectors })
-        }
-        _ => Err(command.error(
-            ErrorKind::InvalidValue,
-            "the number of sectors is out of range",
-        )?),
-    }
+    Ok(command)
 }

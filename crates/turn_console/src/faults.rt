@@ -1,6 +1,8 @@
 //! Why a script ends early.
 use file_device::FileRefusal;
-use std::alloc::{AllocError, AllocFailed};
+use script_grammar::LineFault;
+use script_streams::StreamFault;
+use std::alloc::AllocError;
 use thiserror::Error;
 
 /// Why a script ended before its last line. What earlier lines printed stands.
@@ -37,22 +39,6 @@ impl ProgramFault {
     pub const MEMORY: ProgramFault = ProgramFault::Script(ScriptFault::Memory);
 }
 
-/// What is wrong with a line; the first that holds, in this order.
-#[derive(Clone, Copy, Debug, PartialEq, Eq, Error)]
-pub enum LineFault {
-    /// The first word is no command, or the third word of `post` no kind of entry.
-    #[error("unknown command")]
-    UnknownCommand,
-    #[error("wrong number of words")]
-    WrongNumberOfWords,
-    /// A word that should be a number is none, or out of range.
-    #[error("bad number")]
-    BadNumber,
-    /// A word that should be bits has another character than `0` and `1`.
-    #[error("bad bits")]
-    BadBits,
-}
-
 impl From<AllocError> for ScriptFault {
     ghost use Rattle.std.specs.Prelude.{◌≡◌};
     ghost use Rattle.turn_console.specs.declared.faults.ScriptFault.TheVariants.{Memory};
@@ -64,14 +50,19 @@ impl From<AllocError> for ScriptFault {
     }
 }
 
-impl<T: Drop> From<AllocFailed<T>> for ScriptFault {
+impl From<StreamFault> for ScriptFault {
     ghost use Rattle.std.specs.Prelude.{◌≡◌};
-    ghost use Rattle.turn_console.specs.declared.faults.ScriptFault.TheVariants.{Memory};
+    ghost use Rattle.turn_console.specs.Faults.{of_stream};
 
-    ghost from_gives = { λ _ fault. fault ≡ Memory };
+    ghost from_gives = { λ stream fault. fault ≡ of_stream stream };
 
-    fn from(_: AllocFailed<T>) -> Self {
-        ScriptFault::Memory
+    fn from(fault: StreamFault) -> Self {
+        match fault {
+            StreamFault::Read => ScriptFault::Read,
+            StreamFault::Write => ScriptFault::Write,
+            StreamFault::Memory => ScriptFault::Memory,
+            StreamFault::TooLong => ScriptFault::TooLong,
+        }
     }
 }
 
@@ -88,8 +79,9 @@ impl From<ScriptFault> for ProgramFault {
 
 impl From<FileRefusal> for ProgramFault {
     ghost use Rattle.std.specs.Prelude.{◌≡◌};
+    ghost use Rattle.turn_console.specs.Faults.{of_file};
 
-    ghost from_gives = { λ refusal fault. Unit {0} };
+    ghost from_gives = { λ refusal fault. fault ≡ of_file refusal };
 
     fn from(refusal: FileRefusal) -> Self {
         match refusal {

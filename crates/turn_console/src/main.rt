@@ -6,24 +6,21 @@
 #![tactic(auto)]
 
 mod command_line;
-mod commands;
 mod engine;
 mod faults;
-mod held;
+mod held_entries;
 mod names;
-mod numbers;
-mod office;
-mod output;
 mod power;
+mod printing;
 mod program;
-mod reading;
+mod scripted_clerk;
+mod session;
 mod settings;
 #[cfg(test)]
 mod tests;
-mod words;
 
 use faults::ProgramFault;
-use program::{WRONG_WORDS, run_program, tell};
+use program::{run_program, tell, tell_not_text};
 use std::alloc::{AllocError, Global};
 use std::io::ErrorKind;
 use std::process::ExitCode;
@@ -35,7 +32,7 @@ fn main(rt: HostRuntime) -> ExitCode {
         Err(error) if error.kind() == ErrorKind::OutOfMemory => {
             tell(rt.alloc(), ProgramFault::MEMORY, &mut rt.stderr())
         }
-        Err(_) => WRONG_WORDS,
+        Err(_) => tell_not_text(rt.alloc(), &mut rt.stdout(), &mut rt.stderr()),
     };
     ExitCode::from(status)
 }

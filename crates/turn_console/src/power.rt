@@ -1,4 +1,8 @@
 //! Devices that can lose their power.
+ghost use Rattle.std.specs.Prelude.{◌≡◌, ℕ, []};
+ghost use Rattle.sector_device.specs.Crash.{IsDurable};
+ghost use Rattle.sector_device.specs.Picks.{TakesPicks};
+
 use file_device::FileDevice;
 use sector_device::{Device, MemoryDevice, Picks};
 use std::alloc::Global;
@@ -10,17 +14,28 @@ pub trait PowerLoss: Device + Send {
 }
 
 impl PowerLoss for MemoryDevice {
+    ghost use Rattle.sector_device.specs.MemoryDevice.{state_of, IsPendingIn};
+
     /// Sectors that weren't synced keep what was last written: one of the images that a power loss may leave.
-    fn lose_power(self, alloc: Global) -> Self {
-        self.crash(&Picks {
+    fn lose_power(self, alloc: Global) -> Self
+        ensures picked { TakesPicks (state_of self).reads [] (IsPendingIn self) (state_of result).reads }
+        ensures lawful { (state_of self).may_leave (state_of result).reads }
+        ensures durable { IsDurable (state_of result) }
+        ensures settled { (at : ℕ) → IsPendingIn result at → ⊥ }
+        ensures faults { (state_of result).faults ≡ (state_of self).faults }
+    {
+        let no_picks = Picks {
             list: Vec::new(alloc),
-        })
+        };
+        self.crash(&no_picks)
     }
 }
 
 impl PowerLoss for FileDevice {
     /// The file as it is: no program cuts the power of its machine.
-    fn lose_power(self, _: Global) -> Self {
+    fn lose_power(self, _: Global) -> Self
+        ensures { result ≡ self }
+    {
         self
     }
 }

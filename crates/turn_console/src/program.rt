@@ -1,12 +1,12 @@
 //! The whole program, over the words and streams that it is handed.
-use crate::command_line::options;
+use crate::command_line::{not_text, options};
 use crate::engine::run_script;
 use crate::faults::{ProgramFault, ScriptFault};
-use crate::output::write_all;
 use crate::settings::Options;
 use clap::Error;
 use clap::error::ErrorKind;
 use file_device::FileDevice;
+use script_streams::write_all;
 use sector_device::MemoryDevice;
 use std::alloc::Global;
 use std::fs::{File, Files};
@@ -19,7 +19,7 @@ const DONE: u8 = 0;
 const FAULT: u8 = 1;
 
 /// The status of a program that was given wrong words.
-pub const WRONG_WORDS: u8 = 2;
+const WRONG_WORDS: u8 = 2;
 
 /// Runs the program and gives its status. A file that is the device is opened, made and grown before the script is
 /// read. A fault of `errors` is ignored.
@@ -67,6 +67,13 @@ pub fn tell<E: Write>(alloc: Global, fault: ProgramFault, errors: &mut E) -> u8 
         Err(_) => write_all(errors, b"out of memory\n"),
     };
     FAULT
+}
+
+/// Tells that a word of the command line isn't UTF-8, and gives the status that it ends with. A fault of `errors` is
+/// ignored.
+pub fn tell_not_text<W: Write, E: Write>(alloc: Global, writer: &mut W, errors: &mut E) -> u8 {
+    let (Ok(error) | Err(error)) = not_text(alloc);
+    tell_words(alloc, error, writer, errors)
 }
 
 // Writes what `clap` answers to wrong words, or to the wish for help.

@@ -1,8 +1,8 @@
 use crate::engine::run_script;
-use crate::faults::{LineFault, ScriptFault};
+use crate::faults::ScriptFault;
 use crate::program::run_program;
-use crate::reading::read_within;
 use fakes::{Endless, Failing, Interrupted, OneByte, Refusing};
+use script_grammar::LineFault;
 use sector_device::MemoryDevice;
 use std::alloc::Global;
 use std::fs::{File, Files};
@@ -10,8 +10,11 @@ use std::io::{Read, Write};
 use std::process::Abort;
 use std::test::Fail;
 
+mod damage;
 mod fakes;
 mod files;
+mod names;
+mod words;
 
 // What a script prints on a device of 64 sectors, and how it ends.
 fn told(alloc: Global, script: &str) -> Result<(Vec<u8>, Result<(), ScriptFault>), Fail> {
@@ -34,18 +37,6 @@ fn prints(rt: &impl Abort, alloc: Global, script: &str, wanted: &str) -> Result<
     let (output, end) = told(alloc, script)?;
     assert_eq!(rt; end, Ok(()), "{script}");
     assert_eq!(rt; output.as_slice(), wanted.as_bytes(), "{script}");
-    Ok(())
-}
-
-fn ends(
-    rt: &impl Abort,
-    alloc: Global,
-    script: &[u8],
-    line: u64,
-    cause: LineFault,
-) -> Result<(), Fail> {
-    let (_, end) = told_on(alloc, 64, script)?;
-    assert_eq!(rt; end, Err(ScriptFault::Line { line, cause }), "{script:?}");
     Ok(())
 }
 
@@ -122,6 +113,11 @@ fn refusals_come_in_their_order(rt: HostRuntime) -> Result<(), Fail> {
             "format 1\nopen 2 00 10\nturn 18446744073709551615",
             "refused NoStation\n",
         ),
+        ("format 1\nopen 2 00 10\nturn 256", "refused NoStation\n"),
+        (
+            "format 1\nopen 2 00 10\npost 256 deposit 1 1",
+            "refused NoStation\n",
+        ),
         ("format 1\nopen 2 00 10\nturn 1", "refused NotPrivileged\n"),
         // an office that is forgotten, and a device that is kept
         (
@@ -170,6 +166,16 @@ fn a_station_holds_sixteen_entries(rt: HostRuntime) -> Result<(), Fail> {
 }
 
 #[test]
+fn each_verdict_is_printed(rt: HostRuntime) -> Result<(), Fail> {
+    prints(
+        &rt,
+        rt.alloc(),
+        "format 1\nopen 2 00 10\npost 0 deposit 1 0\npost 0 deposit 65 1\npost 0 transfer 1 1 5\npost 0 withdraw 1 1\npost 0 deposit 1 1000000000000000001\npost 0 deposit 64 5\nturn 0\n",
+        "formatted 1\nopened 2 next 0 total 0\nheld 0 1\nheld 0 2\nheld 0 3\nheld 0 4\nheld 0 5\nheld 0 6\nturn 0 station 0 Bottom posted 0\nentry 0 ZeroAmount\nentry 1 NoAccount\nentry 2 SameAccount\nentry 3 Short\nentry 4 OverLimit\nentry 5 ok\n",
+    )
+}
+
+#[test]
 fn an_empty_script_prints_nothing(rt: HostRuntime) -> Result<(), Fail> {
     prints(&rt, rt.alloc(), "", "")?;
     prints(&rt, rt.alloc(), "\n \r\n# frob\n  #\n", "")
@@ -177,49 +183,11 @@ fn an_empty_script_prints_nothing(rt: HostRuntime) -> Result<(), Fail> {
 
 #[test]
 fn a_wrong_line_ends_the_script(rt: HostRuntime) -> Result<(), Fail> {
-    let (output, end) = told(rt.alloc(), "format 4\nfrob\nformat 2\n")?;
-    let (line, cause) = (2, LineFault::UnknownCommand);
+    let (output, end) = told(rt.alloc(), "\n# x\nformat 4\n  \nfrob\nformat 2\n")?;
+    let (line, cause) = (5, LineFault::UnknownCommand);
     assert_eq!(rt; end, Err(ScriptFault::Line { line, cause }));
     assert_eq!(rt; output.as_slice(), b"formatted 4\n".as_slice());
     Ok(())
-}
-
-#[test]
-fn line_faults_come_in_their_order(rt: HostRuntime) -> Result<(), Fail> {
-    use LineFault::{BadBits, BadNumber, UnknownCommand, WrongNumberOfWords};
-    let table: [(&[u8], LineFault); 27] = [
-        (b"frob", UnknownCommand),
-        (b"Format 4", UnknownCommand),
-        (b"day 8", UnknownCommand),
-        (b"\xff", UnknownCommand),
-        (b"\tcrash", UnknownCommand),
-        (b"post 0 seal 1", UnknownCommand),
-        (b"post x frob", UnknownCommand),
-        (b"format", WrongNumberOfWords),
-        (b"format 1 2", WrongNumberOfWords),
-        (b"crash now", WrongNumberOfWords),
-        (b"post", WrongNumberOfWords),
-        (b"post 0", WrongNumberOfWords),
-        (b"post x deposit 1", WrongNumberOfWords),
-        (b"post 0 transfer 1 2", WrongNumberOfWords),
-        (b"open 2 00", WrongNumberOfWords),
-        (b"format 0", BadNumber),
-        (b"format 18446744073709551616", BadNumber),
-        (b"format +1", BadNumber),
-        (b"format -1", BadNumber),
-        (b"format 1x", BadNumber),
-        (b"format 1\xff", BadNumber),
-        (b"turn 1\r", BadNumber),
-        (b"post 0 deposit 4294967296 1", BadNumber),
-        (b"post 0 deposit 1 18446744073709551616", BadNumber),
-        (b"open x 2 2", BadNumber),
-        (b"open 2 02 10", BadBits),
-        (b"open 2 00 1\xff", BadBits),
-    ];
-    for (script, cause) in table {
-        ends(&rt, rt.alloc(), script, 1, cause)?;
-    }
-    ends(&rt, rt.alloc(), b"\n# x\n  \nturn\n", 4, WrongNumberOfWords)
 }
 
 #[test]
@@ -288,10 +256,6 @@ fn a_turn_is_acknowledged_at_once(rt: HostRuntime) -> Result<(), Fail> {
 #[test]
 fn interrupted_for_ever(rt: HostRuntime) -> Result<(), Fail> {
     let alloc = rt.alloc();
-    assert_eq!(rt;
-        read_within(alloc, &mut Interrupted, 1000),
-        Err(ScriptFault::Read)
-    );
     let mut script = DEPOSIT.as_bytes();
     let device = MemoryDevice::new(alloc, 64)?;
     let end = run_script(alloc, &mut script, &mut Interrupted, device);
@@ -365,41 +329,6 @@ fn the_program_tells_how_it_ended(rt: HostRuntime) -> Result<(), Fail> {
         assert_eq!(rt; writer.as_slice(), prints.as_bytes(), "{script}");
         assert_eq!(rt; errors.as_slice(), tells.as_bytes(), "{script}");
     }
-    Ok(())
-}
-
-#[test]
-fn wrong_words_and_help(rt: HostRuntime) -> Result<(), Fail> {
-    let alloc = rt.alloc();
-    let wrong: [&[&str]; 6] = [
-        &["console", "--sectors", "0"],
-        &["console", "--sectors", "4000040"],
-        &["console", "--sectors", "x"],
-        &["console", "--sectors"],
-        &["console", "frob"],
-        &["console", "--frob"],
-    ];
-    for words in wrong {
-        let (mut reader, mut writer, mut errors) = (
-            DEPOSIT.as_bytes(),
-            Vec::new(alloc),
-            Vec::new(alloc),
-        );
-        let status = run_program(&rt, alloc, words, &mut reader, &mut writer, &mut errors);
-        assert_eq!(rt; status, 2, "{words:?}");
-        assert_eq!(rt; writer.len(), 0, "{words:?}");
-        assert!(rt; errors.as_slice().starts_with(b"error: "), "{words:?}");
-    }
-    let (mut reader, mut writer, mut errors) = (
-        DEPOSIT.as_bytes(),
-        Vec::new(alloc),
-        Vec::new(alloc),
-    );
-    let words = ["console", "--help"];
-    let status = run_program(&rt, alloc, &words, &mut reader, &mut writer, &mut errors);
-    assert_eq!(rt; status, 0);
-    assert_eq!(rt; errors.len(), 0);
-    assert!(rt; writer.as_slice().ends_with(b"  balances\n"));
     Ok(())
 }
 

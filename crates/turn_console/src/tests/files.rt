@@ -1,12 +1,11 @@
 //! The program on a device in a file.
+use super::{DEPOSIT, DEPOSIT_PRINTS};
 use crate::program::run_program;
 use std::alloc::Global;
 use std::fs;
 use std::fs::{File, Files};
 use std::process::Abort;
 use std::test::Fail;
-
-const POSTED: &str = "format 4\nopen 3 000 100\npost 0 deposit 1 500\nturn 0\nbalances\n";
 
 // The status of the program on a file, and what it writes to its output and its errors.
 fn run_on<S: Abort + Files<File = File>>(
@@ -47,18 +46,12 @@ fn fails<S: Abort + Files<File = File>>(
     Ok(())
 }
 
+// The first run's device is closed when the second one opens the file.
 #[test]
 fn a_file_keeps_what_was_posted(rt: HostRuntime) -> Result<(), Fail> {
     let path = "kept.ledger";
     let _ = fs::remove_file(&rt, path);
-    prints(
-        &rt,
-        rt.alloc(),
-        path,
-        POSTED,
-        "formatted 4\nopened 3 next 0 total 0\nheld 0 1\n\
-         turn 0 station 0 Bottom posted 0\nentry 0 ok\naccount 1 500\ntotal 500\n",
-    )?;
+    prints(&rt, rt.alloc(), path, DEPOSIT, DEPOSIT_PRINTS)?;
     prints(
         &rt,
         rt.alloc(),

@@ -1,0 +1,4 @@
+pub mod ScriptLemmas
+pub mod BitLemmas
+pub mod GrammarLemmas
+pub mod TestLemmas

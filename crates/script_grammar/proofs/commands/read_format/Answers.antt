@@ -1,0 +1,32 @@
+use Rattle.std.proofs.Common.{◌≡◌, ◌∙◌, ℕ, List, [], ◌∷◌, codes, refl, rules}
+use Rattle.script_grammar.specs.Grammar.{IsRead, Place, Spells, line_fault, told_of_one}
+use Rattle.script_grammar.specs.Grammar.{Slots}
+use Rattle.script_grammar.proofs.GrammarLemmas.{as_long, behind_name, fills, fills_named, none_wrong, not_as_long, taken, told, wrong}
+use Rattle.script_grammar.proofs.commands.read_format.Goals as goal
+
+abbrev places : List Place
+places = Slots ∷ []
+
+told_as_places : (words : List (List ℕ)) → line_fault (codes "format" ∷ words) ≡ told_of_one places words
+unfolding line_fault
+told_as_places words = behind_name (codes "format") places words
+
+pub returns-in_err-slots : goal.returns-in_err-slots
+unfolding IsRead
+returns-in_err-slots c = search (rules, told _ _ (told_as_places _ ∙ not_as_long places _ c.in_err-slots.ensures.err.0))
+
+pub returns-in_err-above_zero : goal.returns-in_err-above_zero
+unfolding IsRead
+returns-in_err-above_zero c = search (
+  rules,
+  told _ _ (told_as_places _ ∙ as_long places _ _ c.in_ok-slots.ensures.ok refl
+      ∙ wrong _ _ _ _ c.in_err-above_zero.ensures.err.0),
+)
+
+pub returns : goal.returns
+unfolding IsRead Spells
+returns c = λ line.
+    let right = taken _ _ _ _ c.in_ok-above_zero.ensures.ok.0 ∙ none_wrong in (
+      told_as_places _ ∙ as_long places _ _ c.in_ok-slots.ensures.ok refl ∙ right,
+      fills_named (codes "format") places _ _ (fills places _ _ _ c.in_ok-slots.ensures.ok refl right (cc (c.in_ok-above_zero.ensures.ok.1))),
+    )

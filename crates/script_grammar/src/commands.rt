@@ -1,0 +1,289 @@
+//! The lines of a script as commands.
+ghost use Rattle.std.specs.Prelude.{◌≡◌, ◌≢◌, ℕ, ◌<◌, true, false, List, [], ◌∷◌, ◌==◌, codes, length, bytes_eq, slice_index, IfOk, IfErr, IfSome, IsUtf8, OnOk, is_none};
+ghost use Rattle.std.specs.Int.NonZero.{non_zero_u64_get};
+ghost use Rattle.std.specs.Str.Parse.{digits_value};
+ghost use Rattle.script_grammar.specs.Bits.{bits_of};
+ghost use Rattle.script_grammar.specs.Grammar.{Fills, IsRead, Spells, is_skipped, line_fault, takes, told_of_one};
+ghost use Rattle.script_grammar.specs.Grammar.{Account, BitText, Number, NumberIs, Slots};
+ghost use Rattle.script_grammar.specs.Script.{bits_written, words_of};
+ghost use Rattle.script_grammar.specs.declared.faults.LineFault.TheVariants.{BadBits, BadNumber, WrongNumberOfWords};
+
+use crate::faults::LineFault;
+use crate::numbers::{Bits, read_number};
+use crate::words::Words;
+use std::num::NonZeroU64;
+use turn_ledger::Entry;
+
+/// What a line of a script asks for.
+#[derive(Clone, Copy)]
+pub enum Command {
+    /// `format K`: make the device an empty journal of K slots.
+    Format { slots: NonZeroU64 },
+    /// `open J XBITS UPBITS`: recover the ledger, with a line of J stations.
+    Open { stations: u64, x: Bits, up: Bits },
+    /// `post S KIND ..`: keep an entry for station S.
+    Post { station: u64, entry: Entry },
+    /// `turn S`: a turn of station S with the entries that it holds.
+    Turn { station: u64 },
+    /// `bits`: show the line.
+    Bits,
+    /// `balances`: show the accounts.
+    Balances,
+    /// `crash`: lose the power.
+    Crash,
+}
+
+/// The command of a line, or None where the line has no words or is a comment. An entry's reference is the number of
+/// its line.
+pub fn read_command(line: &[u8], number: u64) -> Result<Option<Command>, LineFault>
+    ensures fault { IfErr result (λ fault. line_fault (words_of line.now) ≡ Some fault) }
+    ensures sound { OnOk result (line_fault (words_of line.now) ≡ None) }
+    ensures skipped { IfOk result (λ found. is_none found ≡ is_skipped (words_of line.now)) }
+    ensures command { IfOk result (λ found. IfSome found (λ command. Spells (words_of line.now) number command)) }
+{
+    let mut words = Words::of(line);
+    let Some(name) = words.next() else {
+        return Ok(None);
+    };
+    if begins_comment(name) {
+        return Ok(None);
+    }
+    match read_named(name, words, number) {
+        Ok(command) => Ok(Some(command)),
+        Err(fault) => Err(fault),
+    }
+}
+
+fn begins_comment(name: &[u8]) -> bool
+    ensures { result ≡ (slice_index name.now 0 == 35) }
+{
+    match name {
+        [b'#', ..] => true,
+        _ => false,
+    }
+}
+
+// The command of this name, which begins no comment.
+fn read_named(name: &[u8], words: Words<'_>, line: u64) -> Result<Command, LineFault>
+    requires { (slice_index name.now 0 == 35) ≡ false }
+    ensures { IsRead (name.now ∷ words.entry) line result }
+{
+    match text_of(name) {
+        "format" => read_format(words),
+        "open" => read_open(words),
+        "post" => read_post(words, line),
+        "turn" => read_turn(words),
+        "bits" => alone(Command::Bits, words),
+        "balances" => alone(Command::Balances, words),
+        "crash" => alone(Command::Crash, words),
+        _ => Err(LineFault::UnknownCommand),
+    }
+}
+
+// A word as text: the empty one, which is no name, where it isn't UTF-8.
+fn text_of(word: &[u8]) -> &str
+    ensures { (name : List ℕ) → IsUtf8 name → 0 < length name → bytes_eq result.now name ≡ bytes_eq word.now name }
+{
+    match std::str::from_utf8(word) {
+        Ok(text) => text,
+        Err(_) => "",
+    }
+}
+
+fn read_format(words: Words<'_>) -> Result<Command, LineFault>
+    ensures { (line : ℕ) → IsRead (codes "format" ∷ words.entry) line result }
+{
+    let slots = one_word(words)?;
+    Ok(Command::Format {
+        slots: above_zero(slots)?,
+    })
+}
+
+fn read_open(words: Words<'_>) -> Result<Command, LineFault>
+    ensures { (line : ℕ) → IsRead (codes "open" ∷ words.entry) line result }
+{
+    let (stations, x, up) = three_words(words)?;
+    Ok(Command::Open {
+        stations: number(stations)?,
+        x: bits(x)?,
+        up: bits(up)?,
+    })
+}
+
+fn read_post(mut words: Words<'_>, reference: u64) -> Result<Command, LineFault>
+    ensures { IsRead (codes "post" ∷ words.entry) reference result }
+{
+    let station = word(&mut words)?;
+    let kind = word(&mut words)?;
+    match text_of(kind) {
+        "deposit" => read_deposit(station, words, reference),
+        "withdraw" => read_withdraw(station, words, reference),
+        "transfer" => read_transfer(station, words, reference),
+        _ => Err(LineFault::UnknownCommand),
+    }
+}
+
+fn read_deposit(station: &[u8], words: Words<'_>, reference: u64) -> Result<Command, LineFault>
+    ensures { IsRead (codes "post" ∷ station.now ∷ codes "deposit" ∷ words.entry) reference result }
+{
+    let (station, to, amount) = with_one_account(station, words)?;
+    Ok(Command::Post {
+        station,
+        entry: Entry::Deposit {
+            to,
+            amount,
+            reference,
+        },
+    })
+}
+
+fn read_withdraw(station: &[u8], words: Words<'_>, reference: u64) -> Result<Command, LineFault>
+    ensures { IsRead (codes "post" ∷ station.now ∷ codes "withdraw" ∷ words.entry) reference result }
+{
+    let (station, from, amount) = with_one_account(station, words)?;
+    Ok(Command::Post {
+        station,
+        entry: Entry::Withdraw {
+            from,
+            amount,
+            reference,
+        },
+    })
+}
+
+// The station, account and amount of an entry with one account.
+fn with_one_account(station: &[u8], words: Words<'_>) -> Result<(u64, u32, u64), LineFault>
+    ensures fault { IfErr result (λ fault. told_of_one (Number ∷ Account ∷ Number ∷ []) (station.now ∷ words.entry) ≡ Some fault) }
+    ensures ok { IfOk result (λ three. Fills (station.now ∷ words.entry) (Number ∷ Account ∷ Number ∷ []) (NumberIs three.0 ∷ NumberIs three.1 ∷ NumberIs three.2 ∷ [])) }
+{
+    let (one, amount) = two_words(words)?;
+    Ok((number(station)?, account(one)?, number(amount)?))
+}
+
+fn read_transfer(station: &[u8], words: Words<'_>, reference: u64) -> Result<Command, LineFault>
+    ensures { IsRead (codes "post" ∷ station.now ∷ codes "transfer" ∷ words.entry) reference result }
+{
+    let (from, to, amount) = three_words(words)?;
+    Ok(Command::Post {
+        station: number(station)?,
+        entry: Entry::Transfer {
+            from: account(from)?,
+            to: account(to)?,
+            amount: number(amount)?,
+            reference,
+        },
+    })
+}
+
+fn read_turn(words: Words<'_>) -> Result<Command, LineFault>
+    ensures { (line : ℕ) → IsRead (codes "turn" ∷ words.entry) line result }
+{
+    let station = one_word(words)?;
+    Ok(Command::Turn {
+        station: number(station)?,
+    })
+}
+
+// The command, where there are no more words.
+fn alone(command: Command, words: Words<'_>) -> Result<Command, LineFault>
+    ensures fault { IfErr result (λ fault. told_of_one [] words.entry ≡ Some fault) }
+    ensures ok { IfOk result (λ same. Fills words.entry [] [] × (same ≡ command)) }
+{
+    end(words)?;
+    Ok(command)
+}
+
+// The one word that is left.
+fn one_word<'a>(mut words: Words<'a>) -> Result<&'a [u8], LineFault>
+    ensures ok { IfOk result (λ word. words.entry ≡ word.now ∷ []) }
+    ensures err { IfErr result (λ fault. (length words.entry ≢ 1) × (fault ≡ WrongNumberOfWords)) }
+{
+    let only = word(&mut words)?;
+    end(words)?;
+    Ok(only)
+}
+
+// The two words that are left.
+fn two_words<'a>(mut words: Words<'a>) -> Result<(&'a [u8], &'a [u8]), LineFault>
+    ensures ok { IfOk result (λ pair. words.entry ≡ pair.0.now ∷ pair.1.now ∷ []) }
+    ensures err { IfErr result (λ fault. (length words.entry ≢ 2) × (fault ≡ WrongNumberOfWords)) }
+{
+    let first = word(&mut words)?;
+    let second = word(&mut words)?;
+    end(words)?;
+    Ok((first, second))
+}
+
+// The three words that are left.
+fn three_words<'a>(mut words: Words<'a>) -> Result<(&'a [u8], &'a [u8], &'a [u8]), LineFault>
+    ensures ok { IfOk result (λ three. words.entry ≡ three.0.now ∷ three.1.now ∷ three.2.now ∷ []) }
+    ensures err { IfErr result (λ fault. (length words.entry ≢ 3) × (fault ≡ WrongNumberOfWords)) }
+{
+    let first = word(&mut words)?;
+    let second = word(&mut words)?;
+    let third = word(&mut words)?;
+    end(words)?;
+    Ok((first, second, third))
+}
+
+// The next word, which has to be there.
+fn word<'a>(words: &mut Words<'a>) -> Result<&'a [u8], LineFault>
+    ensures ok { IfOk result (λ word. words.old ≡ word.now ∷ words.new) }
+    ensures err { IfErr result (λ fault. (words.old ≡ []) × (fault ≡ WrongNumberOfWords)) }
+{
+    match words.next() {
+        Some(word) => Ok(word),
+        None => Err(LineFault::WrongNumberOfWords),
+    }
+}
+
+// That there are no more words.
+fn end(mut words: Words<'_>) -> Result<(), LineFault>
+    ensures ok { OnOk result (words.entry ≡ []) }
+    ensures err { IfErr result (λ fault. (0 < length words.entry) × (fault ≡ WrongNumberOfWords)) }
+{
+    match words.next() {
+        Some(_) => Err(LineFault::WrongNumberOfWords),
+        None => Ok(()),
+    }
+}
+
+fn number(word: &[u8]) -> Result<u64, LineFault>
+    ensures ok { IfOk result (λ number. (takes Number word.now ≡ true) × (number ≡ digits_value 10 word.now)) }
+    ensures err { IfErr result (λ fault. (takes Number word.now ≡ false) × (fault ≡ BadNumber)) }
+{
+    match read_number(word) {
+        Some(number) => Ok(number),
+        None => Err(LineFault::BadNumber),
+    }
+}
+
+fn above_zero(word: &[u8]) -> Result<NonZeroU64, LineFault>
+    ensures ok { IfOk result (λ slots. (takes Slots word.now ≡ true) × (non_zero_u64_get slots ≡ digits_value 10 word.now)) }
+    ensures err { IfErr result (λ fault. (takes Slots word.now ≡ false) × (fault ≡ BadNumber)) }
+{
+    match NonZeroU64::new(number(word)?) {
+        Some(slots) => Ok(slots),
+        None => Err(LineFault::BadNumber),
+    }
+}
+
+fn account(word: &[u8]) -> Result<u32, LineFault>
+    ensures ok { IfOk result (λ account. (takes Account word.now ≡ true) × (account ≡ digits_value 10 word.now)) }
+    ensures err { IfErr result (λ fault. (takes Account word.now ≡ false) × (fault ≡ BadNumber)) }
+{
+    match u32::try_from(number(word)?) {
+        Ok(account) => Ok(account),
+        Err(_) => Err(LineFault::BadNumber),
+    }
+}
+
+fn bits(word: &[u8]) -> Result<Bits, LineFault>
+    ensures ok { IfOk result (λ bits. (takes BitText word.now ≡ true) × (bits_of bits ≡ bits_written word.now)) }
+    ensures err { IfErr result (λ fault. (takes BitText word.now ≡ false) × (fault ≡ BadBits)) }
+{
+    match Bits::read(word) {
+        Some(bits) => Ok(bits),
+        None => Err(LineFault::BadBits),
+    }
+}

@@ -1,0 +1,17 @@
+//! The grammar of a script: its lines, their words, and the command that the words of a line spell.
+//!
+//! A script is bytes. [`Lines`] gives its lines one after another, and [`read_command`] reads a line: it answers the
+//! [`Command`], none where the line says nothing, or the first [`LineFault`] that holds.
+#![tactic(auto)]
+
+mod commands;
+mod faults;
+mod numbers;
+#[cfg(test)]
+mod tests;
+mod words;
+
+pub use commands::{Command, read_command};
+pub use faults::LineFault;
+pub use numbers::Bits;
+pub use words::Lines;

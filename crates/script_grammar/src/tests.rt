@@ -1,0 +1,149 @@
+//! Worked examples: lines, and what the grammar says of each.
+use crate::LineFault::{BadBits, BadNumber, UnknownCommand, WrongNumberOfWords};
+use crate::{Bits, Command, LineFault, Lines, read_command};
+use std::test::Fail;
+use turn_ledger::Entry;
+
+// The command of a line, where it has one.
+fn command(line: &[u8]) -> Option<Command> {
+    read_command(line, 7).ok().flatten()
+}
+
+fn has_bits(bits: &Bits, wanted: &[bool]) -> bool {
+    bits.as_slice() == wanted
+}
+
+#[test]
+fn each_command_is_read(rt: HostRuntime) {
+    assert!(rt;
+        matches!(command(b"format 0004"), Some(Command::Format { slots }) if slots.get() == 4)
+    );
+    assert!(rt;
+        matches!(
+            command(b"  turn   18446744073709551615 "),
+            Some(Command::Turn { station: u64::MAX })
+        )
+    );
+    assert!(rt; matches!(command(b"bits"), Some(Command::Bits)));
+    assert!(rt; matches!(command(b"balances"), Some(Command::Balances)));
+    assert!(rt; matches!(command(b"crash"), Some(Command::Crash)));
+}
+
+#[test]
+fn an_opening_has_its_bits_in_order(rt: HostRuntime) {
+    let Some(Command::Open { stations, x, up }) = command(b"open 3 011 100") else {
+        assert!(rt; false, "no opening");
+        return;
+    };
+    assert_eq!(rt; stations, 3);
+    assert!(rt; has_bits(&x, &[false, true, true]));
+    assert!(rt; has_bits(&up, &[true, false, false]));
+}
+
+// Each kind of entry, with the number of its line as its reference.
+#[test]
+fn each_kind_of_entry_is_read(rt: HostRuntime) {
+    let (amount, reference) = (500, 7);
+    let table: [(&[u8], Entry); 3] = [
+        (
+            b"post 2 deposit 4294967295 500",
+            Entry::Deposit {
+                to: u32::MAX,
+                amount,
+                reference,
+            },
+        ),
+        (
+            b"post 2 withdraw 1 0500",
+            Entry::Withdraw {
+                from: 1,
+                amount,
+                reference,
+            },
+        ),
+        (
+            b"post 2 transfer 1 3 500",
+            Entry::Transfer {
+                from: 1,
+                to: 3,
+                amount,
+                reference,
+            },
+        ),
+    ];
+    for (line, wanted) in table {
+        match command(line) {
+            Some(Command::Post { station, entry }) => assert_eq!(rt; (station, entry), (2, wanted)),
+            _ => assert!(rt; false, "{line:?}"),
+        }
+    }
+}
+
+#[test]
+fn lines_that_say_nothing_are_passed_over(rt: HostRuntime) {
+    let table: [&[u8]; 5] = [b"", b"  ", b"# frob", b"  #", b"#\xff"];
+    for line in table {
+        assert!(rt; matches!(read_command(line, 1), Ok(None)), "{line:?}");
+    }
+}
+
+#[test]
+fn line_faults_come_in_their_order(rt: HostRuntime) {
+    let table: [(&[u8], LineFault); 27] = [
+        (b"frob", UnknownCommand),
+        (b"Format 4", UnknownCommand),
+        (b"day 8", UnknownCommand),
+        (b"\xff", UnknownCommand),
+        (b"\tcrash", UnknownCommand),
+        (b"post 0 seal 1", UnknownCommand),
+        (b"post x frob", UnknownCommand),
+        (b"format", WrongNumberOfWords),
+        (b"format 1 2", WrongNumberOfWords),
+        (b"crash now", WrongNumberOfWords),
+        (b"post", WrongNumberOfWords),
+        (b"post 0", WrongNumberOfWords),
+        (b"post x deposit 1", WrongNumberOfWords),
+        (b"post 0 transfer 1 2", WrongNumberOfWords),
+        (b"open 2 00", WrongNumberOfWords),
+        (b"format 0", BadNumber),
+        (b"format 18446744073709551616", BadNumber),
+        (b"format +1", BadNumber),
+        (b"format -1", BadNumber),
+        (b"format 1x", BadNumber),
+        (b"format 1\xff", BadNumber),
+        (b"turn 1\r", BadNumber),
+        (b"post 0 deposit 4294967296 1", BadNumber),
+        (b"post 0 deposit 1 18446744073709551616", BadNumber),
+        (b"open x 2 2", BadNumber),
+        (b"open 2 02 10", BadBits),
+        (b"open 2 00 1\xff", BadBits),
+    ];
+    for (line, wanted) in table {
+        assert_eq!(rt; read_command(line, 1).err(), Some(wanted), "{line:?}");
+    }
+}
+
+#[test]
+fn line_faults_have_their_texts(rt: HostRuntime) -> Result<(), Fail> {
+    let table = [
+        (UnknownCommand, "unknown command"),
+        (WrongNumberOfWords, "wrong number of words"),
+        (BadNumber, "bad number"),
+        (BadBits, "bad bits"),
+    ];
+    for (fault, wanted) in table {
+        let text = fault.to_string(rt.alloc())?;
+        assert_eq!(rt; text.as_str(), wanted);
+    }
+    Ok(())
+}
+
+#[test]
+fn lines_end_with_a_line_feed_and_one_return(rt: HostRuntime) {
+    let mut lines = Lines::of(b"a\r\n\nb\r\r\nc\r");
+    let wanted: [&[u8]; 4] = [b"a", b"", b"b\r", b"c\r"];
+    for line in wanted {
+        assert_eq!(rt; lines.next(), Some(line));
+    }
+    assert_eq!(rt; lines.next(), None);
+}

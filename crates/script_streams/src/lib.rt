@@ -1,0 +1,13 @@
+//! The streams of a script: it is read whole from a reader, within limits, and what it prints is gathered and handed to
+//! a writer in large pieces.
+#![tactic(auto)]
+
+mod faults;
+mod output;
+mod reading;
+#[cfg(test)]
+mod tests;
+
+pub use faults::StreamFault;
+pub use output::{Output, WriteFault, write_all};
+pub use reading::{SCRIPT_LIMIT, read_script};

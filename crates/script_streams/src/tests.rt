@@ -1,0 +1,135 @@
+use crate::{Output, SCRIPT_LIMIT, StreamFault, read_script, write_all};
+use fakes::{Giving, Interrupted, Taking};
+use std::alloc::Global;
+use std::test::Fail;
+
+mod fakes;
+
+#[test]
+fn a_script_is_read_whole(rt: HostRuntime) -> Result<(), Fail> {
+    let mut reader = b"format 4\n".as_slice();
+    let script = read_script(rt.alloc(), &mut reader)?;
+    assert_eq!(rt; script.as_slice(), b"format 4\n".as_slice());
+    Ok(())
+}
+
+#[test]
+fn a_script_of_the_limit_is_read_and_no_longer_one(rt: HostRuntime) -> Result<(), Fail> {
+    let limit = 16_777_216;
+    let mut reader = Giving {
+        left: limit,
+        fails: false,
+    };
+    let script = read_script(rt.alloc(), &mut reader)?;
+    assert_eq!(rt; script.len() as u64, limit);
+    for fails in [false, true] {
+        let mut reader = Giving {
+            left: limit + 1,
+            fails,
+        };
+        let script = read_script(rt.alloc(), &mut reader);
+        assert_eq!(rt; script.err(), Some(StreamFault::TooLong));
+    }
+    Ok(())
+}
+
+#[test]
+fn a_reader_that_fails_is_told_although_it_gave_bytes(rt: HostRuntime) {
+    for left in [0, 1, 100_000] {
+        let mut reader = Giving { left, fails: true };
+        let script = read_script(rt.alloc(), &mut reader);
+        assert_eq!(rt; script.err(), Some(StreamFault::Read));
+    }
+}
+
+#[test]
+fn a_reader_is_called_33554432_times_at_most(rt: HostRuntime) -> Result<(), Fail> {
+    let mut reader = Interrupted::before_each(33_554_431);
+    let script = read_script(rt.alloc(), &mut reader)?;
+    assert_eq!(rt; (script.len(), reader.calls()), (0, 33_554_432));
+    let mut reader = Interrupted::before_each(33_554_432);
+    let script = read_script(rt.alloc(), &mut reader);
+    assert_eq!(rt; script.err(), Some(StreamFault::Read));
+    assert_eq!(rt; reader.calls(), 33_554_432);
+    Ok(())
+}
+
+#[test]
+fn a_writer_is_interrupted_1000_times_in_a_row_at_most(rt: HostRuntime) {
+    let mut writer = Interrupted::before_each(1_000);
+    assert!(rt; write_all(&mut writer, b"abc").is_ok());
+    assert_eq!(rt; writer.calls(), 3 * 1_001);
+    let mut writer = Interrupted::before_each(1_001);
+    assert!(rt; write_all(&mut writer, b"abc").is_err());
+    assert_eq!(rt; writer.calls(), 1_001);
+}
+
+#[test]
+fn a_writer_is_handed_all_or_told(rt: HostRuntime) {
+    let mut writer = Taking::for_calls(rt.alloc(), 1);
+    assert!(rt; write_all(&mut writer, b"").is_ok());
+    assert_eq!(rt; writer.pieces().len(), 0);
+    assert!(rt; write_all(&mut writer, b"abc").is_ok());
+    assert!(rt; write_all(&mut writer, b"def").is_err());
+    assert_eq!(rt; writer.pieces().len(), 1);
+}
+
+// So many lines of this text, and one more.
+fn print_lines(
+    alloc: Global,
+    writer: &mut Taking,
+    text: &str,
+    count: u64,
+) -> Result<(), StreamFault> {
+    let mut output = Output::new(alloc, writer)?;
+    for _ in 0..count {
+        output.line(text)?;
+    }
+    output.line(format_args!("account {} {}", 1, 500))?;
+    output.flush()?;
+    output.flush()
+}
+
+// 64 lines of 1,024 bytes are 65,536.
+#[test]
+fn lines_are_gathered_to_65536_bytes(rt: HostRuntime) -> Result<(), Fail> {
+    let alloc = rt.alloc();
+    let mut text = String::new(alloc);
+    for _ in 0..1_023 {
+        text.push('x')?;
+    }
+    let mut writer = Taking::for_calls(alloc, 9);
+    print_lines(alloc, &mut writer, text.as_str(), 65)?;
+    let [first, last] = writer.pieces() else {
+        return Err(Fail::from(StreamFault::Write));
+    };
+    assert_eq!(rt; first.len(), 65_536);
+    assert_eq!(rt; last.len(), 1_024 + 14);
+    assert!(rt; last.as_slice().ends_with(b"\naccount 1 500\n"));
+    Ok(())
+}
+
+#[test]
+fn a_line_that_is_not_taken_is_told(rt: HostRuntime) -> Result<(), Fail> {
+    let mut writer = Taking::for_calls(rt.alloc(), 0);
+    let mut output = Output::new(rt.alloc(), &mut writer)?;
+    assert_eq!(rt; output.flush(), Ok(()));
+    assert_eq!(rt; output.line("crashed"), Ok(()));
+    assert_eq!(rt; output.flush(), Err(StreamFault::Write));
+    Ok(())
+}
+
+#[test]
+fn faults_have_their_texts(rt: HostRuntime) -> Result<(), Fail> {
+    let table = [
+        (StreamFault::Read, "read failed"),
+        (StreamFault::Write, "write failed"),
+        (StreamFault::Memory, "out of memory"),
+        (StreamFault::TooLong, "script too long"),
+    ];
+    for (fault, wanted) in table {
+        let text = fault.to_string(rt.alloc())?;
+        assert_eq!(rt; text.as_str(), wanted);
+    }
+    Ok(())
+}

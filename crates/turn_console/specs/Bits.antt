@@ -1,7 +1,0 @@
--- What a value of `Bits` shows.
-use Rattle.std.specs.Prelude.{List, Bool, take}
-use Rattle.turn_console.specs.declared.numbers.Bits.{Bits}
-
--- the bits in order
-abbrev pub bits_of : Bits → List Bool
-bits_of b = take b.count b.places

@@ -1,0 +1,145 @@
+//! Runs the commands of a script, one after another.
+use crate::names::Refusal;
+use crate::power::PowerLoss;
+use crate::printing::{print_balances, print_line, print_refusal, print_turn};
+use crate::scripted_clerk::ScriptedClerk;
+use gate_journal::format;
+use script_grammar::{Bits, Command};
+use script_streams::{Output, StreamFault};
+use sector_device::Device;
+use std::alloc::Global;
+use std::io::Write;
+use std::num::NonZeroU64;
+use turn_ledger::Entry;
+
+/// Where a script stands: on a device, or with an office open on it.
+#[derive(Drop)]
+pub enum Session<D: Device> {
+    Closed(D),
+    Open(ScriptedClerk<D>),
+}
+
+impl<D: PowerLoss + Drop> Session<D> {
+    /// Runs a command and prints what it answers. A fault is that of the output.
+    pub fn run<W: Write>(
+        mut self,
+        alloc: Global,
+        command: Command,
+        output: &mut Output<'_, W>,
+    ) -> Result<Session<D>, StreamFault> {
+        match command {
+            Command::Format { slots } => self.format(slots, output)?,
+            Command::Open { stations, x, up } => {
+                return self.open(alloc, stations, &x, &up, output);
+            }
+            Command::Post { station, entry } => self.post(station, entry, output)?,
+            Command::Turn { station } => self.turn(station, output)?,
+            Command::Bits => self.bits(output)?,
+            Command::Balances => self.balances(output)?,
+            Command::Crash => return self.crash(alloc, output),
+        }
+        Ok(self)
+    }
+
+    fn format<W: Write>(
+        &mut self,
+        slots: NonZeroU64,
+        output: &mut Output<'_, W>,
+    ) -> Result<(), StreamFault> {
+        let Session::Closed(device) = self else {
+            return print_refusal(Refusal::OfficeOpen, output);
+        };
+        match format(device, slots.get()) {
+            Ok(()) => output.line(format_args!("formatted {slots}")),
+            Err(refusal) => print_refusal(Refusal::Format(refusal), output),
+        }
+    }
+
+    fn open<W: Write>(
+        self,
+        alloc: Global,
+        stations: u64,
+        x: &Bits,
+        up: &Bits,
+        output: &mut Output<'_, W>,
+    ) -> Result<Session<D>, StreamFault> {
+        let device = match self {
+            Session::Closed(device) => device,
+            open => {
+                print_refusal(Refusal::OfficeOpen, output)?;
+                return Ok(open);
+            }
+        };
+        match ScriptedClerk::open(alloc, device, stations, x, up) {
+            Ok(clerk) => {
+                let next = clerk.next();
+                let total = clerk.ledger().total();
+                output.line(format_args!("opened {stations} next {next} total {total}"))?;
+                Ok(Session::Open(clerk))
+            }
+            Err((device, refusal)) => {
+                print_refusal(refusal, output)?;
+                Ok(Session::Closed(device))
+            }
+        }
+    }
+
+    fn post<W: Write>(
+        &mut self,
+        station: u64,
+        entry: Entry,
+        output: &mut Output<'_, W>,
+    ) -> Result<(), StreamFault> {
+        let Session::Open(clerk) = self else {
+            return print_refusal(Refusal::NoOffice, output);
+        };
+        match clerk.post(station, entry) {
+            Ok(count) => output.line(format_args!("held {station} {count}")),
+            Err(refusal) => print_refusal(refusal, output),
+        }
+    }
+
+    fn turn<W: Write>(
+        &mut self,
+        station: u64,
+        output: &mut Output<'_, W>,
+    ) -> Result<(), StreamFault> {
+        let Session::Open(clerk) = self else {
+            return print_refusal(Refusal::NoOffice, output);
+        };
+        match clerk.turn(station) {
+            Ok(turn) => print_turn(&turn, output)?,
+            Err(refusal) => print_refusal(Refusal::Turn(refusal), output)?,
+        }
+        // an answer is worth little while it lies in a buffer
+        output.flush()
+    }
+
+    fn bits<W: Write>(&self, output: &mut Output<'_, W>) -> Result<(), StreamFault> {
+        match self {
+            Session::Open(clerk) => print_line(clerk.line(), output),
+            Session::Closed(_) => print_refusal(Refusal::NoOffice, output),
+        }
+    }
+
+    fn balances<W: Write>(&self, output: &mut Output<'_, W>) -> Result<(), StreamFault> {
+        match self {
+            Session::Open(clerk) => print_balances(clerk.ledger(), output),
+            Session::Closed(_) => print_refusal(Refusal::NoOffice, output),
+        }
+    }
+
+    fn crash<W: Write>(
+        self,
+        alloc: Global,
+        output: &mut Output<'_, W>,
+    ) -> Result<Session<D>, StreamFault> {
+        let device = match self {
+            Session::Closed(device) => device,
+            Session::Open(clerk) => clerk.into_device(),
+        };
+        let device = device.lose_power(alloc);
+        output.line(format_args!("crashed"))?;
+        Ok(Session::Closed(device))
+    }
+}
