@@ -1,7 +1,7 @@
 ghost use Rattle.std.specs.Prelude.{◌≡◌, ◌⊎◌, ◌+◌, ◌<◌, ◌≤◌, ◌↔◌, true, false, length, IsTrue, IsErr, OnOk};
 ghost use Rattle.sector_device.specs.Image.{sector_at, with_sector};
-ghost use Rattle.sector_device.specs.Device.{IsCall, HasCause};
-ghost use Rattle.sector_device.specs.Crash.{IsSame, IsTorn, IsDurable};
+ghost use Rattle.sector_device.specs.Device.{AreCalls, HasCause};
+ghost use Rattle.sector_device.specs.Crash.{IsLook, IsWrite, IsDurable};
 ghost use Rattle.fault_injector.specs.Fuse.{FuseState, Counts, Fails, HasCounted, fuse_state, sound_with_failures};
 
 use crate::op::Op;
@@ -80,15 +80,15 @@ impl<D: Device> Device for Fuse<D> {
 
     fn read(&mut self, at: u64, into: &mut Sector) -> Result<(), DeviceFault>
         requires { at < length (D.state self.old.inner).reads }
-        ensures call { IsCall (fuse_state D.state self.old) (fuse_state D.state self.new) (IsErr result) }
+        ensures call { AreCalls (fuse_state D.state self.old) (fuse_state D.state self.new) (IsErr result) }
         ensures same { (D.state self.old.inner).honest
-            → IsSame (fuse_state D.state self.old) (fuse_state D.state self.new) }
+            → IsLook (fuse_state D.state self.old) (fuse_state D.state self.new) }
         ensures bytes { (D.state self.old.inner).honest
             → OnOk result (into.new ≡ sector_at (D.state self.old.inner).reads at) }
         ensures counted { HasCounted self.old self.new Op.Read }
         ensures fails { Fails self.old Op.Read → IsErr result }
         ensures unreached { Fails self.old Op.Read → self.new.inner ≡ self.old.inner }
-        ensures passed_on { (Fails self.old Op.Read → ⊥) → IsCall (D.state self.old.inner) (D.state self.new.inner) (IsErr result) }
+        ensures passed_on { (Fails self.old Op.Read → ⊥) → AreCalls (D.state self.old.inner) (D.state self.new.inner) (IsErr result) }
     {
         if self.fails(Op::Read) {
             return Err(DeviceFault);
@@ -98,15 +98,15 @@ impl<D: Device> Device for Fuse<D> {
 
     fn write(&mut self, at: u64, from: &Sector) -> Result<(), DeviceFault>
         requires { at < length (D.state self.old.inner).reads }
-        ensures call { IsCall (fuse_state D.state self.old) (fuse_state D.state self.new) (IsErr result) }
+        ensures call { AreCalls (fuse_state D.state self.old) (fuse_state D.state self.new) (IsErr result) }
         ensures torn { (D.state self.old.inner).honest
-            → IsTorn at (fuse_state D.state self.old) (fuse_state D.state self.new) }
+            → IsWrite at (fuse_state D.state self.old) (fuse_state D.state self.new) }
         ensures written { (D.state self.old.inner).honest
             → OnOk result ((D.state self.new.inner).reads ≡ with_sector (D.state self.old.inner).reads at from.now) }
         ensures counted { HasCounted self.old self.new Op.Write }
         ensures fails { Fails self.old Op.Write → IsErr result }
         ensures unreached { Fails self.old Op.Write → self.new.inner ≡ self.old.inner }
-        ensures passed_on { (Fails self.old Op.Write → ⊥) → IsCall (D.state self.old.inner) (D.state self.new.inner) (IsErr result) }
+        ensures passed_on { (Fails self.old Op.Write → ⊥) → AreCalls (D.state self.old.inner) (D.state self.new.inner) (IsErr result) }
     {
         if self.fails(Op::Write) {
             return Err(DeviceFault);
@@ -115,15 +115,15 @@ impl<D: Device> Device for Fuse<D> {
     }
 
     fn sync(&mut self) -> Result<(), DeviceFault>
-        ensures call { IsCall (fuse_state D.state self.old) (fuse_state D.state self.new) (IsErr result) }
+        ensures call { AreCalls (fuse_state D.state self.old) (fuse_state D.state self.new) (IsErr result) }
         ensures same { (D.state self.old.inner).honest
-            → IsSame (fuse_state D.state self.old) (fuse_state D.state self.new) }
+            → IsLook (fuse_state D.state self.old) (fuse_state D.state self.new) }
         ensures durable { (D.state self.old.inner).honest
             → OnOk result (IsDurable (fuse_state D.state self.new)) }
         ensures counted { HasCounted self.old self.new Op.Sync }
         ensures fails { Fails self.old Op.Sync → IsErr result }
         ensures unreached { Fails self.old Op.Sync → self.new.inner ≡ self.old.inner }
-        ensures passed_on { (Fails self.old Op.Sync → ⊥) → IsCall (D.state self.old.inner) (D.state self.new.inner) (IsErr result) }
+        ensures passed_on { (Fails self.old Op.Sync → ⊥) → AreCalls (D.state self.old.inner) (D.state self.new.inner) (IsErr result) }
     {
         if self.fails(Op::Sync) {
             return Err(DeviceFault);

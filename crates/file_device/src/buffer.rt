@@ -1,7 +1,7 @@
 ghost use Rattle.std.specs.Prelude.{◌≡◌, ◌+◌, ◌-◌, ◌<◌, ◌≤◌, ◌↔◌, length, vec_len, IsTrue, IfOk, OnOk, OnErr};
 ghost use Rattle.sector_device.specs.Image.{sector_at};
-ghost use Rattle.sector_device.specs.Device.{IsCall};
-ghost use Rattle.sector_device.specs.Crash.{IsSame};
+ghost use Rattle.sector_device.specs.Device.{AreCalls};
+ghost use Rattle.sector_device.specs.Crash.{IsLook};
 ghost use Rattle.file_device.specs.Run.{Shows};
 
 use crate::read_run::ReadRun;
@@ -60,8 +60,8 @@ impl ReadBuffer {
     /// Reads the sectors round one. After a fault it is empty.
     pub(crate) fn fill<D: ReadRun>(&mut self, device: &mut D, at: u64) -> Result<(), DeviceFault>
         requires { at < length (D.state device.old).reads }
-        ensures call { IsCall (D.state device.old) (D.state device.new) ⊥ }
-        ensures same { (D.state device.old).honest → IsSame (D.state device.old) (D.state device.new) }
+        ensures call { AreCalls (D.state device.old) (D.state device.new) ⊥ }
+        ensures same { (D.state device.old).honest → IsLook (D.state device.old) (D.state device.new) }
         ensures holds { OnOk result (Holds self.new at) }
         ensures mirrors { (D.state device.old).honest → OnOk result (Mirrors self.new (D.state device.old).reads) }
         ensures err { OnErr result (IsEmpty self.new) }
@@ -85,8 +85,8 @@ fn read_front<D: ReadRun>(
 ) -> Result<(), DeviceFault>
     requires room { count ≤ length sectors.old }
     requires there { at + count ≤ length (D.state device.old).reads }
-    ensures call { IsCall (D.state device.old) (D.state device.new) ⊥ }
-    ensures same { (D.state device.old).honest → IsSame (D.state device.old) (D.state device.new) }
+    ensures call { AreCalls (D.state device.old) (D.state device.new) ⊥ }
+    ensures same { (D.state device.old).honest → IsLook (D.state device.old) (D.state device.new) }
     ensures bytes { (D.state device.old).honest → OnOk result (Shows sectors.new count (D.state device.old).reads at) }
 {
     device.read_run(at, &mut sectors[..count])

@@ -1,7 +1,7 @@
 ghost use Rattle.std.specs.Prelude.{◌≡◌, ◌+◌, ◌<◌, ◌≤◌, ◌↔◌, false, length, IsTrue, IsErr, OnOk};
 ghost use Rattle.sector_device.specs.Image.{sector_at, with_sector};
-ghost use Rattle.sector_device.specs.Device.{IsCall, HasCause};
-ghost use Rattle.sector_device.specs.Crash.{IsSame, IsTorn, IsDurable};
+ghost use Rattle.sector_device.specs.Device.{AreCalls, HasCause};
+ghost use Rattle.sector_device.specs.Crash.{IsLook, IsWrite, IsDurable};
 ghost use Rattle.file_device.specs.FailStop.{FailStopState, CountsRefused, with_refused, sound_with_refused};
 
 use sector_device::{Device, DeviceFault, Sector};
@@ -62,12 +62,12 @@ impl<D: Device> Device for FailStop<D> {
 
     fn read(&mut self, at: u64, into: &mut Sector) -> Result<(), DeviceFault>
         requires { at < length (D.state self.old.inner).reads }
-        ensures call { IsCall (with_refused (D.state self.old.inner) self.old.refused) (with_refused (D.state self.new.inner) self.new.refused) (IsErr result) }
-        ensures same { (D.state self.old.inner).honest → IsSame (with_refused (D.state self.old.inner) self.old.refused) (with_refused (D.state self.new.inner) self.new.refused) }
+        ensures call { AreCalls (with_refused (D.state self.old.inner) self.old.refused) (with_refused (D.state self.new.inner) self.new.refused) (IsErr result) }
+        ensures same { (D.state self.old.inner).honest → IsLook (with_refused (D.state self.old.inner) self.old.refused) (with_refused (D.state self.new.inner) self.new.refused) }
         ensures bytes { (D.state self.old.inner).honest → OnOk result (into.new ≡ sector_at (D.state self.old.inner).reads at) }
         ensures fails { IsTrue self.old.stopped → IsErr result }
         ensures unreached { IsTrue self.old.stopped → self.new.inner ≡ self.old.inner }
-        ensures passed_on { (IsTrue self.old.stopped → ⊥) → IsCall (D.state self.old.inner) (D.state self.new.inner) (IsErr result) }
+        ensures passed_on { (IsTrue self.old.stopped → ⊥) → AreCalls (D.state self.old.inner) (D.state self.new.inner) (IsErr result) }
         ensures counted { CountsRefused self.old self.new }
         ensures stopped { self.new.stopped ≡ self.old.stopped }
     {
@@ -77,12 +77,12 @@ impl<D: Device> Device for FailStop<D> {
 
     fn write(&mut self, at: u64, from: &Sector) -> Result<(), DeviceFault>
         requires { at < length (D.state self.old.inner).reads }
-        ensures call { IsCall (with_refused (D.state self.old.inner) self.old.refused) (with_refused (D.state self.new.inner) self.new.refused) (IsErr result) }
-        ensures torn { (D.state self.old.inner).honest → IsTorn at (with_refused (D.state self.old.inner) self.old.refused) (with_refused (D.state self.new.inner) self.new.refused) }
+        ensures call { AreCalls (with_refused (D.state self.old.inner) self.old.refused) (with_refused (D.state self.new.inner) self.new.refused) (IsErr result) }
+        ensures torn { (D.state self.old.inner).honest → IsWrite at (with_refused (D.state self.old.inner) self.old.refused) (with_refused (D.state self.new.inner) self.new.refused) }
         ensures written { (D.state self.old.inner).honest → OnOk result ((D.state self.new.inner).reads ≡ with_sector (D.state self.old.inner).reads at from.now) }
         ensures fails { IsTrue self.old.stopped → IsErr result }
         ensures unreached { IsTrue self.old.stopped → self.new.inner ≡ self.old.inner }
-        ensures passed_on { (IsTrue self.old.stopped → ⊥) → IsCall (D.state self.old.inner) (D.state self.new.inner) (IsErr result) }
+        ensures passed_on { (IsTrue self.old.stopped → ⊥) → AreCalls (D.state self.old.inner) (D.state self.new.inner) (IsErr result) }
         ensures counted { CountsRefused self.old self.new }
         ensures stopped { self.new.stopped ≡ self.old.stopped }
     {
@@ -91,12 +91,12 @@ impl<D: Device> Device for FailStop<D> {
     }
 
     fn sync(&mut self) -> Result<(), DeviceFault>
-        ensures call { IsCall (with_refused (D.state self.old.inner) self.old.refused) (with_refused (D.state self.new.inner) self.new.refused) (IsErr result) }
-        ensures same { (D.state self.old.inner).honest → IsSame (with_refused (D.state self.old.inner) self.old.refused) (with_refused (D.state self.new.inner) self.new.refused) }
+        ensures call { AreCalls (with_refused (D.state self.old.inner) self.old.refused) (with_refused (D.state self.new.inner) self.new.refused) (IsErr result) }
+        ensures same { (D.state self.old.inner).honest → IsLook (with_refused (D.state self.old.inner) self.old.refused) (with_refused (D.state self.new.inner) self.new.refused) }
         ensures durable { (D.state self.old.inner).honest → OnOk result (IsDurable (with_refused (D.state self.new.inner) self.new.refused)) }
         ensures fails { IsTrue self.old.stopped → IsErr result }
         ensures unreached { IsTrue self.old.stopped → self.new.inner ≡ self.old.inner }
-        ensures passed_on { (IsTrue self.old.stopped → ⊥) → IsCall (D.state self.old.inner) (D.state self.new.inner) (IsErr result) }
+        ensures passed_on { (IsTrue self.old.stopped → ⊥) → AreCalls (D.state self.old.inner) (D.state self.new.inner) (IsErr result) }
         ensures counted { CountsRefused self.old self.new }
         ensures stopped { IsTrue self.new.stopped ↔ IsErr result }
     {

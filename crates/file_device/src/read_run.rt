@@ -1,7 +1,7 @@
 ghost use Rattle.std.specs.Prelude.{◌+◌, ◌<◌, ◌≤◌, length, IsOk, OnOk};
-ghost use Rattle.sector_device.specs.Device.{IsCall};
-ghost use Rattle.sector_device.specs.Crash.{IsSame};
-ghost use Rattle.sector_device.specs.MemoryDevice.{state_of};
+ghost use Rattle.sector_device.specs.Device.{AreCalls};
+ghost use Rattle.sector_device.specs.Crash.{IsLook};
+ghost use Rattle.sector_device.specs.MemoryDevice.{memory_device_state};
 ghost use Rattle.file_device.specs.Run.{Shows};
 
 use sector_device::{Device, DeviceFault, MemoryDevice, Sector};
@@ -13,18 +13,18 @@ pub trait ReadRun: Device {
     /// reads it alone, and that read tells whether it can be read.
     fn read_run(&mut self, at: u64, into: &mut [Sector]) -> Result<(), DeviceFault>
         requires { at + length into.old ≤ length (Self.state self.old).reads }
-        ensures call { IsCall (Self.state self.old) (Self.state self.new) ⊥ }
-        ensures same { (Self.state self.old).honest → IsSame (Self.state self.old) (Self.state self.new) }
+        ensures call { AreCalls (Self.state self.old) (Self.state self.new) ⊥ }
+        ensures same { (Self.state self.old).honest → IsLook (Self.state self.old) (Self.state self.new) }
         ensures bytes { (Self.state self.old).honest → OnOk result (Shows into.new (length into.new) (Self.state self.old).reads at) };
 }
 
 /// It reads them one by one, and none fails.
 impl ReadRun for MemoryDevice {
     fn read_run(&mut self, at: u64, into: &mut [Sector]) -> Result<(), DeviceFault>
-        requires { at + length into.old ≤ length (state_of self.old).reads }
-        ensures call { IsCall (state_of self.old) (state_of self.new) ⊥ }
-        ensures same { (state_of self.old).honest → IsSame (state_of self.old) (state_of self.new) }
-        ensures bytes { (state_of self.old).honest → OnOk result (Shows into.new (length into.new) (state_of self.old).reads at) }
+        requires { at + length into.old ≤ length (memory_device_state self.old).reads }
+        ensures call { AreCalls (memory_device_state self.old) (memory_device_state self.new) ⊥ }
+        ensures same { (memory_device_state self.old).honest → IsLook (memory_device_state self.old) (memory_device_state self.new) }
+        ensures bytes { (memory_device_state self.old).honest → OnOk result (Shows into.new (length into.new) (memory_device_state self.old).reads at) }
         ensures never_fails { IsOk result }
     {
         // That the places fit their type.

@@ -13,7 +13,7 @@ use crate::rules::Rule;
 use std::marker::Model;
 
 // The most stations that a line has.
-const MOST: usize = 64;
+const MOST_STATIONS: usize = 64;
 
 /// A line of 2 to 64 stations, each with two bits. The bottom station's up is always true, and the
 /// top one's always false.
@@ -21,8 +21,8 @@ const MOST: usize = 64;
 pub struct Line {
     stations: u8,
     // place s belongs to station s; past the last station all are false
-    x: [bool; MOST],
-    up: [bool; MOST],
+    x: [bool; MOST_STATIONS],
+    up: [bool; MOST_STATIONS],
 }
 
 impl Model for Line {
@@ -222,11 +222,11 @@ impl Line {
 }
 
 // The bits, and false past them.
-fn copied(bits: &[bool]) -> [bool; MOST]
+fn copied(bits: &[bool]) -> [bool; MOST_STATIONS]
     requires { length bits.now ≤ 64 }
     ensures { result ≡ padded bits.now }
 {
-    let mut all = [false; MOST];
+    let mut all = [false; MOST_STATIONS];
     all[..bits.len()].copy_from_slice(bits);
     all
 }

@@ -2,7 +2,7 @@ ghost use Rattle.std.specs.Prelude.{◌≡◌};
 ghost use Rattle.sector_device.specs.Image.{Image};
 ghost use Rattle.journal_recovery.specs.State.{State};
 ghost use Rattle.journal_recovery.specs.Recovery.{RecoversTo};
-ghost use Rattle.journal_recovery.specs.Refused.{IsUnrecoverable};
+ghost use Rattle.journal_recovery.specs.Refused.{RecoveryRefuses};
 ghost use Rattle.journal_recovery.specs.declared.refusals.OpenRefusal.{OpenRefusal};
 
 use gate_journal::one_reading;
@@ -12,8 +12,8 @@ use gate_journal::one_reading;
 pub fn one_recovery()
     ensures state { (image : Image) (s t : State) → RecoversTo s image → RecoversTo t image → s ≡ t }
     ensures refused { (image : Image) (s : State) (refusal : OpenRefusal)
-        → RecoversTo s image → IsUnrecoverable image refusal → ⊥ }
-    ensures refusals { (image : Image) (a b : OpenRefusal) → IsUnrecoverable image a → IsUnrecoverable image b → a ≡ b }
+        → RecoversTo s image → RecoveryRefuses image refusal → ⊥ }
+    ensures refusals { (image : Image) (a b : OpenRefusal) → RecoveryRefuses image a → RecoveryRefuses image b → a ≡ b }
 {
     one_reading();
 }

@@ -9,7 +9,7 @@ use Rattle.std.proofs.lemmas.List.Sums.{AllPass-from_list_all}
 use Rattle.std.proofs.lemmas.Slice.Eq.{bytes_eq-Decides}
 use Rattle.std.proofs.lemmas.Str.{IsUtf8-from_ascii}
 use Rattle.std.proofs.lemmas.Str.Ascii.{IsAscii-from_all}
-use Rattle.script_grammar.specs.Grammar.{Fills, IsRead, Place, Value, first_wrong, line_fault, takes, told_as, told_of_one, values}
+use Rattle.script_grammar.specs.Grammar.{Fills, IsRead, Field, Value, first_wrong, line_fault, takes, told_as, told_of_one, values}
 use Rattle.script_grammar.specs.Grammar.{Name, Number}
 use Rattle.script_grammar.specs.declared.commands.Command.{Command}
 use Rattle.script_grammar.specs.declared.faults.LineFault.{LineFault}
@@ -20,12 +20,12 @@ Word = List ℕ
 
 -- ---- the first word that may not stand at its place
 
-pub taken : (place : Place) (places : List Place) (word : Word) (words : List Word) → takes place word ≡ true
+pub taken : (place : Field) (places : List Field) (word : Word) (words : List Word) → takes place word ≡ true
     → first_wrong (place ∷ places) (word ∷ words) ≡ first_wrong places words
 unfolding first_wrong
 taken place places word words ok = rw ok refl
 
-pub wrong : (place : Place) (places : List Place) (word : Word) (words : List Word) → takes place word ≡ false
+pub wrong : (place : Field) (places : List Field) (word : Word) (words : List Word) → takes place word ≡ false
     → first_wrong (place ∷ places) (word ∷ words) ≡ Some (told_as place)
 unfolding first_wrong
 wrong place places word words bad = rw bad refl
@@ -40,12 +40,12 @@ told found known e fault same = e ∙ ap (λ (f : LineFault). Some f) (sym same)
 
 -- ---- the one form with the names of a line
 
-pub as_long : (form : List Place) (words exact : List Word) → words ≡ exact → length form ≡ length exact → told_of_one form words ≡ first_wrong form exact
+pub as_long : (form : List Field) (words exact : List Word) → words ≡ exact → length form ≡ length exact → told_of_one form words ≡ first_wrong form exact
 as_long form words exact same long =
     let test : (length form == length exact) ≡ true = eq-eqb _ _ long in
     ap (told_of_one form) same ∙ rw test refl
 
-pub not_as_long : (form : List Place) (words : List Word) → length words ≢ length form → told_of_one form words ≡ Some WrongNumberOfWords
+pub not_as_long : (form : List Field) (words : List Word) → length words ≢ length form → told_of_one form words ≡ Some WrongNumberOfWords
 not_as_long form words other =
     let test : (length form == length words) ≡ false = ne_eqb _ _ (λ e. other (sym e)) in
     rw test refl
@@ -54,7 +54,7 @@ pub name_taken : (name : Word) → takes (Name name) name ≡ true
 unfolding takes
 name_taken name = (bytes_eq-Decides name name).1 refl
 
-name_aside : (name : Word) (places : List Place) (words : List Word)
+name_aside : (name : Word) (places : List Field) (words : List Word)
     → ((length places == length words) ≡ true) × (length places ≡ length words) ⊎ ((length places == length words) ≡ false) × (length places ≢ length words)
     → told_of_one (Name name ∷ places) (name ∷ words) ≡ told_of_one places words
 name_aside name places words (inl same) =
@@ -64,15 +64,15 @@ name_aside name places words (inr other) =
     not_as_long (Name name ∷ places) (name ∷ words) (λ e. other.1 (omega arith)) ∙ sym (not_as_long places words (λ e. other.1 (sym e)))
 
 -- what is told of words stays the same with a name in front
-pub behind_name : (name : Word) (places : List Place) (words : List Word) → told_of_one (Name name ∷ places) (name ∷ words) ≡ told_of_one places words
+pub behind_name : (name : Word) (places : List Field) (words : List Word) → told_of_one (Name name ∷ places) (name ∷ words) ≡ told_of_one places words
 behind_name name places words = name_aside name places words (eqb_tells (length places) (length words))
 
-second_taken : (place : Place) (name : Word) (places : List Place) (word : Word) (words : List Word)
+second_taken : (place : Field) (name : Word) (places : List Field) (word : Word) (words : List Word)
     → first_wrong (place ∷ Name name ∷ places) (word ∷ name ∷ words) ≡ first_wrong (place ∷ places) (word ∷ words)
 unfolding first_wrong
 second_taken place name places word words = rw (name_taken name) refl
 
-kind_aside : (place : Place) (name : Word) (places : List Place) (word : Word) (words : List Word)
+kind_aside : (place : Field) (name : Word) (places : List Field) (word : Word) (words : List Word)
     → ((length places == length words) ≡ true) × (length places ≡ length words) ⊎ ((length places == length words) ≡ false) × (length places ≢ length words)
     → told_of_one (place ∷ Name name ∷ places) (word ∷ name ∷ words) ≡ told_of_one (place ∷ places) (word ∷ words)
 kind_aside place name places word words (inl same) =
@@ -83,29 +83,29 @@ kind_aside place name places word words (inr other) =
     ∙ sym (not_as_long (place ∷ places) (word ∷ words) (λ e. other.1 (omega arith)))
 
 -- and with a name in the second place
-pub behind_kind : (place : Place) (name : Word) (places : List Place) (word : Word) (words : List Word)
+pub behind_kind : (place : Field) (name : Word) (places : List Field) (word : Word) (words : List Word)
     → told_of_one (place ∷ Name name ∷ places) (word ∷ name ∷ words) ≡ told_of_one (place ∷ places) (word ∷ words)
 behind_kind place name places word words = kind_aside place name places word words (eqb_tells (length places) (length words))
 
 -- ---- words that fill a form
 
-pub fills : (form : List Place) (words exact : List Word) (these : List Value) → words ≡ exact → length exact ≡ length form
+pub fills : (form : List Field) (words exact : List Word) (these : List Value) → words ≡ exact → length exact ≡ length form
     → first_wrong form exact ≡ None → values form exact ≡ these → Fills words form these
 unfolding Fills
 fills form words exact these same long right written =
     subst (λ (l : List Word). (length l ≡ length form) × (first_wrong form l ≡ None) × (values form l ≡ these)) (sym same) (long, right, written)
 
-pub fills_named : (name : Word) (places : List Place) (words : List Word) (these : List Value) → Fills words places these
+pub fills_named : (name : Word) (places : List Field) (words : List Word) (these : List Value) → Fills words places these
     → Fills (name ∷ words) (Name name ∷ places) these
 unfolding Fills
 fills_named name places words these full = (ap suc full.0, taken (Name name) places name words (name_taken name) ∙ full.1, full.2)
 
-pub fills_kind : (name : Word) (places : List Place) (word : Word) (words : List Word) (these : List Value) → Fills (word ∷ words) (Number ∷ places) these
+pub fills_kind : (name : Word) (places : List Field) (word : Word) (words : List Word) (these : List Value) → Fills (word ∷ words) (Number ∷ places) these
     → Fills (word ∷ name ∷ words) (Number ∷ Name name ∷ places) these
 unfolding Fills
 fills_kind name places word words these full = (omega (arith, full.0), second_taken Number name places word words ∙ full.1, full.2)
 
-pub nothing_told : (form : List Place) (words : List Word) (these : List Value) → Fills words form these → told_of_one form words ≡ None
+pub nothing_told : (form : List Field) (words : List Word) (these : List Value) → Fills words form these → told_of_one form words ≡ None
 unfolding Fills
 nothing_told form words these full = as_long form words words refl (sym full.0) ∙ full.1
 

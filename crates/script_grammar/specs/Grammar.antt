@@ -11,49 +11,49 @@ use Rattle.script_grammar.specs.declared.faults.LineFault.TheVariants.{UnknownCo
 use Rattle.turn_ledger.specs.declared.entry.Entry.TheVariants.{Deposit, Withdraw, Transfer}
 
 -- what stands at one place of a line: a name, a number above zero, a number, a number below 2^32, or bits
-pub data Place : Type 0 where
-  Name : List ℕ → Place
-  Slots : Place
-  Number : Place
-  Account : Place
-  BitText : Place
+pub data Field : Type 0 where
+  Name : List ℕ → Field
+  Slots : Field
+  Number : Field
+  Account : Field
+  BitText : Field
 
 -- the form of each command, and of each kind of entry
-abbrev pub format_form : List Place
+abbrev pub format_form : List Field
 format_form = Name (codes "format") ∷ Slots ∷ []
 
-abbrev pub open_form : List Place
+abbrev pub open_form : List Field
 open_form = Name (codes "open") ∷ Number ∷ BitText ∷ BitText ∷ []
 
-abbrev pub deposit_form : List Place
+abbrev pub deposit_form : List Field
 deposit_form = Name (codes "post") ∷ Number ∷ Name (codes "deposit") ∷ Account ∷ Number ∷ []
 
-abbrev pub withdraw_form : List Place
+abbrev pub withdraw_form : List Field
 withdraw_form = Name (codes "post") ∷ Number ∷ Name (codes "withdraw") ∷ Account ∷ Number ∷ []
 
-abbrev pub transfer_form : List Place
+abbrev pub transfer_form : List Field
 transfer_form = Name (codes "post") ∷ Number ∷ Name (codes "transfer") ∷ Account ∷ Account ∷ Number ∷ []
 
-abbrev pub turn_form : List Place
+abbrev pub turn_form : List Field
 turn_form = Name (codes "turn") ∷ Number ∷ []
 
-abbrev pub bits_form : List Place
+abbrev pub bits_form : List Field
 bits_form = Name (codes "bits") ∷ []
 
-abbrev pub balances_form : List Place
+abbrev pub balances_form : List Field
 balances_form = Name (codes "balances") ∷ []
 
-abbrev pub crash_form : List Place
+abbrev pub crash_form : List Field
 crash_form = Name (codes "crash") ∷ []
 
 -- the forms of lines
-abbrev pub forms : List (List Place)
+abbrev pub forms : List (List Field)
 forms =
     format_form ∷ open_form ∷ deposit_form ∷ withdraw_form ∷ transfer_form
     ∷ turn_form ∷ bits_form ∷ balances_form ∷ crash_form ∷ []
 
 -- whether the word may stand at the place
-unfoldable pub takes : Place → List ℕ → Bool
+unfoldable pub takes : Field → List ℕ → Bool
 takes (Name name) word = bytes_eq word name
 takes Slots word = is_number word && nat_lt 0 (digits_value 10 word)
 takes Number word = is_number word
@@ -61,7 +61,7 @@ takes Account word = is_number word && nat_lt (digits_value 10 word) (2 ^ 32)
 takes BitText word = is_bit_text word
 
 -- what a wrong word at the place is told as
-abbrev pub told_as : Place → LineFault
+abbrev pub told_as : Field → LineFault
 told_as (Name name) = UnknownCommand
 told_as Slots = BadNumber
 told_as Number = BadNumber
@@ -69,24 +69,24 @@ told_as Account = BadNumber
 told_as BitText = BadBits
 
 -- whether the words have the names of the form, as far as they go
-abbrev pub has_names : List Place → List (List ℕ) → Bool
+abbrev pub has_names : List Field → List (List ℕ) → Bool
 has_names (Name name ∷ places) (word ∷ words) = bytes_eq word name && has_names places words
 has_names (_ ∷ places) words = has_names places (drop 1 words)
 has_names [] words = true
 
 -- what is told of the first word that may not stand at its place
-unfoldable pub first_wrong : List Place → List (List ℕ) → Option LineFault
+unfoldable pub first_wrong : List Field → List (List ℕ) → Option LineFault
 first_wrong (place ∷ places) (word ∷ words) = if takes place word then first_wrong places words else Some (told_as place)
 first_wrong _ _ = None
 
 -- what is told of words, of the forms whose names they have and of those of them that are as long
-abbrev pub told_of : List (List Place) → List (List Place) → List (List ℕ) → Option LineFault
+abbrev pub told_of : List (List Field) → List (List Field) → List (List ℕ) → Option LineFault
 told_of [] _ words = Some UnknownCommand
 told_of _ [] words = Some WrongNumberOfWords
 told_of _ (form ∷ _) words = first_wrong form words
 
 -- what is told of words whose names, or the lack of them, leave this form alone
-abbrev pub told_of_one : List Place → List (List ℕ) → Option LineFault
+abbrev pub told_of_one : List Field → List (List ℕ) → Option LineFault
 told_of_one form words = told_of (form ∷ []) (filter (λ other. length other == length words) (form ∷ [])) words
 
 -- a line that says nothing: it has no words, or is a comment
@@ -107,14 +107,14 @@ pub data Value : Type 0 where
   BitsAre : List Bool → Value
 
 -- the values that words write at the places of a form; a name writes none
-abbrev pub values : List Place → List (List ℕ) → List Value
+abbrev pub values : List Field → List (List ℕ) → List Value
 values (Name name ∷ places) (word ∷ words) = values places words
 values (BitText ∷ places) (word ∷ words) = BitsAre (bits_written word) ∷ values places words
 values (_ ∷ places) (word ∷ words) = NumberIs (digits_value 10 word) ∷ values places words
 values _ _ = []
 
 -- the words fill the form with these values: there are as many as places, each may stand at its place and writes this
-unfoldable pub Fills : List (List ℕ) → List Place → List Value → Type 0
+unfoldable pub Fills : List (List ℕ) → List Field → List Value → Type 0
 Fills words form these = (length words ≡ length form) × (first_wrong form words ≡ None) × (values form words ≡ these)
 
 -- the words of the line of this number spell the command

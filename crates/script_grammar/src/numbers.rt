@@ -18,12 +18,12 @@ pub fn read_number(word: &[u8]) -> Option<u64>
 }
 
 /// The most bits that are kept: one more than the longest line has.
-const MOST: usize = 65;
+const MOST_BITS: usize = 65;
 
 /// A list of bits, of which the first 65 are kept: more than any line of stations has.
 #[derive(Clone, Copy)]
 pub struct Bits {
-    places: [bool; MOST],
+    places: [bool; MOST_BITS],
     count: usize,
     ghost within: { count ≤ 65 },
 }
@@ -46,8 +46,8 @@ impl Bits {
         if !has_bits_alone(word) {
             return None;
         }
-        let kept = &word[..MOST.min(word.len())];
-        let mut places = [false; MOST];
+        let kept = &word[..MOST_BITS.min(word.len())];
+        let mut places = [false; MOST_BITS];
         for (place, byte) in kept.iter().enumerate() {
             places[place] = *byte == b'1';
         }

@@ -3,9 +3,9 @@ use Rattle.std.proofs.Common.{◌≡◌, ◌⊎◌, inl, inr, ⊎_elim, ℕ, ◌
 use Rattle.std.proofs.lemmas.List.{ext_get_or, set-set, set-get_or, length-set, get_or-set_same, get_or-set_other, length-reverse}
 use Rattle.std.proofs.lemmas.Bool.{cases_eq}
 use Rattle.sector_device.specs.Image.{Image, IsImage, IsSector, sector_at, with_sector, DiffersAt}
-use Rattle.sector_device.specs.Crash.{IsSame, IsTorn}
+use Rattle.sector_device.specs.Crash.{IsLook, IsWrite}
 use Rattle.sector_device.specs.Memory.{MayLeave, LeftSince, IsPending}
-use Rattle.sector_device.specs.MemoryDevice.{state_of, memory_state, calls_of}
+use Rattle.sector_device.specs.MemoryDevice.{memory_device_state, memory_state, calls_of}
 use Rattle.sector_device.specs.declared.memory.Call.{Call}
 use Rattle.sector_device.specs.declared.memory.Call.TheVariants.{Wrote}
 use Rattle.sector_device.specs.declared.memory.MemoryDevice.{MemoryDevice}
@@ -62,7 +62,7 @@ module _ (reads : Image) (calls : List Call) (at : ℕ) (from : List ℕ) (lt : 
 pub write_torn : (old : MemoryDevice) (reads : Image) (calls : List Call) (moment faults : ℕ) (at : ℕ) (from : List ℕ) → IsSector from → at < length old.sectors.items
     → (before : Snapshot (List ℕ)) → before.value ≡ sector_at old.sectors.items at
     → reads ≡ with_sector old.sectors.items at from → calls ≡ Wrote at before ∷ calls_of old → moment ≡ length calls
-    → IsTorn at (state_of old) (memory_state reads calls moment faults)
+    → IsWrite at (memory_device_state old) (memory_state reads calls moment faults)
 write_torn old reads calls moment faults at from sector lt before kept reads_are calls_are counts =
     let was = old.sectors.items in
     let made : List Call = Wrote at before ∷ calls_of old in
@@ -88,7 +88,7 @@ write_torn old reads calls moment faults at from sector lt before kept reads_are
     coe_back same b = subst (λ (T : Type 0). T) (sym same) b
 
 -- a call that left reads and the record as they were
-pub same_record : (old new : MemoryDevice) → new.sectors.items ≡ old.sectors.items → calls_of new ≡ calls_of old → IsSame (state_of old) (state_of new)
+pub same_record : (old new : MemoryDevice) → new.sectors.items ≡ old.sectors.items → calls_of new ≡ calls_of old → IsLook (memory_device_state old) (memory_device_state new)
 same_record old new reads calls =
     let forth : (since : ℕ) (image : Image) → LeftSince new.sectors.items (calls_of new) since image → LeftSince old.sectors.items (calls_of old) since image = λ since image left.
     subst (λ (made : List Call). LeftSince old.sectors.items made since image) calls (subst (λ (sectors : Image). LeftSince sectors (calls_of new) since image) reads left) in

@@ -12,14 +12,14 @@ pub record Elapses (old new : DeviceState) : Type 0 where
   pub nothing_forgotten : (since : ℕ) (image : Image) → since ≤ old.moment → old.left_since since image → new.left_since since image
 
 -- A read or a sync, whether it failed or not: reads give the same, and a crash may leave nothing more than before.
-pub record IsSame (old new : DeviceState) : Type 0 where
+pub record IsLook (old new : DeviceState) : Type 0 where
   pub time : Elapses old new
   pub reads : new.reads ≡ old.reads
   pub nothing_more : (image : Image) → new.may_leave image → old.may_leave image
 
 -- A write to one sector, whether it failed or not: reads give some 512 bytes there, and what a crash may leave
 -- is what it might have left before, but for any 512 bytes there.
-pub record IsTorn (at : ℕ) (old new : DeviceState) : Type 0 where
+pub record IsWrite (at : ℕ) (old new : DeviceState) : Type 0 where
   pub time : Elapses old new
   pub reads : DiffersAt at old.reads new.reads
   pub torn : (image : Image) → new.may_leave image → (before : Image) × old.may_leave before × DiffersAt at before image
@@ -82,7 +82,7 @@ looked_nowhere state sound = record {
   crash = nothing_happened state state.may_leave sound (λ image left. left);
 }
 
-pub looked_once : (old new : DeviceState) → IsSound old → IsSame old new → OnlyLooks old new
+pub looked_once : (old new : DeviceState) → IsSound old → IsLook old new → OnlyLooks old new
 looked_once old new sound same = record {
   reads = same.reads;
   nothing_more = same.nothing_more;
@@ -98,7 +98,7 @@ looks_joined old mid new first second = record {
 
 -- A write to a device with nothing pending: a crash within it, or after it, leaves what reads gave, but for some 512
 -- bytes in that sector.
-pub write_leaves : (at : ℕ) (old new : DeviceState) → IsSound old → at < length old.reads → IsDurable old → IsTorn at old new
+pub write_leaves : (at : ℕ) (old new : DeviceState) → IsSound old → at < length old.reads → IsDurable old → IsWrite at old new
     → LeavesOnly old new (DiffersAt at old.reads) × ((image : Image) → new.may_leave image → DiffersAt at old.reads image)
 write_leaves at old new sound lt durable torn =
     let before : (image : Image) → old.may_leave image → DiffersAt at old.reads image = λ image left.
@@ -109,7 +109,7 @@ write_leaves at old new sound lt durable torn =
     (one_call old new (DiffersAt at old.reads) sound torn.time before after, after)
 
 -- a call that changed nothing is a write that changed nothing
-pub torn_nothing : (at : ℕ) (old new : DeviceState) → IsSound old → at < length old.reads → IsSame old new → IsTorn at old new
+pub torn_nothing : (at : ℕ) (old new : DeviceState) → IsSound old → at < length old.reads → IsLook old new → IsWrite at old new
 torn_nothing at old new sound lt same = record {
   time = same.time;
   reads = subst (λ (image : Image). DiffersAt at old.reads image) (sym same.reads) (differs_nowhere at old.reads (sound.images old.reads sound.nothing_lost).0 lt);

@@ -36,7 +36,7 @@ pub record HasCause (before after : ℕ) (fault : Type 0) : Type 0 where
   pub stayed : (fault → ⊥) → after ≡ before
 
 -- What any call, and any run of calls, keeps on every device, honest or not.
-pub record IsCall (old new : DeviceState) (fault : Type 0) : Type 0 where
+pub record AreCalls (old new : DeviceState) (fault : Type 0) : Type 0 where
   pub sectors : length new.reads ≡ length old.reads
   pub stays_honest : old.honest → new.honest
   pub was_honest : new.honest → old.honest
@@ -44,7 +44,7 @@ pub record IsCall (old new : DeviceState) (fault : Type 0) : Type 0 where
   pub cause : HasCause old.faults new.faults fault
 
 -- no call at all
-pub not_called : (state : DeviceState) (fault : Type 0) → (fault → ⊥) → IsCall state state fault
+pub not_called : (state : DeviceState) (fault : Type 0) → (fault → ⊥) → AreCalls state state fault
 not_called state fault none = record {
   sectors = refl;
   stays_honest = λ honest. honest;
@@ -63,7 +63,7 @@ earlier_cause before mid after le (inr last) = inr last
 
 -- Two runs of calls, one after the other: either of them tells of a fault.
 pub calls_joined : (old mid new : DeviceState) (first second either : Type 0) → (either → first ⊎ second) → (first ⊎ second → either)
-    → IsCall old mid first → IsCall mid new second → IsCall old new either
+    → AreCalls old mid first → AreCalls mid new second → AreCalls old new either
 calls_joined old mid new first second either which told before after = record {
   sectors = after.sectors ∙ before.sectors;
   stays_honest = λ honest. after.stays_honest (before.stays_honest honest);

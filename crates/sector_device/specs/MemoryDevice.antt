@@ -21,8 +21,8 @@ memory_state reads calls moment faults = record {
   faults = faults;
 }
 
-abbrev pub state_of : MemoryDevice → DeviceState
-state_of device = memory_state device.sectors.items (calls_of device) (length device.calls.items) device.faults
+abbrev pub memory_device_state : MemoryDevice → DeviceState
+memory_device_state device = memory_state device.sectors.items (calls_of device) (length device.calls.items) device.faults
 
 -- A write to the sector answered Ok since the last sync that answered Ok.
 abbrev pub IsPendingIn : MemoryDevice → ℕ → Type 0

@@ -5,7 +5,7 @@ use Rattle.std.proofs.lemmas.List.{length-reverse}
 use Rattle.sector_device.specs.Image.{Image}
 use Rattle.sector_device.specs.Device.{IsSound}
 use Rattle.sector_device.specs.Memory.{MayLeave, LeftSince}
-use Rattle.sector_device.specs.MemoryDevice.{state_of, calls_of}
+use Rattle.sector_device.specs.MemoryDevice.{memory_device_state, calls_of}
 use Rattle.sector_device.specs.declared.memory.Call.{Call}
 use Rattle.sector_device.specs.declared.memory.MemoryDevice.{MemoryDevice}
 
@@ -20,7 +20,7 @@ only_now reads [] since image le left = left
 only_now reads (call ∷ calls) since image le (inl now) = now
 only_now reads (call ∷ calls) since image le (inr earlier) = absurd (omega (arith, earlier.0))
 
-pub memory_sound : (device : MemoryDevice) → IsSound (state_of device)
+pub memory_sound : (device : MemoryDevice) → IsSound (memory_device_state device)
 memory_sound device = record {
   nothing_lost = record { sectors = refl; is_image = device.whole; settled = λ at _. refl };
   images = λ image left. (left.is_image, left.sectors);

@@ -1,7 +1,7 @@
 ghost use Rattle.std.specs.Prelude.{◌≡◌, ◌<◌, length, IsErr, OnOk};
 ghost use Rattle.sector_device.specs.Image.{sector_at, with_sector};
-ghost use Rattle.sector_device.specs.Device.{DeviceState, IsSound, IsCall};
-ghost use Rattle.sector_device.specs.Crash.{IsSame, IsTorn, IsDurable};
+ghost use Rattle.sector_device.specs.Device.{DeviceState, IsSound, AreCalls};
+ghost use Rattle.sector_device.specs.Crash.{IsLook, IsWrite, IsDurable};
 
 use thiserror::Error;
 
@@ -37,23 +37,23 @@ pub trait Device {
     /// Reads a sector. After a fault `into` holds any bytes, and the device is as before.
     fn read(&mut self, at: u64, into: &mut Sector) -> Result<(), DeviceFault>
         requires { at < length (state self.old).reads }
-        ensures call { IsCall (state self.old) (state self.new) (IsErr result) }
-        ensures same { (state self.old).honest → IsSame (state self.old) (state self.new) }
+        ensures call { AreCalls (state self.old) (state self.new) (IsErr result) }
+        ensures same { (state self.old).honest → IsLook (state self.old) (state self.new) }
         ensures bytes { (state self.old).honest
             → OnOk result (into.new ≡ sector_at (state self.old).reads at) };
 
     /// Writes a sector. After a fault it reads as some 512 bytes, the same ones until it is written again.
     fn write(&mut self, at: u64, from: &Sector) -> Result<(), DeviceFault>
         requires { at < length (state self.old).reads }
-        ensures call { IsCall (state self.old) (state self.new) (IsErr result) }
-        ensures torn { (state self.old).honest → IsTorn at (state self.old) (state self.new) }
+        ensures call { AreCalls (state self.old) (state self.new) (IsErr result) }
+        ensures torn { (state self.old).honest → IsWrite at (state self.old) (state self.new) }
         ensures written { (state self.old).honest
             → OnOk result ((state self.new).reads ≡ with_sector (state self.old).reads at from.now) };
 
     /// Makes all that was written durable. After a fault what was pending still is.
     fn sync(&mut self) -> Result<(), DeviceFault>
-        ensures call { IsCall (state self.old) (state self.new) (IsErr result) }
-        ensures same { (state self.old).honest → IsSame (state self.old) (state self.new) }
+        ensures call { AreCalls (state self.old) (state self.new) (IsErr result) }
+        ensures same { (state self.old).honest → IsLook (state self.old) (state self.new) }
         ensures durable { (state self.old).honest → OnOk result (IsDurable (state self.new)) };
 
     /// What holds of an honest device at each moment.

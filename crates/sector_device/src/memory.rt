@@ -1,7 +1,7 @@
 ghost use Rattle.std.specs.Prelude.{◌≡◌, ◌⊎◌, ◌<◌, ◌≤◌, ◌↔◌, [], ◌∷◌, ℕ, replicate, reverse, length, IsTrue, IsOk, IsErr, IfOk, OnOk, OnErr};
 ghost use Rattle.sector_device.specs.Image.{IsImage, sector_at, with_sector};
-ghost use Rattle.sector_device.specs.Device.{HasCause, IsCall};
-ghost use Rattle.sector_device.specs.Crash.{IsSame, IsTorn, IsDurable};
+ghost use Rattle.sector_device.specs.Device.{HasCause, AreCalls};
+ghost use Rattle.sector_device.specs.Crash.{IsLook, IsWrite, IsDurable};
 ghost use Rattle.sector_device.specs.Picks.{TakesPicks};
 ghost use Rattle.sector_device.specs.Memory.{IsPending};
 
@@ -48,14 +48,14 @@ pub struct MemoryDevice {
 }
 
 impl MemoryDevice {
-    ghost use Rattle.sector_device.specs.MemoryDevice.{state_of, calls_of, IsPendingIn};
+    ghost use Rattle.sector_device.specs.MemoryDevice.{memory_device_state, calls_of, IsPendingIn};
 
     /// A device of so many sectors, all zero, with nothing pending.
     pub fn new(alloc: Global, sectors: u64) -> Result<MemoryDevice, AllocError>
-        ensures zero { IfOk result (λ device. (state_of device).reads ≡ replicate sectors (replicate 512 0)) }
-        ensures durable { IfOk result (λ device. IsDurable (state_of device)) }
+        ensures zero { IfOk result (λ device. (memory_device_state device).reads ≡ replicate sectors (replicate 512 0)) }
+        ensures durable { IfOk result (λ device. IsDurable (memory_device_state device)) }
         ensures settled { IfOk result (λ device. (at : ℕ) → IsPendingIn device at → ⊥) }
-        ensures no_failure { IfOk result (λ device. (state_of device).faults ≡ 0) }
+        ensures no_failure { IfOk result (λ device. (memory_device_state device).faults ≡ 0) }
     {
         Ok(MemoryDevice {
             sectors: vec![in alloc; [0; SECTOR]; sectors as usize]?,
@@ -66,7 +66,7 @@ impl MemoryDevice {
 
     /// Whether a write to the sector answered `Ok` since the last sync that answered `Ok`.
     pub fn pending(&self, at: u64) -> bool
-        requires { at < length (state_of self.now).reads }
+        requires { at < length (memory_device_state self.now).reads }
         ensures { IsTrue result ↔ IsPendingIn self.now at }
     {
         is_pending(&self.calls, at)
@@ -76,7 +76,7 @@ impl MemoryDevice {
     fn record(&mut self, call: Call) -> Result<(), DeviceFault>
         ensures sectors { self.new.sectors.items ≡ self.old.sectors.items }
         ensures ok { OnOk result ((calls_of self.new ≡ call ∷ calls_of self.old)
-                × (self.new.faults ≡ self.old.faults)) }
+            × (self.new.faults ≡ self.old.faults)) }
         ensures err { OnErr result (calls_of self.new ≡ calls_of self.old) }
         ensures cause { HasCause self.old.faults self.new.faults (IsErr result) }
         ensures count { self.old.faults ≤ self.new.faults }
@@ -91,11 +91,11 @@ impl MemoryDevice {
     /// Loses power. A pending sector takes the bytes of its last pick, or without one keeps what reads give. Afterwards
     /// nothing is pending.
     pub fn crash(mut self, picks: &Picks) -> MemoryDevice
-        ensures picked { TakesPicks (state_of self).reads picks.now.list.items (IsPendingIn self) (state_of result).reads }
-        ensures lawful { (state_of self).may_leave (state_of result).reads }
-        ensures durable { IsDurable (state_of result) }
+        ensures picked { TakesPicks (memory_device_state self).reads picks.now.list.items (IsPendingIn self) (memory_device_state result).reads }
+        ensures lawful { (memory_device_state self).may_leave (memory_device_state result).reads }
+        ensures durable { IsDurable (memory_device_state result) }
         ensures settled { (at : ℕ) → IsPendingIn result at → ⊥ }
-        ensures faults { (state_of result).faults ≡ (state_of self).faults }
+        ensures faults { (memory_device_state result).faults ≡ (memory_device_state self).faults }
     {
         for pick in &picks.list {
             self.take_pick(pick);
@@ -106,7 +106,7 @@ impl MemoryDevice {
 
     // Puts the bytes of the pick where its sector is pending.
     fn take_pick(&mut self, pick: &(u64, Sector))
-        ensures picked { TakesPicks (state_of self.old).reads (pick.now ∷ []) (IsPendingIn self.old) (state_of self.new).reads }
+        ensures picked { TakesPicks (memory_device_state self.old).reads (pick.now ∷ []) (IsPendingIn self.old) (memory_device_state self.new).reads }
         ensures calls { calls_of self.new ≡ calls_of self.old }
         ensures faults { self.new.faults ≡ self.old.faults }
     {
@@ -117,8 +117,8 @@ impl MemoryDevice {
     }
 
     fn put(&mut self, at: usize, bytes: &Sector)
-        requires { at < length (state_of self.old).reads }
-        ensures put { (state_of self.new).reads ≡ with_sector (state_of self.old).reads at bytes.now }
+        requires { at < length (memory_device_state self.old).reads }
+        ensures put { (memory_device_state self.new).reads ≡ with_sector (memory_device_state self.old).reads at bytes.now }
         ensures calls { calls_of self.new ≡ calls_of self.old }
         ensures faults { self.new.faults ≡ self.old.faults }
     {
@@ -127,21 +127,21 @@ impl MemoryDevice {
 }
 
 impl Device for MemoryDevice {
-    ghost use Rattle.sector_device.specs.MemoryDevice.{state_of, IsPendingIn};
+    ghost use Rattle.sector_device.specs.MemoryDevice.{memory_device_state, IsPendingIn};
     ghost use Rattle.sector_device.specs.MemoryLaws.{memory_sound};
 
-    ghost state = { state_of };
+    ghost state = { memory_device_state };
 
     fn sectors(&self) -> u64 {
         self.sectors.len() as u64
     }
 
     fn read(&mut self, at: u64, into: &mut Sector) -> Result<(), DeviceFault>
-        requires { at < length (state_of self.old).reads }
-        ensures call { IsCall (state_of self.old) (state_of self.new) (IsErr result) }
-        ensures same { (state_of self.old).honest → IsSame (state_of self.old) (state_of self.new) }
-        ensures bytes { (state_of self.old).honest
-            → OnOk result (into.new ≡ sector_at (state_of self.old).reads at) }
+        requires { at < length (memory_device_state self.old).reads }
+        ensures call { AreCalls (memory_device_state self.old) (memory_device_state self.new) (IsErr result) }
+        ensures same { (memory_device_state self.old).honest → IsLook (memory_device_state self.old) (memory_device_state self.new) }
+        ensures bytes { (memory_device_state self.old).honest
+            → OnOk result (into.new ≡ sector_at (memory_device_state self.old).reads at) }
         ensures never_fails { IsOk result }
         ensures pending { (sector : ℕ) → IsPendingIn self.new sector ↔ IsPendingIn self.old sector }
     {
@@ -150,14 +150,14 @@ impl Device for MemoryDevice {
     }
 
     fn write(&mut self, at: u64, from: &Sector) -> Result<(), DeviceFault>
-        requires { at < length (state_of self.old).reads }
-        ensures call { IsCall (state_of self.old) (state_of self.new) (IsErr result) }
-        ensures torn { (state_of self.old).honest → IsTorn at (state_of self.old) (state_of self.new) }
-        ensures written { (state_of self.old).honest
-            → OnOk result ((state_of self.new).reads ≡ with_sector (state_of self.old).reads at from.now) }
+        requires { at < length (memory_device_state self.old).reads }
+        ensures call { AreCalls (memory_device_state self.old) (memory_device_state self.new) (IsErr result) }
+        ensures torn { (memory_device_state self.old).honest → IsWrite at (memory_device_state self.old) (memory_device_state self.new) }
+        ensures written { (memory_device_state self.old).honest
+            → OnOk result ((memory_device_state self.new).reads ≡ with_sector (memory_device_state self.old).reads at from.now) }
         ensures pending { OnOk result ((sector : ℕ) → IsPendingIn self.new sector
-                ↔ ((at ≡ sector) ⊎ IsPendingIn self.old sector)) }
-        ensures unwritten { OnErr result ((state_of self.new).reads ≡ (state_of self.old).reads) }
+            ↔ ((at ≡ sector) ⊎ IsPendingIn self.old sector)) }
+        ensures unwritten { OnErr result ((memory_device_state self.new).reads ≡ (memory_device_state self.old).reads) }
         ensures not_pending { OnErr result ((sector : ℕ) → IsPendingIn self.new sector ↔ IsPendingIn self.old sector) }
     {
         let before = Snapshot::of(&self.sectors[at as usize]);
@@ -167,9 +167,9 @@ impl Device for MemoryDevice {
     }
 
     fn sync(&mut self) -> Result<(), DeviceFault>
-        ensures call { IsCall (state_of self.old) (state_of self.new) (IsErr result) }
-        ensures same { (state_of self.old).honest → IsSame (state_of self.old) (state_of self.new) }
-        ensures durable { (state_of self.old).honest → OnOk result (IsDurable (state_of self.new)) }
+        ensures call { AreCalls (memory_device_state self.old) (memory_device_state self.new) (IsErr result) }
+        ensures same { (memory_device_state self.old).honest → IsLook (memory_device_state self.old) (memory_device_state self.new) }
+        ensures durable { (memory_device_state self.old).honest → OnOk result (IsDurable (memory_device_state self.new)) }
         ensures settled { OnOk result ((sector : ℕ) → IsPendingIn self.new sector → ⊥) }
         ensures still_pending { OnErr result ((sector : ℕ) → IsPendingIn self.new sector ↔ IsPendingIn self.old sector) }
     {

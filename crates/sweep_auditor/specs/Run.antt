@@ -43,5 +43,5 @@ pub record IsRefusedAt (c : Configuration) (moves : List Move) (index : ℕ) : T
   pub stands_there : slice_get moves index ≡ Some move
   pub no_privilege : ¬ IsPrivilege (configuration_at c moves index) move.station move.rule
 
-abbrev pub RefusedFirst : Configuration → List Move → AuditRefusal → Type 0
-RefusedFirst c moves (NotEnabled index) = IsRefusedAt c moves index
+abbrev pub AuditRefuses : Configuration → List Move → AuditRefusal → Type 0
+AuditRefuses c moves (NotEnabled index) = IsRefusedAt c moves index

@@ -3,7 +3,7 @@
 ghost use Rattle.std.specs.Prelude.{◌≡◌, ℕ, ◌-◌, ◌*◌, ◌^◌, ◌≤◌, ◌↔◌, length, drop, IsOk, IfOk, IfErr, IfSome, IsSomeAnd, Some, None};
 ghost use Rattle.four_state.specs.Configuration.{IsLine};
 ghost use Rattle.four_state.specs.Privilege.{IsLegitimate};
-ghost use Rattle.sweep_auditor.specs.Run.{after, IsRun, IsFirstLegitimate, RefusedFirst};
+ghost use Rattle.sweep_auditor.specs.Run.{after, IsRun, IsFirstLegitimate, AuditRefuses};
 ghost use Rattle.sweep_auditor.specs.Stabilization.{top_of, LegitimateFrom, IsStretch, ComesRound};
 
 use crate::moves::{Audit, AuditRefusal, Move};
@@ -13,7 +13,7 @@ use four_state::Line;
 /// has index i.
 pub fn audit(start: Line, moves: &[Move]) -> Result<Audit, AuditRefusal>
     ensures ok { IsOk result ↔ IsRun start moves.now }
-    ensures refused { IfErr result (RefusedFirst start moves.now) }
+    ensures refused { IfErr result (AuditRefuses start moves.now) }
     ensures last { IfOk result (λ audit. audit.last ≡ after start moves.now) }
     ensures line { IfOk result (λ audit. IsLine audit.last) }
     ensures first { IfOk result

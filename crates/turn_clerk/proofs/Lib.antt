@@ -1,8 +1,8 @@
 mod Payload
 mod OneBatch
 mod Prefixes
-mod Taking
-mod Telling
-mod Beginning
+mod AfterTurn
+mod AfterAnswer
+mod AfterOpening
 mod Standing
 mod Running

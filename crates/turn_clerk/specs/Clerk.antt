@@ -8,7 +8,7 @@ use Rattle.four_state.specs.Motion.{moved}
 use Rattle.gate_journal.specs.Journal.{JournalState, after_appends, after_fault}
 use Rattle.turn_ledger.specs.declared.entry.Entry.{Entry}
 use Rattle.turn_ledger.specs.State.{LedgerState, IsLedger}
-use Rattle.turn_ledger.specs.Screen.{AreAccepted, posted_in_turn}
+use Rattle.turn_ledger.specs.Screen.{AreAccepted, posted_in_order}
 use Rattle.turn_ledger.specs.Ledger.{entries_of}
 use Rattle.journal_recovery.specs.State.{State, state_after}
 use Rattle.journal_recovery.specs.Recovery.{RecoversTo, HoldsState}
@@ -41,20 +41,20 @@ abbrev pub opening_state : {D : Type 0} → ClerkState D → State
 opening_state clerk = record { ledger = clerk.opening.ledger; next = clerk.opening.journal.next }
 
 -- the present state
-abbrev pub state_of : {D : Type 0} → ClerkState D → State
-state_of clerk = record { ledger = clerk.ledger; next = clerk.journal.next }
+abbrev pub present_state : {D : Type 0} → ClerkState D → State
+present_state clerk = record { ledger = clerk.ledger; next = clerk.journal.next }
 
 -- Its history is legal and ends in its present line and state.
 pub record KeepsHistory {D : Type 0} (clerk : ClerkState D) : Type 0 where
   pub legal : IsLegal clerk.opening.line (opening_state clerk) clerk.history
   pub line : clerk.line ≡ line_after clerk.opening.line clerk.history
-  pub state : state_of clerk ≡ state_after_turns (opening_state clerk) clerk.history
+  pub state : present_state clerk ≡ state_after_turns (opening_state clerk) clerk.history
 
 -- The clerk after a turn: its batch is journaled and posted, its move is made, and it is the last of the history.
 abbrev pub after_turn : {D : Type 0} → ClerkState D → D → Turn → ClerkState D
 after_turn old device turn = record old {
   journal = after_appends old.journal device (length (as_batch (accepted_of turn)));
-  ledger = posted_in_turn old.ledger (accepted_of turn);
+  ledger = posted_in_order old.ledger (accepted_of turn);
   line = moved old.line turn.station turn.rule;
   history = old.history ++ turn ∷ [];
 }
@@ -85,7 +85,7 @@ pub record RecoversToPrefix (from : State) (batches : List (List Entry)) (least 
 
 -- each image that a crash now leaves recovers to the present state
 abbrev pub LeavesState : {D : Type 0} → (D → DeviceState) → ClerkState D → Type 0
-LeavesState state clerk = (image : Image) → (state clerk.journal.device).may_leave image → RecoversTo (state_of clerk) image
+LeavesState state clerk = (image : Image) → (state clerk.journal.device).may_leave image → RecoversTo (present_state clerk) image
 
 -- Each image that a crash leaves from one moment of the clerk's life to a later one recovers to the ledger of a prefix
 -- of the accepted batches, with all those of the turns that were taken before.
@@ -103,7 +103,7 @@ LeftPrefixEver state clerk = LeavesOnly (state clerk.opening.journal.device) (st
 -- At rest, on an honest device.
 pub record IsAtRest {D : Type 0} (state : D → DeviceState) (clerk : ClerkState D) : Type 0 where
   -- a journal that works holds the present state
-  pub holds : clerk.journal.faulted ≡ false → HoldsState state clerk.journal (state_of clerk)
+  pub holds : clerk.journal.faulted ≡ false → HoldsState state clerk.journal (present_state clerk)
   -- a crash now leaves a prefix of the accepted batches with all those of the turns taken
   pub now : LeavesAcknowledged state clerk
   -- a crash at any moment since the opening left a prefix of the accepted batches

@@ -10,10 +10,10 @@ use Rattle.sweep_auditor.specs.Run.{next, after}
 use Rattle.sweep_auditor.specs.RunLaws.{after-push}
 use Rattle.turn_ledger.specs.declared.entry.Entry.{Entry}
 use Rattle.turn_ledger.specs.State.{IsLedger}
-use Rattle.turn_ledger.specs.Screen.{AreAccepted, posted_in_turn, accepted, with_yes}
+use Rattle.turn_ledger.specs.Screen.{AreAccepted, posted_in_order, accepted, with_yes}
 use Rattle.turn_ledger.specs.ScreenLaws.{AreAccepted-accepted}
 use Rattle.turn_ledger.specs.Ledger.{entries_of}
-use Rattle.turn_ledger.specs.LedgerLaws.{entries_of-one, ledger_after-none, posted_in_turn-is-ledger_after_one, AreAccepted-batches}
+use Rattle.turn_ledger.specs.LedgerLaws.{entries_of-one, ledger_after-none, posted_in_order-is-ledger_after_one, AreAccepted-batches}
 use Rattle.journal_recovery.specs.State.{State, state_after}
 use Rattle.journal_recovery.specs.RecoveryLaws.{state_after-append}
 use Rattle.turn_clerk.specs.declared.turns.Turn.{Turn}
@@ -34,10 +34,10 @@ state_after-none state sound i = record { ledger = ledger_after-none state.ledge
 
 -- accepted entries, posted one after another, lead to the state after them as one batch
 pub state_after-as_batch : (state : State) (batch : List Entry) → IsLedger state.ledger → AreAccepted state.ledger batch
-    → record { ledger = posted_in_turn state.ledger batch; next = state.next + length (as_batch batch) } ≡ state_after state (as_batch batch)
+    → record { ledger = posted_in_order state.ledger batch; next = state.next + length (as_batch batch) } ≡ state_after state (as_batch batch)
 state_after-as_batch state [] sound accepted i = record { ledger = sym (ledger_after-none state.ledger sound) i; next = state.next + 0 }
 state_after-as_batch state (entry ∷ entries) sound accepted i = record {
-  ledger = posted_in_turn-is-ledger_after_one state.ledger (entry ∷ entries) sound accepted i;
+  ledger = posted_in_order-is-ledger_after_one state.ledger (entry ∷ entries) sound accepted i;
   next = state.next + 1;
 }
 
@@ -52,7 +52,7 @@ batches_of-push turns turn =
 pub line_after-push : (line : Configuration) (turns : List Turn) (turn : Turn) → line_after line (turns ++ turn ∷ []) ≡ next (line_after line turns) (move_of turn)
 line_after-push line turns turn = ap (after line) (moves_of-push turns turn) ∙ after-push (moves_of turns) (move_of turn) line
 
--- what a turn accepts has a yes in its turn
+-- what a turn accepts has a yes in order
 pub AreAccepted-turn : (line : Configuration) (state : State) (turn : Turn) → IsTurn line state turn → AreAccepted state.ledger (accepted_of turn)
 AreAccepted-turn line state turn taken =
     subst (λ (verdicts : _). AreAccepted state.ledger (with_yes turn.entries verdicts)) (sym taken.judged) (AreAccepted-accepted state.ledger turn.entries)

@@ -7,7 +7,7 @@ use Rattle.turn_ledger.specs.declared.limits.TheConstants.{BATCH_LIMIT}
 use Rattle.turn_ledger.specs.Screen.{accepted}
 use Rattle.journal_recovery.specs.State.{State}
 use Rattle.turn_clerk.specs.Turn.{HasPrivilege, MayTurn}
-use Rattle.turn_clerk.specs.Clerk.{ClerkState, state_of}
+use Rattle.turn_clerk.specs.Clerk.{ClerkState, present_state}
 use Rattle.turn_clerk.specs.declared.refusals.TurnRefusal.{TurnRefusal}
 use Rattle.turn_clerk.specs.declared.refusals.TurnRefusal.TheVariants.{Faulted, NoStation, NotPrivileged, TooMany, Memory, Full, Device}
 
@@ -20,7 +20,7 @@ pub record Standing : Type 0 where
   pub slots : ℕ
 
 abbrev pub standing_of : {D : Type 0} → ClerkState D → Standing
-standing_of clerk = record { faulted = clerk.journal.faulted; line = clerk.line; state = state_of clerk; slots = clerk.journal.slots }
+standing_of clerk = record { faulted = clerk.journal.faulted; line = clerk.line; state = present_state clerk; slots = clerk.journal.slots }
 
 -- The clerk works, and the station may take a turn with these entries, of which some are accepted.
 pub record WantsSlot (standing : Standing) (station : ℕ) (entries : List Entry) : Type 0 where
@@ -33,11 +33,11 @@ abbrev pub HasNoSlot : Standing → Type 0
 HasNoSlot standing = IsFull standing.slots standing.state.next
 
 -- What holds where a turn is refused: of the first four exactly, and where none of them holds, of the others at least.
-abbrev pub IsRefused : Standing → ℕ → List Entry → TurnRefusal → Type 0
-IsRefused standing station entries Faulted = standing.faulted ≡ true
-IsRefused standing station entries NoStation = (standing.faulted ≡ false) × (stations standing.line ≤ station)
-IsRefused standing station entries NotPrivileged = (standing.faulted ≡ false) × (station < stations standing.line) × ¬ HasPrivilege standing.line station
-IsRefused standing station entries TooMany = (standing.faulted ≡ false) × HasPrivilege standing.line station × (BATCH_LIMIT < length entries)
-IsRefused standing station entries Memory = (standing.faulted ≡ false) × MayTurn standing.line station entries
-IsRefused standing station entries Full = WantsSlot standing station entries × HasNoSlot standing
-IsRefused standing station entries Device = WantsSlot standing station entries × ¬ HasNoSlot standing
+abbrev pub ClerkRefuses : Standing → ℕ → List Entry → TurnRefusal → Type 0
+ClerkRefuses standing station entries Faulted = standing.faulted ≡ true
+ClerkRefuses standing station entries NoStation = (standing.faulted ≡ false) × (stations standing.line ≤ station)
+ClerkRefuses standing station entries NotPrivileged = (standing.faulted ≡ false) × (station < stations standing.line) × ¬ HasPrivilege standing.line station
+ClerkRefuses standing station entries TooMany = (standing.faulted ≡ false) × HasPrivilege standing.line station × (BATCH_LIMIT < length entries)
+ClerkRefuses standing station entries Memory = (standing.faulted ≡ false) × MayTurn standing.line station entries
+ClerkRefuses standing station entries Full = WantsSlot standing station entries × HasNoSlot standing
+ClerkRefuses standing station entries Device = WantsSlot standing station entries × ¬ HasNoSlot standing

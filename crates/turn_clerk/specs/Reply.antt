@@ -9,7 +9,7 @@ use Rattle.turn_clerk.specs.declared.events.Event.{Event}
 use Rattle.turn_clerk.specs.Turn.{IsTurn}
 use Rattle.turn_clerk.specs.History.{line_after, state_after_turns}
 use Rattle.turn_clerk.specs.Clerk.{ClerkState}
-use Rattle.turn_clerk.specs.Refused.{Standing, standing_of, IsRefused}
+use Rattle.turn_clerk.specs.Refused.{Standing, standing_of, ClerkRefuses}
 
 -- the turn, or why it was not taken
 abbrev pub Reply : Type 0
@@ -38,7 +38,7 @@ is_device (Err Device) = true
 abbrev pub IsReply : Standing → Event → Reply → Type 0
 IsReply standing event (Ok turn) =
     (standing.faulted ≡ false) × IsTurn standing.line standing.state turn × (turn.station ≡ event.station) × (turn.entries ≡ event.entries.items)
-IsReply standing event (Err refusal) = IsRefused standing event.station event.entries.items refusal
+IsReply standing event (Err refusal) = ClerkRefuses standing event.station event.entries.items refusal
 
 -- How a clerk stands after replies: on the line and the state after their turns, and faulted where the device failed.
 abbrev pub standing_after : Standing → List Reply → Standing

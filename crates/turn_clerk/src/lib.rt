@@ -4,11 +4,11 @@
 
 mod batches;
 mod clerk;
+mod effects;
 mod events;
 mod journaling;
 mod laws;
 mod refusals;
-mod settling;
 mod turns;
 
 pub use clerk::Clerk;

@@ -13,6 +13,7 @@ mod names;
 mod power;
 mod printing;
 mod program;
+mod refusals;
 mod scripted_clerk;
 mod session;
 mod settings;

@@ -1,42 +1,10 @@
-//! The names that output has for rules and refusals.
+//! The names that output has for rules and for the refusals of the crates below.
 use four_state::{LineRefusal, Rule};
 use gate_journal::FormatRefusal;
 use journal_recovery::{Cause, OpenRefusal};
 use std::fmt;
 use turn_clerk::TurnRefusal;
 use turn_ledger::EntryRefusal;
-
-/// Why a line of a script was refused. The script goes on.
-#[derive(Clone, Copy)]
-pub enum Refusal {
-    /// There is no open office.
-    NoOffice,
-    /// There is an open office.
-    OfficeOpen,
-    /// `post` names a station that the line lacks.
-    NoStation,
-    /// The station holds 16 entries.
-    HeldFull,
-    Format(FormatRefusal),
-    Line(LineRefusal),
-    Open(OpenRefusal),
-    Turn(TurnRefusal),
-}
-
-impl fmt::Display for Refusal {
-    fn fmt<W: fmt::Write>(&self, f: &mut fmt::Formatter<W>) -> fmt::Result {
-        match self {
-            Refusal::NoOffice => f.write_str("NoOffice"),
-            Refusal::OfficeOpen => f.write_str("OfficeOpen"),
-            Refusal::NoStation => f.write_str("NoStation"),
-            Refusal::HeldFull => f.write_str("HeldFull"),
-            Refusal::Format(refusal) => f.write_str(name_of_format(*refusal)),
-            Refusal::Line(refusal) => f.write_str(name_of_line(*refusal)),
-            Refusal::Open(refusal) => write_open(*refusal, f),
-            Refusal::Turn(refusal) => f.write_str(name_of_turn(*refusal)),
-        }
-    }
-}
 
 pub fn name_of_rule(rule: Rule) -> &'static str {
     match rule {
@@ -57,7 +25,7 @@ pub fn name_of_entry(refusal: EntryRefusal) -> &'static str {
     }
 }
 
-fn name_of_format(refusal: FormatRefusal) -> &'static str {
+pub fn name_of_format(refusal: FormatRefusal) -> &'static str {
     match refusal {
         FormatRefusal::TooManySlots => "TooManySlots",
         FormatRefusal::TooSmall => "TooSmall",
@@ -65,14 +33,14 @@ fn name_of_format(refusal: FormatRefusal) -> &'static str {
     }
 }
 
-fn name_of_line(refusal: LineRefusal) -> &'static str {
+pub fn name_of_line(refusal: LineRefusal) -> &'static str {
     match refusal {
         LineRefusal::Stations => "Stations",
         LineRefusal::Length => "Length",
     }
 }
 
-fn name_of_turn(refusal: TurnRefusal) -> &'static str {
+pub fn name_of_turn(refusal: TurnRefusal) -> &'static str {
     match refusal {
         TurnRefusal::Faulted => "Faulted",
         TurnRefusal::NoStation => "NoStation",
@@ -84,7 +52,7 @@ fn name_of_turn(refusal: TurnRefusal) -> &'static str {
     }
 }
 
-fn write_open<W: fmt::Write>(refusal: OpenRefusal, f: &mut fmt::Formatter<W>) -> fmt::Result {
+pub fn write_open<W: fmt::Write>(refusal: OpenRefusal, f: &mut fmt::Formatter<W>) -> fmt::Result {
     match refusal {
         OpenRefusal::Memory => f.write_str("Memory"),
         OpenRefusal::Unformatted => f.write_str("Unformatted"),

@@ -14,15 +14,15 @@ pub trait PowerLoss: Device + Send {
 }
 
 impl PowerLoss for MemoryDevice {
-    ghost use Rattle.sector_device.specs.MemoryDevice.{state_of, IsPendingIn};
+    ghost use Rattle.sector_device.specs.MemoryDevice.{memory_device_state, IsPendingIn};
 
     /// Sectors that weren't synced keep what was last written: one of the images that a power loss may leave.
     fn lose_power(self, alloc: Global) -> Self
-        ensures picked { TakesPicks (state_of self).reads [] (IsPendingIn self) (state_of result).reads }
-        ensures lawful { (state_of self).may_leave (state_of result).reads }
-        ensures durable { IsDurable (state_of result) }
+        ensures picked { TakesPicks (memory_device_state self).reads [] (IsPendingIn self) (memory_device_state result).reads }
+        ensures lawful { (memory_device_state self).may_leave (memory_device_state result).reads }
+        ensures durable { IsDurable (memory_device_state result) }
         ensures settled { (at : ℕ) → IsPendingIn result at → ⊥ }
-        ensures faults { (state_of result).faults ≡ (state_of self).faults }
+        ensures faults { (memory_device_state result).faults ≡ (memory_device_state self).faults }
     {
         let no_picks = Picks {
             list: Vec::new(alloc),

@@ -1,5 +1,6 @@
 //! What commands print.
-use crate::names::{Refusal, name_of_entry, name_of_rule};
+use crate::names::{name_of_entry, name_of_rule};
+use crate::refusals::Refusal;
 use four_state::Line;
 use script_streams::{Output, StreamFault};
 use std::fmt;

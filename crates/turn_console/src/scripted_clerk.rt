@@ -2,7 +2,7 @@
 ghost use Rattle.std.specs.Prelude.{◌≡◌, min};
 
 use crate::held_entries::HeldEntries;
-use crate::names::Refusal;
+use crate::refusals::Refusal;
 use four_state::Line;
 use journal_recovery::OpenRefusal;
 use script_grammar::Bits;

@@ -1,5 +1,5 @@
 //! Runs the commands of a script, one after another.
-use crate::names::Refusal;
+use crate::refusals::Refusal;
 use crate::power::PowerLoss;
 use crate::printing::{print_balances, print_line, print_refusal, print_turn};
 use crate::scripted_clerk::ScriptedClerk;

@@ -4,15 +4,15 @@ use Rattle.turn_ledger.specs.declared.entry.Entry.{Entry}
 use Rattle.turn_ledger.specs.Entry.{verdict}
 use Rattle.turn_ledger.specs.EntryLaws.{Passes}
 use Rattle.turn_ledger.specs.State.{LedgerState, IsAccount, IsLedger, balance_of}
-use Rattle.turn_ledger.specs.Screen.{screened, accepted, AreAccepted, posted_in_turn}
+use Rattle.turn_ledger.specs.Screen.{screened, accepted, AreAccepted, posted_in_order}
 use Rattle.turn_ledger.specs.Ledger.{into, out_of, entries_of, ledger_after}
 
--- Entries that have a yes each in their turn, posted one after another, leave the ledger after their
+-- Entries that have a yes each, in order, posted one after another, leave the ledger after their
 -- batches: each account has what it held and what came in, less what went out.
 abbrev pub PostingGivesTheSums : Type 0
 PostingGivesTheSums =
     (state : LedgerState) (batches : List (List Entry)) → IsLedger state → AreAccepted state (entries_of batches)
-    → (posted_in_turn state (entries_of batches) ≡ ledger_after state batches) × IsLedger (ledger_after state batches)
+    → (posted_in_order state (entries_of batches) ≡ ledger_after state batches) × IsLedger (ledger_after state batches)
 
 -- Nothing is taken that isn't there: what an account has in the end and all that went out of it are
 -- what it held and all that came in.
@@ -28,19 +28,19 @@ BatchesCompose =
     (state : LedgerState) (first second : List (List Entry)) → IsLedger state → AreAccepted state (entries_of (first ++ second))
     → ledger_after state (first ++ second) ≡ ledger_after (ledger_after state first) second
 
--- The accepted entries of a list have a yes each in their turn, and posting them one after another
+-- The accepted entries of a list have a yes each, in order, and posting them one after another
 -- leaves the ledger after them as one batch.
 abbrev pub AcceptedEntriesArePosted : Type 0
 AcceptedEntriesArePosted =
     (state : LedgerState) (entries : List Entry) → IsLedger state
     → AreAccepted state (accepted state entries)
-    × (posted_in_turn state (accepted state entries) ≡ ledger_after state (accepted state entries ∷ []))
+    × (posted_in_order state (accepted state entries) ≡ ledger_after state (accepted state entries ∷ []))
 
 -- Later entries of a list are judged on the state that the accepted ones before them leave.
 abbrev pub LaterEntriesSeeTheAccepted : Type 0
 LaterEntriesSeeTheAccepted =
     (state : LedgerState) (first second : List Entry)
-    → screened state (first ++ second) ≡ screened state first ++ screened (posted_in_turn state (accepted state first)) second
+    → screened state (first ++ second) ≡ screened state first ++ screened (posted_in_order state (accepted state first)) second
 
 -- An entry has a yes exactly where it keeps all rules.
 abbrev pub AYesMeansAllRules : Type 0

@@ -14,7 +14,7 @@ use Rattle.turn_ledger.specs.State.{LedgerState, IsAccount, balance_of, IsLedger
 use Rattle.turn_ledger.specs.StateLaws.{length-with_balance, balance_of-with_balance_same, balance_of-with_balance_other}
 use Rattle.turn_ledger.specs.Entry.{verdict, posted}
 use Rattle.turn_ledger.specs.EntryLaws.{passes-from_yes, length-posted, IsLedger-posted}
-use Rattle.turn_ledger.specs.Screen.{AreAccepted, posted_in_turn}
+use Rattle.turn_ledger.specs.Screen.{AreAccepted, posted_in_order}
 use Rattle.turn_ledger.specs.Ledger.{into, out_of, entries_of, balance_after, ledger_after}
 
 -- an amount where the accounts are one, and nothing where they aren't
@@ -60,19 +60,19 @@ balance_of-posted state (Transfer from to amount reference) account l ok k =
     omega (arith, balance_of-debited state from amount account l.accounts p.1 k p.4, balance_of-credited (debited state from amount) to amount account size p.2 k)
 
 -- entries posted in turn
-pub length-posted_in_turn : (state : LedgerState) (entries : List Entry) → length (posted_in_turn state entries).balances ≡ length state.balances
-length-posted_in_turn state [] = refl
-length-posted_in_turn state (entry ∷ entries) = length-posted_in_turn (posted state entry) entries ∙ length-posted state entry
+pub length-posted_in_order : (state : LedgerState) (entries : List Entry) → length (posted_in_order state entries).balances ≡ length state.balances
+length-posted_in_order state [] = refl
+length-posted_in_order state (entry ∷ entries) = length-posted_in_order (posted state entry) entries ∙ length-posted state entry
 
-pub IsLedger-posted_in_turn : (state : LedgerState) (entries : List Entry) → IsLedger state → AreAccepted state entries → IsLedger (posted_in_turn state entries)
-IsLedger-posted_in_turn state [] l a = l
-IsLedger-posted_in_turn state (entry ∷ entries) l a = IsLedger-posted_in_turn (posted state entry) entries (IsLedger-posted state entry l a.0) a.1
+pub IsLedger-posted_in_order : (state : LedgerState) (entries : List Entry) → IsLedger state → AreAccepted state entries → IsLedger (posted_in_order state entries)
+IsLedger-posted_in_order state [] l a = l
+IsLedger-posted_in_order state (entry ∷ entries) l a = IsLedger-posted_in_order (posted state entry) entries (IsLedger-posted state entry l a.0) a.1
 
-pub posted_in_turn-append : (state : LedgerState) (first second : List Entry) → posted_in_turn state (first ++ second) ≡ posted_in_turn (posted_in_turn state first) second
-posted_in_turn-append state [] second = refl
-posted_in_turn-append state (entry ∷ first) second = posted_in_turn-append (posted state entry) first second
+pub posted_in_order-append : (state : LedgerState) (first second : List Entry) → posted_in_order state (first ++ second) ≡ posted_in_order (posted_in_order state first) second
+posted_in_order-append state [] second = refl
+posted_in_order-append state (entry ∷ first) second = posted_in_order-append (posted state entry) first second
 
-pub AreAccepted-append : (state : LedgerState) (first second : List Entry) → AreAccepted state first → AreAccepted (posted_in_turn state first) second → AreAccepted state (first ++ second)
+pub AreAccepted-append : (state : LedgerState) (first second : List Entry) → AreAccepted state first → AreAccepted (posted_in_order state first) second → AreAccepted state (first ++ second)
 AreAccepted-append state [] second a b = b
 AreAccepted-append state (entry ∷ first) second a b = (a.0, AreAccepted-append (posted state entry) first second a.1 b)
 
@@ -80,71 +80,71 @@ pub AreAccepted-front : (state : LedgerState) (first second : List Entry) → Ar
 AreAccepted-front state [] second a = tt
 AreAccepted-front state (entry ∷ first) second a = (a.0, AreAccepted-front (posted state entry) first second a.1)
 
-pub AreAccepted-back : (state : LedgerState) (first second : List Entry) → AreAccepted state (first ++ second) → AreAccepted (posted_in_turn state first) second
+pub AreAccepted-back : (state : LedgerState) (first second : List Entry) → AreAccepted state (first ++ second) → AreAccepted (posted_in_order state first) second
 AreAccepted-back state [] second a = a
 AreAccepted-back state (entry ∷ first) second a = AreAccepted-back (posted state entry) first second a.1
 
 -- for each account, what came in and what went out
-pub balance_of-posted_in_turn : (state : LedgerState) (entries : List Entry) (account : ℕ) → IsLedger state → AreAccepted state entries → IsAccount account → balance_of (posted_in_turn state entries) account + sum_by (out_of account) entries ≡ balance_of state account + sum_by (into account) entries
-balance_of-posted_in_turn state [] account l a k = refl
-balance_of-posted_in_turn state (entry ∷ entries) account l a k =
+pub balance_of-posted_in_order : (state : LedgerState) (entries : List Entry) (account : ℕ) → IsLedger state → AreAccepted state entries → IsAccount account → balance_of (posted_in_order state entries) account + sum_by (out_of account) entries ≡ balance_of state account + sum_by (into account) entries
+balance_of-posted_in_order state [] account l a k = refl
+balance_of-posted_in_order state (entry ∷ entries) account l a k =
     omega (
       arith,
       sum_by-cons (out_of account) entry entries,
       sum_by-cons (into account) entry entries,
       balance_of-posted state entry account l a.0 k,
-      balance_of-posted_in_turn (posted state entry) entries account (IsLedger-posted state entry l a.0) a.1 k,
+      balance_of-posted_in_order (posted state entry) entries account (IsLedger-posted state entry l a.0) a.1 k,
     )
 
 -- the ledger after batches is the state after their entries were posted one after another
-balances_agree : (state : LedgerState) (entries : List Entry) (k : ℕ) (d : ℕ) → IsLedger state → AreAccepted state entries → k < length (posted_in_turn state entries).balances → get_or (posted_in_turn state entries).balances k d ≡ get_or (map (balance_after state entries) (range_with_len 1 (length state.balances))) k d
+balances_agree : (state : LedgerState) (entries : List Entry) (k : ℕ) (d : ℕ) → IsLedger state → AreAccepted state entries → k < length (posted_in_order state entries).balances → get_or (posted_in_order state entries).balances k d ≡ get_or (map (balance_after state entries) (range_with_len 1 (length state.balances))) k d
 balances_agree state entries k d l a h =
-    let within : k < length state.balances = subst (λ (n : ℕ). k < n) (length-posted_in_turn state entries) h in
+    let within : k < length state.balances = subst (λ (n : ℕ). k < n) (length-posted_in_order state entries) h in
     let account : IsAccount (k + 1) = (omega arith, omega (arith, l.accounts)) in
     let place : k + 1 - 1 ≡ k = omega arith in
-    let sums = balance_of-posted_in_turn state entries (k + 1) l a account in
-    get_or_default (posted_in_turn state entries).balances k d 0 h
-    ∙ ap (λ (n : ℕ). get_or (posted_in_turn state entries).balances n 0) (sym place)
+    let sums = balance_of-posted_in_order state entries (k + 1) l a account in
+    get_or_default (posted_in_order state entries).balances k d 0 h
+    ∙ ap (λ (n : ℕ). get_or (posted_in_order state entries).balances n 0) (sym place)
     ∙ omega (arith, sums)
     ∙ sym (get_or-map-range_with_len (balance_after state entries) 1 (length state.balances) k (k + 1) d within (omega arith))
 
 record_of : (first second : LedgerState) → first.balances ≡ second.balances → first ≡ second
 record_of first second same = let make : List ℕ → LedgerState = λ balances. record { balances = balances } in ap make same
 
-pub posted_in_turn-is-ledger_after : (state : LedgerState) (batches : List (List Entry)) → IsLedger state → AreAccepted state (entries_of batches) → posted_in_turn state (entries_of batches) ≡ ledger_after state batches
+pub posted_in_order-is-ledger_after : (state : LedgerState) (batches : List (List Entry)) → IsLedger state → AreAccepted state (entries_of batches) → posted_in_order state (entries_of batches) ≡ ledger_after state batches
 unfolding ledger_after
-posted_in_turn-is-ledger_after state batches l a =
-    record_of (posted_in_turn state (entries_of batches)) _
+posted_in_order-is-ledger_after state batches l a =
+    record_of (posted_in_order state (entries_of batches)) _
     (same_lists _ _
-    (length-posted_in_turn state (entries_of batches) ∙ sym (length-map-range_with_len (balance_after state (entries_of batches)) 1 (length state.balances)))
+    (length-posted_in_order state (entries_of batches) ∙ sym (length-map-range_with_len (balance_after state (entries_of batches)) 1 (length state.balances)))
     (λ k d h. balances_agree state (entries_of batches) k d l a h))
 
 -- a ledger after batches is a ledger
 pub IsLedger-ledger_after : (state : LedgerState) (batches : List (List Entry)) → IsLedger state → AreAccepted state (entries_of batches) → IsLedger (ledger_after state batches)
-IsLedger-ledger_after state batches l a = subst IsLedger (posted_in_turn-is-ledger_after state batches l a) (IsLedger-posted_in_turn state (entries_of batches) l a)
+IsLedger-ledger_after state batches l a = subst IsLedger (posted_in_order-is-ledger_after state batches l a) (IsLedger-posted_in_order state (entries_of batches) l a)
 
 -- one batch
 pub entries_of-one : (batch : List Entry) → entries_of (batch ∷ []) ≡ batch
 entries_of-one batch = append-nil batch
 
-pub posted_in_turn-is-ledger_after_one : (state : LedgerState) (batch : List Entry) → IsLedger state → AreAccepted state batch → posted_in_turn state batch ≡ ledger_after state (batch ∷ [])
-posted_in_turn-is-ledger_after_one state batch l a =
-    ap (posted_in_turn state) (sym (entries_of-one batch))
-    ∙ posted_in_turn-is-ledger_after state (batch ∷ []) l (subst (AreAccepted state) (sym (entries_of-one batch)) a)
+pub posted_in_order-is-ledger_after_one : (state : LedgerState) (batch : List Entry) → IsLedger state → AreAccepted state batch → posted_in_order state batch ≡ ledger_after state (batch ∷ [])
+posted_in_order-is-ledger_after_one state batch l a =
+    ap (posted_in_order state) (sym (entries_of-one batch))
+    ∙ posted_in_order-is-ledger_after state (batch ∷ []) l (subst (AreAccepted state) (sym (entries_of-one batch)) a)
 
 -- no batch changes nothing
 pub ledger_after-none : (state : LedgerState) → IsLedger state → ledger_after state [] ≡ state
-ledger_after-none state l = sym (posted_in_turn-is-ledger_after state [] l tt)
+ledger_after-none state l = sym (posted_in_order-is-ledger_after state [] l tt)
 
 pub entries_of-append : (first second : List (List Entry)) → entries_of (first ++ second) ≡ entries_of first ++ entries_of second
 entries_of-append first second = flat_map-append (λ (batch : List Entry). batch) first second
 
--- batches after batches, each entry of which has a yes in its turn
+-- batches after batches, each entry of which has a yes in order
 pub AreAccepted-batches : (state : LedgerState) (first second : List (List Entry)) → IsLedger state → AreAccepted state (entries_of first) → AreAccepted (ledger_after state first) (entries_of second) → AreAccepted state (entries_of (first ++ second))
 AreAccepted-batches state first second l a b =
     subst (AreAccepted state) (sym (entries_of-append first second))
     (AreAccepted-append state (entries_of first) (entries_of second) a
-    (subst (λ (s : LedgerState). AreAccepted s (entries_of second)) (sym (posted_in_turn-is-ledger_after state first l a)) b))
+    (subst (λ (s : LedgerState). AreAccepted s (entries_of second)) (sym (posted_in_order-is-ledger_after state first l a)) b))
 
 pub AreAccepted-batches_front : (state : LedgerState) (first second : List (List Entry)) → AreAccepted state (entries_of (first ++ second)) → AreAccepted state (entries_of first)
 AreAccepted-batches_front state first second a =
@@ -153,7 +153,7 @@ AreAccepted-batches_front state first second a =
 pub AreAccepted-batches_back : (state : LedgerState) (first second : List (List Entry)) → IsLedger state → AreAccepted state (entries_of (first ++ second)) → AreAccepted (ledger_after state first) (entries_of second)
 AreAccepted-batches_back state first second l a =
     subst (λ (s : LedgerState). AreAccepted s (entries_of second))
-    (posted_in_turn-is-ledger_after state first l (AreAccepted-batches_front state first second a))
+    (posted_in_order-is-ledger_after state first l (AreAccepted-batches_front state first second a))
     (AreAccepted-back state (entries_of first) (entries_of second) (subst (AreAccepted state) (entries_of-append first second) a))
 
 -- the ledger after more batches is that after the later ones, from that after the earlier ones
@@ -161,18 +161,18 @@ pub ledger_after-append : (state : LedgerState) (first second : List (List Entry
 ledger_after-append state first second l a =
     let front = AreAccepted-batches_front state first second a in
     let back = AreAccepted-batches_back state first second l a in
-    sym (posted_in_turn-is-ledger_after state (first ++ second) l a)
-    ∙ ap (posted_in_turn state) (entries_of-append first second)
-    ∙ posted_in_turn-append state (entries_of first) (entries_of second)
-    ∙ ap (λ (s : LedgerState). posted_in_turn s (entries_of second)) (posted_in_turn-is-ledger_after state first l front)
-    ∙ posted_in_turn-is-ledger_after (ledger_after state first) second (IsLedger-ledger_after state first l front) back
+    sym (posted_in_order-is-ledger_after state (first ++ second) l a)
+    ∙ ap (posted_in_order state) (entries_of-append first second)
+    ∙ posted_in_order-append state (entries_of first) (entries_of second)
+    ∙ ap (λ (s : LedgerState). posted_in_order s (entries_of second)) (posted_in_order-is-ledger_after state first l front)
+    ∙ posted_in_order-is-ledger_after (ledger_after state first) second (IsLedger-ledger_after state first l front) back
 
 -- one more batch is posted entry after entry
-pub ledger_after-push : (state : LedgerState) (batches : List (List Entry)) (batch : List Entry) → IsLedger state → AreAccepted state (entries_of batches) → AreAccepted (ledger_after state batches) batch → ledger_after state (batches ++ batch ∷ []) ≡ posted_in_turn (ledger_after state batches) batch
+pub ledger_after-push : (state : LedgerState) (batches : List (List Entry)) (batch : List Entry) → IsLedger state → AreAccepted state (entries_of batches) → AreAccepted (ledger_after state batches) batch → ledger_after state (batches ++ batch ∷ []) ≡ posted_in_order (ledger_after state batches) batch
 ledger_after-push state batches batch l a b =
     let one : AreAccepted (ledger_after state batches) (entries_of (batch ∷ [])) = subst (AreAccepted (ledger_after state batches)) (sym (entries_of-one batch)) b in
     ledger_after-append state batches (batch ∷ []) l (AreAccepted-batches state batches (batch ∷ []) l a one)
-    ∙ sym (posted_in_turn-is-ledger_after_one (ledger_after state batches) batch (IsLedger-ledger_after state batches l a) b)
+    ∙ sym (posted_in_order-is-ledger_after_one (ledger_after state batches) batch (IsLedger-ledger_after state batches l a) b)
 
 pub AreAccepted-push : (state : LedgerState) (batches : List (List Entry)) (batch : List Entry) → IsLedger state → AreAccepted state (entries_of batches) → AreAccepted (ledger_after state batches) batch → AreAccepted state (entries_of (batches ++ batch ∷ []))
 AreAccepted-push state batches batch l a b =

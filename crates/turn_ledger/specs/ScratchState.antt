@@ -7,8 +7,8 @@ use Rattle.turn_ledger.specs.State.{LedgerState}
 use Rattle.turn_ledger.specs.Scratch.{changed}
 
 -- the balances with the changes written over them
-abbrev pub state_of : Scratch → LedgerState
-state_of scratch = record { balances = changed scratch.balances.now scratch.changes.items }
+abbrev pub scratch_state : Scratch → LedgerState
+scratch_state scratch = record { balances = changed scratch.balances.now scratch.changes.items }
 
 -- how many changes it has room for
 abbrev pub room_of : Scratch → ℕ

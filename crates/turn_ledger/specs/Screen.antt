@@ -23,12 +23,12 @@ with_yes (entry ∷ entries) (answer ∷ verdicts) = if is_ok answer then entry 
 abbrev pub accepted : LedgerState → List Entry → List Entry
 accepted state entries = with_yes entries (screened state entries)
 
--- each entry of the list has a yes in its turn, judged after those before it
+-- each entry of the list has a yes, judged in order after those before it
 abbrev pub AreAccepted : LedgerState → List Entry → Type 0
 AreAccepted state [] = Unit {0}
 AreAccepted state (entry ∷ entries) = (verdict state entry ≡ Ok tt) × AreAccepted (posted state entry) entries
 
 -- the state after the entries were posted one after another
-abbrev pub posted_in_turn : LedgerState → List Entry → LedgerState
-posted_in_turn state [] = state
-posted_in_turn state (entry ∷ entries) = posted_in_turn (posted state entry) entries
+abbrev pub posted_in_order : LedgerState → List Entry → LedgerState
+posted_in_order state [] = state
+posted_in_order state (entry ∷ entries) = posted_in_order (posted state entry) entries

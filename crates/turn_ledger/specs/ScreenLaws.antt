@@ -1,4 +1,4 @@
--- The accepted entries of a list have a yes each in their turn.
+-- The accepted entries of a list have a yes each, in order.
 use Rattle.std.specs.Prelude.{◌≡◌, ℕ, zero, suc, ◌+◌, ◌≤◌, ◌<◌, true, false, if◌then◌else◌, List, [], ◌∷◌, ◌++◌, map, length, count_by, Some, Ok, Err, is_ok, slice_get, refl}
 use Rattle.std.proofs.Common.{◌∙◌, ap, sym, arith, cond, drop, get_or, add-one, append_assoc}
 use Rattle.std.proofs.lemmas.List.Sums.{sum_by-cons}
@@ -6,9 +6,9 @@ use Rattle.turn_ledger.specs.declared.entry.Entry.{Entry}
 use Rattle.turn_ledger.specs.declared.refusal.EntryRefusal.{EntryRefusal}
 use Rattle.turn_ledger.specs.State.{LedgerState, IsLedger}
 use Rattle.turn_ledger.specs.Entry.{Verdict, verdict, posted}
-use Rattle.turn_ledger.specs.Screen.{after_entry, screened, with_yes, accepted, AreAccepted, posted_in_turn}
+use Rattle.turn_ledger.specs.Screen.{after_entry, screened, with_yes, accepted, AreAccepted, posted_in_order}
 use Rattle.turn_ledger.specs.Ledger.{ledger_after}
-use Rattle.turn_ledger.specs.LedgerLaws.{posted_in_turn-is-ledger_after_one}
+use Rattle.turn_ledger.specs.LedgerLaws.{posted_in_order-is-ledger_after_one}
 
 pub length-screened : (state : LedgerState) (entries : List Entry) → length (screened state entries) ≡ length entries
 length-screened state [] = refl
@@ -18,7 +18,7 @@ length-screened state (entry ∷ entries) = ap (λ (n : ℕ). suc n) (length-scr
 accepted_given : LedgerState → Entry → List Entry → Verdict → List Entry
 accepted_given state entry entries answer = with_yes (entry ∷ entries) (answer ∷ screened (if is_ok answer then posted state entry else state) entries)
 
--- the accepted entries have a yes each in their turn
+-- the accepted entries have a yes each, in order
 accepted_step : (state : LedgerState) (entry : Entry) (entries : List Entry) (answer : Verdict) → verdict state entry ≡ answer → AreAccepted (posted state entry) (accepted (posted state entry) entries) → AreAccepted state (accepted state entries) → AreAccepted state (accepted_given state entry entries answer)
 unfolding accepted_given
 accepted_step state entry entries (Ok x) e after same = (e, after)
@@ -52,7 +52,7 @@ length-with_yes-le (entry ∷ entries) ((Err refusal) ∷ verdicts) = omega (ari
 pub length-accepted-le : (state : LedgerState) (entries : List Entry) → length (accepted state entries) ≤ length entries
 length-accepted-le state entries = length-with_yes-le entries (screened state entries)
 
--- entries with a yes each in their turn are all accepted, with these verdicts
+-- entries with a yes each, in order are all accepted, with these verdicts
 screened_given : (state : LedgerState) (entry : Entry) (entries : List Entry) → verdict state entry ≡ Ok tt → screened state (entry ∷ entries) ≡ Ok tt ∷ screened (posted state entry) entries
 screened_given state entry entries ok =
     ap (λ (answer : Verdict). answer ∷ screened (if is_ok answer then posted state entry else state) entries) ok
@@ -70,19 +70,19 @@ accepted-AreAccepted state (entry ∷ entries) a =
     ∙ ap (λ (rest : List Entry). entry ∷ rest) (accepted-AreAccepted (posted state entry) entries a.1)
 
 -- posting the accepted entries one after another gives the ledger after them as one batch
-pub posted_in_turn-accepted : (state : LedgerState) (entries : List Entry) → IsLedger state → posted_in_turn state (accepted state entries) ≡ ledger_after state (accepted state entries ∷ [])
-posted_in_turn-accepted state entries l = posted_in_turn-is-ledger_after_one state (accepted state entries) l (AreAccepted-accepted state entries)
+pub posted_in_order-accepted : (state : LedgerState) (entries : List Entry) → IsLedger state → posted_in_order state (accepted state entries) ≡ ledger_after state (accepted state entries ∷ [])
+posted_in_order-accepted state entries l = posted_in_order-is-ledger_after_one state (accepted state entries) l (AreAccepted-accepted state entries)
 
 -- later entries are judged after the accepted ones of the earlier
 screened_step : (state : LedgerState) (entry : Entry) (first second : List Entry) (answer : Verdict)
-    → screened (posted state entry) (first ++ second) ≡ screened (posted state entry) first ++ screened (posted_in_turn (posted state entry) (accepted (posted state entry) first)) second
-    → screened state (first ++ second) ≡ screened state first ++ screened (posted_in_turn state (accepted state first)) second
-    → screened (if is_ok answer then posted state entry else state) (first ++ second) ≡ screened (if is_ok answer then posted state entry else state) first ++ screened (posted_in_turn state (accepted_given state entry first answer)) second
+    → screened (posted state entry) (first ++ second) ≡ screened (posted state entry) first ++ screened (posted_in_order (posted state entry) (accepted (posted state entry) first)) second
+    → screened state (first ++ second) ≡ screened state first ++ screened (posted_in_order state (accepted state first)) second
+    → screened (if is_ok answer then posted state entry else state) (first ++ second) ≡ screened (if is_ok answer then posted state entry else state) first ++ screened (posted_in_order state (accepted_given state entry first answer)) second
 unfolding accepted_given
 screened_step state entry first second (Ok x) after same = after
 screened_step state entry first second (Err refusal) after same = same
 
-pub screened-append : (state : LedgerState) (first second : List Entry) → screened state (first ++ second) ≡ screened state first ++ screened (posted_in_turn state (accepted state first)) second
+pub screened-append : (state : LedgerState) (first second : List Entry) → screened state (first ++ second) ≡ screened state first ++ screened (posted_in_order state (accepted state first)) second
 unfolding accepted_given
 screened-append state [] second = refl
 screened-append state (entry ∷ first) second =
@@ -90,14 +90,14 @@ screened-append state (entry ∷ first) second =
     (screened_step state entry first second (verdict state entry) (screened-append (posted state entry) first second) (screened-append state first second))
 
 accepted_append_step : (state : LedgerState) (entry : Entry) (first second : List Entry) (answer : Verdict)
-    → accepted (posted state entry) (first ++ second) ≡ accepted (posted state entry) first ++ accepted (posted_in_turn (posted state entry) (accepted (posted state entry) first)) second
-    → accepted state (first ++ second) ≡ accepted state first ++ accepted (posted_in_turn state (accepted state first)) second
-    → accepted_given state entry (first ++ second) answer ≡ accepted_given state entry first answer ++ accepted (posted_in_turn state (accepted_given state entry first answer)) second
+    → accepted (posted state entry) (first ++ second) ≡ accepted (posted state entry) first ++ accepted (posted_in_order (posted state entry) (accepted (posted state entry) first)) second
+    → accepted state (first ++ second) ≡ accepted state first ++ accepted (posted_in_order state (accepted state first)) second
+    → accepted_given state entry (first ++ second) answer ≡ accepted_given state entry first answer ++ accepted (posted_in_order state (accepted_given state entry first answer)) second
 unfolding accepted_given
 accepted_append_step state entry first second (Ok x) after same = ap (λ (rest : List Entry). entry ∷ rest) after
 accepted_append_step state entry first second (Err refusal) after same = same
 
-pub accepted-append : (state : LedgerState) (first second : List Entry) → accepted state (first ++ second) ≡ accepted state first ++ accepted (posted_in_turn state (accepted state first)) second
+pub accepted-append : (state : LedgerState) (first second : List Entry) → accepted state (first ++ second) ≡ accepted state first ++ accepted (posted_in_order state (accepted state first)) second
 unfolding accepted_given
 accepted-append state [] second = refl
 accepted-append state (entry ∷ first) second =

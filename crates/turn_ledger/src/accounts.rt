@@ -124,7 +124,7 @@ fn check_on<A: Accounts>(accounts: &A, entry: &Entry) -> Result<(), EntryRefusal
 
 /// Posts an entry that has a yes.
 #[inline]
-fn settle<A: Accounts>(accounts: &mut A, entry: &Entry)
+fn change_balances<A: Accounts>(accounts: &mut A, entry: &Entry)
     requires ledger { IsLedger (A.state accounts.old) }
     requires accepted { verdict (A.state accounts.old) entry.now ≡ Ok tt }
     requires room { 2 ≤ A.room accounts.old }
@@ -157,6 +157,6 @@ pub(crate) fn post<A: Accounts>(accounts: &mut A, entry: &Entry) -> Result<(), E
 {
     check_alone(entry)?;
     check_on(accounts, entry)?;
-    settle(accounts, entry);
+    change_balances(accounts, entry);
     Ok(())
 }

@@ -24,7 +24,7 @@ pub fn a_yes_means_all_rules()
     ensures { AYesMeansAllRules }
 {}
 
-/// Entries that have a yes each in their turn, posted one after another, leave the ledger after their
+/// Entries that have a yes each, in order, posted one after another, leave the ledger after their
 /// batches: each account has what it held and what came in, less what went out.
 pub fn posting_gives_the_sums()
     ensures { PostingGivesTheSums }
@@ -41,7 +41,7 @@ pub fn batches_compose()
     ensures { BatchesCompose }
 {}
 
-/// The accepted entries of a list have a yes each in their turn, and posting them one after another
+/// The accepted entries of a list have a yes each, in order, and posting them one after another
 /// leaves the ledger after them as one batch.
 pub fn accepted_entries_are_posted()
     ensures { AcceptedEntriesArePosted }

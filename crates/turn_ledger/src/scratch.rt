@@ -57,9 +57,9 @@ fn latest(balances: &[u64], changes: &[Change], place: usize) -> u64
 }
 
 impl Accounts for Scratch<'_> {
-    ghost use Rattle.turn_ledger.specs.ScratchState.{state_of, room_of};
+    ghost use Rattle.turn_ledger.specs.ScratchState.{scratch_state, room_of};
 
-    ghost state = { state_of };
+    ghost state = { scratch_state };
 
     ghost room = { room_of };
 

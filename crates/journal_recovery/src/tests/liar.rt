@@ -1,6 +1,6 @@
 ghost use Rattle.std.specs.Prelude.{ℕ, List};
 ghost use Rattle.sector_device.specs.Device.{DeviceState};
-ghost use Rattle.sector_device.specs.MemoryDevice.{state_of};
+ghost use Rattle.sector_device.specs.MemoryDevice.{memory_device_state};
 
 use sector_device::{Device, DeviceFault, MemoryDevice, SECTOR, Sector};
 
@@ -23,7 +23,7 @@ impl Liar {
 }
 
 impl Device for Liar {
-    ghost state = { λ liar. record (state_of liar.inner) { honest = ⊥ } };
+    ghost state = { λ liar. record (memory_device_state liar.inner) { honest = ⊥ } };
 
     fn sectors(&self) -> u64 {
         self.inner.sectors()

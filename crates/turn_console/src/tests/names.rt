@@ -1,5 +1,6 @@
 //! What refusals are printed as, and their texts.
-use crate::names::{Refusal, name_of_entry, name_of_rule};
+use crate::names::{name_of_entry, name_of_rule};
+use crate::refusals::Refusal;
 use file_device::FileRefusal;
 use four_state::{LineRefusal, Rule};
 use gate_journal::FormatRefusal;

@@ -1,10 +1,10 @@
 use Rattle.std.proofs.Common.{◌≡◌, ◌∙◌, ℕ, List, [], ◌∷◌, ap, arith, codes, refl, rules}
-use Rattle.script_grammar.specs.Grammar.{IsRead, Place, Spells, line_fault, told_of_one}
+use Rattle.script_grammar.specs.Grammar.{IsRead, Field, Spells, line_fault, told_of_one}
 use Rattle.script_grammar.specs.Grammar.{Account, Name, Number}
 use Rattle.script_grammar.proofs.GrammarLemmas.{as_long, behind_kind, behind_name, fills, fills_kind, fills_named, none_wrong, not_as_long, taken, told, wrong}
 use Rattle.script_grammar.proofs.commands.read_transfer.Goals as goal
 
-abbrev places : List Place
+abbrev places : List Field
 places = Number ∷ Account ∷ Account ∷ Number ∷ []
 
 told_as_places : (station : List ℕ) (words : List (List ℕ))

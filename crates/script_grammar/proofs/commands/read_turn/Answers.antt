@@ -1,10 +1,10 @@
 use Rattle.std.proofs.Common.{◌≡◌, ◌∙◌, ℕ, List, [], ◌∷◌, codes, refl, rules}
-use Rattle.script_grammar.specs.Grammar.{IsRead, Place, Spells, line_fault, told_of_one}
+use Rattle.script_grammar.specs.Grammar.{IsRead, Field, Spells, line_fault, told_of_one}
 use Rattle.script_grammar.specs.Grammar.{Number}
 use Rattle.script_grammar.proofs.GrammarLemmas.{as_long, behind_name, fills, fills_named, none_wrong, not_as_long, taken, told, wrong}
 use Rattle.script_grammar.proofs.commands.read_turn.Goals as goal
 
-abbrev places : List Place
+abbrev places : List Field
 places = Number ∷ []
 
 told_as_places : (words : List (List ℕ)) → line_fault (codes "turn" ∷ words) ≡ told_of_one places words

@@ -1,10 +1,10 @@
 use Rattle.std.proofs.Common.{◌∙◌, List, [], ◌∷◌, ℕ, ap, refl, rules}
-use Rattle.script_grammar.specs.Grammar.{Place}
+use Rattle.script_grammar.specs.Grammar.{Field}
 use Rattle.script_grammar.specs.Grammar.{Account, Number}
 use Rattle.script_grammar.proofs.GrammarLemmas.{as_long, fills, none_wrong, taken, told, wrong}
 use Rattle.script_grammar.proofs.commands.with_one_account.Goals as goal
 
-abbrev places : List Place
+abbrev places : List Field
 places = Number ∷ Account ∷ Number ∷ []
 
 pub returns-in_err-number-clause-fault : goal.returns-in_err-number-clause-fault

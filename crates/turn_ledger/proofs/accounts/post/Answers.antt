@@ -14,8 +14,8 @@ returns-in_err-check_on-clause-answer g c =
     let p = err_from_is_err_and c.from_residual-in_err-check_on.result c.from_residual-in_err-check_on.ensures.1 in
     rw (p.1, p.2) (c.in_err-check_on.ensures.answer ∙ sym (verdict-own_ok _ _ (sym c.in_ok-check_alone.ensures)))
 
-pub settle-requires-clause-accepted : goal.settle-requires-clause-accepted
-settle-requires-clause-accepted g c = verdict-own_ok _ _ (sym c.in_ok-check_alone.ensures) ∙ sym c.in_ok-check_on.ensures.answer
+pub change_balances-requires-clause-accepted : goal.change_balances-requires-clause-accepted
+change_balances-requires-clause-accepted g c = verdict-own_ok _ _ (sym c.in_ok-check_alone.ensures) ∙ sym c.in_ok-check_on.ensures.answer
 
 pub returns-clause-answer : goal.returns-clause-answer
 returns-clause-answer g c = c.in_ok-check_on.ensures.answer ∙ sym (verdict-own_ok _ _ (sym c.in_ok-check_alone.ensures))

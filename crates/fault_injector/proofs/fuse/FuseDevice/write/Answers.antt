@@ -1,5 +1,5 @@
 use Rattle.std.proofs.Common.{rules}
-use Rattle.sector_device.specs.Crash.{IsSame, torn_nothing}
+use Rattle.sector_device.specs.Crash.{IsLook, torn_nothing}
 use Rattle.fault_injector.specs.Fuse.{with_failures, sound_with_failures}
 use Rattle.fault_injector.proofs.fuse.FuseDevice.write.Goals as goal
 
@@ -7,5 +7,5 @@ pub returns-then-fails-clause-torn : goal.returns-then-fails-clause-torn
 returns-then-fails-clause-torn g c honest =
     let old = with_failures (g.D.Device.state c.args.self.now.inner) c.args.self.now.failures in
     let new = with_failures (g.D.Device.state c.fails.new.self.inner) c.fails.new.self.failures in
-    let same : IsSame old new = search rules in
+    let same : IsLook old new = search rules in
     torn_nothing c.args.at old new (sound_with_failures (g.D.Device.state c.args.self.now.inner) c.args.self.now.failures (g.met.D.Device.sound c.args.self.now.inner honest)) c.requires same

@@ -1,5 +1,5 @@
 use Rattle.std.proofs.Common.{rules}
-use Rattle.sector_device.specs.Crash.{IsSame, torn_nothing}
+use Rattle.sector_device.specs.Crash.{IsLook, torn_nothing}
 use Rattle.file_device.specs.FailStop.{with_refused, sound_with_refused}
 use Rattle.file_device.proofs.fail_stop.FailStopDevice.write.Goals as goal
 
@@ -9,5 +9,5 @@ returns-in_err-ready-clause-torn g c honest =
     let inner = g.D.Device.state c.args.self.now.inner in
     let old = with_refused inner c.args.self.now.refused in
     let new = with_refused (g.D.Device.state c.ready.new.self.inner) c.ready.new.self.refused in
-    let same : IsSame old new = search rules in
+    let same : IsLook old new = search rules in
     torn_nothing c.args.at old new (sound_with_refused inner c.args.self.now.refused (g.met.D.Device.sound c.args.self.now.inner honest)) c.requires same

@@ -1,15 +1,15 @@
 use Rattle.std.proofs.Common.{◌≡◌, length}
-use Rattle.sector_device.specs.Device.{IsCall}
-use Rattle.sector_device.specs.Crash.{IsSame}
-use Rattle.sector_device.specs.MemoryDevice.{state_of}
+use Rattle.sector_device.specs.Device.{AreCalls}
+use Rattle.sector_device.specs.Crash.{IsLook}
+use Rattle.sector_device.specs.MemoryDevice.{memory_device_state}
 use Rattle.file_device.specs.Run.{Shows}
 use Rattle.file_device.proofs.read_run.MemoryDeviceReadRun.read_run.Given as goal
 
 -- the device has been read alone, and the sectors so far show what stands there
 abbrev pub invariant-loop-index : goal.invariant-loop-index
 invariant-loop-index l = record {
-  call : IsCall (state_of l.initial.self) (state_of l.self) ⊥;
-  same : (state_of l.initial.self).honest → IsSame (state_of l.initial.self) (state_of l.self);
-  bytes : (state_of l.initial.self).honest → Shows l.into l.index (state_of l.initial.self).reads l.at;
-  fits : l._sectors ≡ length (state_of l.initial.self).reads;
+  call : AreCalls (memory_device_state l.initial.self) (memory_device_state l.self) ⊥;
+  same : (memory_device_state l.initial.self).honest → IsLook (memory_device_state l.initial.self) (memory_device_state l.self);
+  bytes : (memory_device_state l.initial.self).honest → Shows l.into l.index (memory_device_state l.initial.self).reads l.at;
+  fits : l._sectors ≡ length (memory_device_state l.initial.self).reads;
 }

@@ -3,7 +3,7 @@ use Rattle.std.proofs.Common.{◌∙◌, ap, sym, arith}
 use Rattle.turn_ledger.specs.State.{LedgerState, total_of, credited}
 use Rattle.turn_ledger.specs.StateLaws.{total_of-debited}
 use Rattle.turn_ledger.specs.EntryLaws.{passes_as, posted-deposit, posted-withdraw, posted-transfer}
-use Rattle.turn_ledger.proofs.accounts.settle.Goals as goal
+use Rattle.turn_ledger.proofs.accounts.change_balances.Goals as goal
 
 pub credit-requires-clause-account : goal.credit-requires-clause-account
 credit-requires-clause-account g c = (passes_as _ _ _ c.in-Deposit.is c.requires.accepted).1
