@@ -1,6 +1,7 @@
 -- A device that fails from one call on.
 use Rattle.std.specs.Prelude.{◌≡◌, ◌⊎◌, ◌↔◌, ◌+◌, ◌-◌, ◌^◌, ℕ, Bool, true, min}
-use Rattle.sector_device.specs.Device.{DeviceState, IsSound}
+use Rattle.sector_device.specs.Device.{DeviceState}
+use Rattle.sector_device.specs.Wrapped.{one_more, with_failures}
 use Rattle.fault_injector.specs.declared.op.Op.{Op}
 use Rattle.fault_injector.specs.declared.op.Op.TheVariants.{Any, Read, Write, Sync}
 
@@ -37,10 +38,6 @@ Counts Sync Write = ⊥
 abbrev pub Fails : {D : Type 0} → FuseState D → Op → Type 0
 Fails fuse call = (fuse.blown ≡ true) ⊎ (Counts fuse.op call × (fuse.calls ≡ fuse.at))
 
--- a count of 64 bits that goes up by one, and stands at its greatest value
-abbrev pub one_more : ℕ → ℕ
-one_more count = min (count + 1) (2 ^ 64 - 1)
-
 -- What a call of this kind makes of the fuse itself, whatever the inner device answers.
 pub record HasCounted {D : Type 0} (old new : FuseState D) (call : Op) : Type 0 where
   -- it waits for the same call
@@ -55,26 +52,6 @@ pub record HasCounted {D : Type 0} (old new : FuseState D) (call : Op) : Type 0 
   pub failed : Fails old call → new.failures ≡ one_more old.failures
   pub not_failed : (Fails old call → ⊥) → new.failures ≡ old.failures
 
--- the inner device's state, with the fuse's own failures among the failures
-abbrev pub with_failures : DeviceState → ℕ → DeviceState
-with_failures state failures = record {
-  reads = state.reads;
-  may_leave = state.may_leave;
-  moment = state.moment;
-  left_since = state.left_since;
-  honest = state.honest;
-  faults = state.faults + failures;
-}
-
 -- what is to be known of a fuse as a device
 abbrev pub fuse_state : {D : Type 0} → (D → DeviceState) → FuseState D → DeviceState
 fuse_state state fuse = with_failures (state fuse.inner) fuse.failures
-
--- failures are nothing that a crash depends on
-pub sound_with_failures : (state : DeviceState) (failures : ℕ) → IsSound state → IsSound (with_failures state failures)
-sound_with_failures state failures sound = record {
-  nothing_lost = sound.nothing_lost;
-  images = sound.images;
-  counts_now = sound.counts_now;
-  only_now = sound.only_now;
-}

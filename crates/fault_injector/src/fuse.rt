@@ -2,7 +2,8 @@ ghost use Rattle.std.specs.Prelude.{◌≡◌, ◌⊎◌, ◌+◌, ◌<◌, ◌�
 ghost use Rattle.sector_device.specs.Image.{sector_at, with_sector};
 ghost use Rattle.sector_device.specs.Device.{AreCalls, HasCause};
 ghost use Rattle.sector_device.specs.Crash.{IsLook, IsWrite, IsDurable};
-ghost use Rattle.fault_injector.specs.Fuse.{FuseState, Counts, Fails, HasCounted, fuse_state, sound_with_failures};
+ghost use Rattle.sector_device.specs.Wrapped.{sound_with_failures};
+ghost use Rattle.fault_injector.specs.Fuse.{FuseState, Counts, Fails, HasCounted, fuse_state};
 
 use crate::op::Op;
 use sector_device::{Device, DeviceFault, Sector};

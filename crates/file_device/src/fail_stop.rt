@@ -2,7 +2,8 @@ ghost use Rattle.std.specs.Prelude.{◌≡◌, ◌+◌, ◌<◌, ◌≤◌, ◌�
 ghost use Rattle.sector_device.specs.Image.{sector_at, with_sector};
 ghost use Rattle.sector_device.specs.Device.{AreCalls, HasCause};
 ghost use Rattle.sector_device.specs.Crash.{IsLook, IsWrite, IsDurable};
-ghost use Rattle.file_device.specs.FailStop.{FailStopState, CountsRefused, with_refused, sound_with_refused};
+ghost use Rattle.sector_device.specs.Wrapped.{sound_with_failures};
+ghost use Rattle.file_device.specs.FailStop.{FailStopState, CountsRefused, fail_stop_state};
 
 use sector_device::{Device, DeviceFault, Sector};
 use std::marker::Model;
@@ -54,7 +55,7 @@ impl<D: Device> FailStop<D> {
 }
 
 impl<D: Device> Device for FailStop<D> {
-    ghost state = { λ f. with_refused (D.state f.inner) f.refused };
+    ghost state = { fail_stop_state D.state };
 
     fn sectors(&self) -> u64 {
         self.inner.sectors()
@@ -62,8 +63,8 @@ impl<D: Device> Device for FailStop<D> {
 
     fn read(&mut self, at: u64, into: &mut Sector) -> Result<(), DeviceFault>
         requires { at < length (D.state self.old.inner).reads }
-        ensures call { AreCalls (with_refused (D.state self.old.inner) self.old.refused) (with_refused (D.state self.new.inner) self.new.refused) (IsErr result) }
-        ensures same { (D.state self.old.inner).honest → IsLook (with_refused (D.state self.old.inner) self.old.refused) (with_refused (D.state self.new.inner) self.new.refused) }
+        ensures call { AreCalls (fail_stop_state D.state self.old) (fail_stop_state D.state self.new) (IsErr result) }
+        ensures same { (D.state self.old.inner).honest → IsLook (fail_stop_state D.state self.old) (fail_stop_state D.state self.new) }
         ensures bytes { (D.state self.old.inner).honest → OnOk result (into.new ≡ sector_at (D.state self.old.inner).reads at) }
         ensures fails { IsTrue self.old.stopped → IsErr result }
         ensures unreached { IsTrue self.old.stopped → self.new.inner ≡ self.old.inner }
@@ -77,8 +78,8 @@ impl<D: Device> Device for FailStop<D> {
 
     fn write(&mut self, at: u64, from: &Sector) -> Result<(), DeviceFault>
         requires { at < length (D.state self.old.inner).reads }
-        ensures call { AreCalls (with_refused (D.state self.old.inner) self.old.refused) (with_refused (D.state self.new.inner) self.new.refused) (IsErr result) }
-        ensures torn { (D.state self.old.inner).honest → IsWrite at (with_refused (D.state self.old.inner) self.old.refused) (with_refused (D.state self.new.inner) self.new.refused) }
+        ensures call { AreCalls (fail_stop_state D.state self.old) (fail_stop_state D.state self.new) (IsErr result) }
+        ensures torn { (D.state self.old.inner).honest → IsWrite at (fail_stop_state D.state self.old) (fail_stop_state D.state self.new) }
         ensures written { (D.state self.old.inner).honest → OnOk result ((D.state self.new.inner).reads ≡ with_sector (D.state self.old.inner).reads at from.now) }
         ensures fails { IsTrue self.old.stopped → IsErr result }
         ensures unreached { IsTrue self.old.stopped → self.new.inner ≡ self.old.inner }
@@ -91,9 +92,9 @@ impl<D: Device> Device for FailStop<D> {
     }
 
     fn sync(&mut self) -> Result<(), DeviceFault>
-        ensures call { AreCalls (with_refused (D.state self.old.inner) self.old.refused) (with_refused (D.state self.new.inner) self.new.refused) (IsErr result) }
-        ensures same { (D.state self.old.inner).honest → IsLook (with_refused (D.state self.old.inner) self.old.refused) (with_refused (D.state self.new.inner) self.new.refused) }
-        ensures durable { (D.state self.old.inner).honest → OnOk result (IsDurable (with_refused (D.state self.new.inner) self.new.refused)) }
+        ensures call { AreCalls (fail_stop_state D.state self.old) (fail_stop_state D.state self.new) (IsErr result) }
+        ensures same { (D.state self.old.inner).honest → IsLook (fail_stop_state D.state self.old) (fail_stop_state D.state self.new) }
+        ensures durable { (D.state self.old.inner).honest → OnOk result (IsDurable (fail_stop_state D.state self.new)) }
         ensures fails { IsTrue self.old.stopped → IsErr result }
         ensures unreached { IsTrue self.old.stopped → self.new.inner ≡ self.old.inner }
         ensures passed_on { (IsTrue self.old.stopped → ⊥) → AreCalls (D.state self.old.inner) (D.state self.new.inner) (IsErr result) }
@@ -106,5 +107,5 @@ impl<D: Device> Device for FailStop<D> {
         outcome
     }
 
-    ghost sound = { λ f honest. sound_with_refused (D.state f.inner) f.refused (D.sound f.inner honest) };
+    ghost sound = { λ f honest. sound_with_failures (D.state f.inner) f.refused (D.sound f.inner honest) };
 }

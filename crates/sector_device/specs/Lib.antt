@@ -5,3 +5,4 @@ pub mod Memory
 pub mod MemoryDevice
 pub mod MemoryLaws
 pub mod Picks
+pub mod Wrapped

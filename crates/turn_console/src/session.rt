@@ -1,7 +1,7 @@
 //! Runs the commands of a script, one after another.
-use crate::refusals::Refusal;
 use crate::power::PowerLoss;
 use crate::printing::{print_balances, print_line, print_refusal, print_turn};
+use crate::refusals::Refusal;
 use crate::scripted_clerk::ScriptedClerk;
 use gate_journal::format;
 use script_grammar::{Bits, Command};

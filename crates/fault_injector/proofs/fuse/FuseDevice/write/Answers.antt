@@ -1,6 +1,6 @@
 use Rattle.std.proofs.Common.{rules}
 use Rattle.sector_device.specs.Crash.{IsLook, torn_nothing}
-use Rattle.fault_injector.specs.Fuse.{with_failures, sound_with_failures}
+use Rattle.sector_device.specs.Wrapped.{with_failures, sound_with_failures}
 use Rattle.fault_injector.proofs.fuse.FuseDevice.write.Goals as goal
 
 pub returns-then-fails-clause-torn : goal.returns-then-fails-clause-torn
