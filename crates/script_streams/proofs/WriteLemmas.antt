@@ -1,7 +1,8 @@
 -- What a writer holds after several calls.
 use Rattle.std.proofs.Common.{◌≡◌, ◌∙◌, ℕ, ◌+◌, ◌<◌, List, [], ◌++◌, length, take, drop, Option, Some, None, append_assoc, append-nil, length-append, arith, sym, subst, ap}
-use Rattle.std.specs.Io.KnownBytes.{Appends, Keeps}
-use Rattle.std.proofs.Math.Seq.{take-append_seam}
+use Rattle.std.specs.Prelude.{IfSome}
+use Rattle.std.specs.Io.KnownBytes.{Appends, Keeps, append_known}
+use Rattle.std.proofs.Math.Seq.{take-append_seam, take-append-add}
 use Rattle.std.proofs.lemmas.List.{take-append-drop}
 
 both : (a b c : Option (List ℕ)) (xs ys : List ℕ) → Appends a b xs → Appends b c ys → Appends a c (xs ++ ys)
@@ -44,3 +45,12 @@ part_written a b c bytes rest h more kept =
     let size : length bytes ≡ length h.0 + length rest = ap length h.2 ∙ length-append h.0 rest in
     let first : take (length h.0) bytes ≡ h.0 = ap (λ (l : List ℕ). take (length h.0) l) h.2 ∙ take-append_seam h.0 rest in
     (length h.0, omega arith, subst (λ (l : List ℕ). Appends a c l) (sym first) (still_written a b c h.0 h.1 kept))
+
+-- what a writer has that was handed a first part of what was gathered
+pub first_part : (a b : Option (List ℕ)) (text bytes : List ℕ) → bytes ≡ text → ((n : ℕ) × (n < length bytes) × Appends a b (take n bytes))
+    → IfSome (append_known a text) (λ all. (n : ℕ) × (n < length all) × (b ≡ Some (take n all)))
+first_part None b text bytes same h = tt
+first_part (Some a) None text bytes same h = absurd h.2
+first_part (Some a) (Some b) text bytes same h =
+    let part : b ≡ take (length a + h.0) (a ++ text) = h.2 ∙ ap (λ (l : List ℕ). a ++ take h.0 l) same ∙ sym (take-append-add a text h.0) in
+    (length a + h.0, omega (arith, length-append a text, ap length same, h.1), ap (λ (l : List ℕ). Some l) part)

@@ -1,5 +1,5 @@
 //! Output that is gathered, and handed to a writer in large pieces.
-ghost use Rattle.std.specs.Prelude.{ℕ, ◌<◌, ◌≤◌, [], ◌∷◌, ◌++◌, take, length, IfOk, IfSome, OnOk, OnErr};
+ghost use Rattle.std.specs.Prelude.{◌≡◌, ℕ, ◌<◌, ◌≤◌, [], ◌∷◌, ◌++◌, take, length, Some, IfOk, IfSome, OnOk, OnErr};
 ghost use Rattle.std.specs.Io.KnownBytes.{Appends, Keeps};
 
 use crate::faults::StreamFault;
@@ -92,10 +92,12 @@ impl<'a, W: Write> Output<'a, W> {
         Ok(())
     }
 
-    /// Hands all lines so far to the writer.
+    /// Hands all lines so far to the writer. After a fault the output is at its end.
     pub fn flush(&mut self) -> Result<(), StreamFault>
         ensures given { OnOk result (Keeps (given_to W.contents self.old) (given_to W.contents self.new)) }
         ensures handed { OnOk result (Keeps (given_to W.contents self.old) (W.contents self.new.writer.now)) }
+        // after a fault it has a first part of it, and not all
+        ensures err { OnErr result (IfSome (given_to W.contents self.old) (λ all. (n : ℕ) × (n < length all) × (W.contents self.new.writer.now ≡ Some (take n all)))) }
     {
         write_all(self.writer, self.text.as_bytes())?;
         self.text.clear();
