@@ -29,6 +29,10 @@ with_refused state refused = record {
   faults = state.faults + refused;
 }
 
+-- what is known of the whole, where this is what is known of the inner device
+abbrev pub state_of : {D : Type 0} → (D → DeviceState) → FailStopState D → DeviceState
+state_of state device = with_refused (state device.inner) device.refused
+
 -- failures are nothing that a crash depends on
 pub sound_with_refused : (state : DeviceState) (refused : ℕ) → IsSound state → IsSound (with_refused state refused)
 sound_with_refused state refused sound = record {

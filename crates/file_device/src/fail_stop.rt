@@ -2,7 +2,7 @@ ghost use Rattle.std.specs.Prelude.{◌≡◌, ◌+◌, ◌<◌, ◌≤◌, ◌�
 ghost use Rattle.sector_device.specs.Image.{sector_at, with_sector};
 ghost use Rattle.sector_device.specs.Device.{IsCall, HasCause};
 ghost use Rattle.sector_device.specs.Crash.{IsSame, IsTorn, IsDurable};
-ghost use Rattle.file_device.specs.FailStop.{FailStopState, CountsRefused, with_refused, sound_with_refused};
+ghost use Rattle.file_device.specs.FailStop.{FailStopState, CountsRefused, state_of, sound_with_refused};
 
 use sector_device::{Device, DeviceFault, Sector};
 use std::marker::Model;
@@ -54,7 +54,7 @@ impl<D: Device> FailStop<D> {
 }
 
 impl<D: Device> Device for FailStop<D> {
-    ghost state = { λ f. with_refused (D.state f.inner) f.refused };
+    ghost state = { state_of D.state };
 
     fn sectors(&self) -> u64 {
         self.inner.sectors()
@@ -62,12 +62,15 @@ impl<D: Device> Device for FailStop<D> {
 
     fn read(&mut self, at: u64, into: &mut Sector) -> Result<(), DeviceFault>
         requires { at < length (D.state self.old.inner).reads }
-        ensures call { IsCall (with_refused (D.state self.old.inner) self.old.refused) (with_refused (D.state self.new.inner) self.new.refused) (IsErr result) }
-        ensures same { (D.state self.old.inner).honest → IsSame (with_refused (D.state self.old.inner) self.old.refused) (with_refused (D.state self.new.inner) self.new.refused) }
-        ensures bytes { (D.state self.old.inner).honest → OnOk result (into.new ≡ sector_at (D.state self.old.inner).reads at) }
+        ensures call { IsCall (state_of D.state self.old) (state_of D.state self.new) (IsErr result) }
+        ensures same { (D.state self.old.inner).honest
+            → IsSame (state_of D.state self.old) (state_of D.state self.new) }
+        ensures bytes { (D.state self.old.inner).honest
+            → OnOk result (into.new ≡ sector_at (D.state self.old.inner).reads at) }
         ensures fails { IsTrue self.old.stopped → IsErr result }
         ensures unreached { IsTrue self.old.stopped → self.new.inner ≡ self.old.inner }
-        ensures passed_on { (IsTrue self.old.stopped → ⊥) → IsCall (D.state self.old.inner) (D.state self.new.inner) (IsErr result) }
+        ensures passed_on { (IsTrue self.old.stopped → ⊥)
+            → IsCall (D.state self.old.inner) (D.state self.new.inner) (IsErr result) }
         ensures counted { CountsRefused self.old self.new }
         ensures stopped { self.new.stopped ≡ self.old.stopped }
     {
@@ -77,12 +80,15 @@ impl<D: Device> Device for FailStop<D> {
 
     fn write(&mut self, at: u64, from: &Sector) -> Result<(), DeviceFault>
         requires { at < length (D.state self.old.inner).reads }
-        ensures call { IsCall (with_refused (D.state self.old.inner) self.old.refused) (with_refused (D.state self.new.inner) self.new.refused) (IsErr result) }
-        ensures torn { (D.state self.old.inner).honest → IsTorn at (with_refused (D.state self.old.inner) self.old.refused) (with_refused (D.state self.new.inner) self.new.refused) }
-        ensures written { (D.state self.old.inner).honest → OnOk result ((D.state self.new.inner).reads ≡ with_sector (D.state self.old.inner).reads at from.now) }
+        ensures call { IsCall (state_of D.state self.old) (state_of D.state self.new) (IsErr result) }
+        ensures torn { (D.state self.old.inner).honest
+            → IsTorn at (state_of D.state self.old) (state_of D.state self.new) }
+        ensures written { (D.state self.old.inner).honest
+            → OnOk result ((D.state self.new.inner).reads ≡ with_sector (D.state self.old.inner).reads at from.now) }
         ensures fails { IsTrue self.old.stopped → IsErr result }
         ensures unreached { IsTrue self.old.stopped → self.new.inner ≡ self.old.inner }
-        ensures passed_on { (IsTrue self.old.stopped → ⊥) → IsCall (D.state self.old.inner) (D.state self.new.inner) (IsErr result) }
+        ensures passed_on { (IsTrue self.old.stopped → ⊥)
+            → IsCall (D.state self.old.inner) (D.state self.new.inner) (IsErr result) }
         ensures counted { CountsRefused self.old self.new }
         ensures stopped { self.new.stopped ≡ self.old.stopped }
     {
@@ -91,12 +97,15 @@ impl<D: Device> Device for FailStop<D> {
     }
 
     fn sync(&mut self) -> Result<(), DeviceFault>
-        ensures call { IsCall (with_refused (D.state self.old.inner) self.old.refused) (with_refused (D.state self.new.inner) self.new.refused) (IsErr result) }
-        ensures same { (D.state self.old.inner).honest → IsSame (with_refused (D.state self.old.inner) self.old.refused) (with_refused (D.state self.new.inner) self.new.refused) }
-        ensures durable { (D.state self.old.inner).honest → OnOk result (IsDurable (with_refused (D.state self.new.inner) self.new.refused)) }
+        ensures call { IsCall (state_of D.state self.old) (state_of D.state self.new) (IsErr result) }
+        ensures same { (D.state self.old.inner).honest
+            → IsSame (state_of D.state self.old) (state_of D.state self.new) }
+        ensures durable { (D.state self.old.inner).honest
+            → OnOk result (IsDurable (state_of D.state self.new)) }
         ensures fails { IsTrue self.old.stopped → IsErr result }
         ensures unreached { IsTrue self.old.stopped → self.new.inner ≡ self.old.inner }
-        ensures passed_on { (IsTrue self.old.stopped → ⊥) → IsCall (D.state self.old.inner) (D.state self.new.inner) (IsErr result) }
+        ensures passed_on { (IsTrue self.old.stopped → ⊥)
+            → IsCall (D.state self.old.inner) (D.state self.new.inner) (IsErr result) }
         ensures counted { CountsRefused self.old self.new }
         ensures stopped { IsTrue self.new.stopped ↔ IsErr result }
     {
