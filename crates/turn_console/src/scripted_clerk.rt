@@ -11,10 +11,11 @@ use std::alloc::{AllocError, Global};
 use turn_clerk::{Clerk, Turn, TurnRefusal};
 use turn_ledger::{Entry, Ledger};
 
-/// A clerk on a device, and for each station of its line the entries that are held for its turn.
+/// A clerk on a device, and for each station of its line the entries that are held for its turn. The clerk stands on the
+/// heap, since a session is handed on from command to command.
 #[derive(Drop)]
 pub struct ScriptedClerk<D: Device> {
-    clerk: Clerk<D>,
+    clerk: Box<Clerk<D>>,
     held: Vec<HeldEntries>,
 }
 
@@ -34,9 +35,16 @@ impl<D: Device> ScriptedClerk<D> {
         let Ok(held) = nothing_held(alloc, line.stations()) else {
             return Err((device, Refusal::Open(OpenRefusal::Memory)));
         };
-        match Clerk::open(alloc, device, line) {
+        let clerk = match Clerk::open(alloc, device, line) {
+            Ok(clerk) => clerk,
+            Err((device, refusal)) => return Err((device, Refusal::Open(refusal))),
+        };
+        match Box::new(alloc, clerk) {
             Ok(clerk) => Ok(ScriptedClerk { clerk, held }),
-            Err((device, refusal)) => Err((device, Refusal::Open(refusal))),
+            Err(failed) => Err((
+                failed.value.into_device(),
+                Refusal::Open(OpenRefusal::Memory),
+            )),
         }
     }
 
@@ -77,7 +85,7 @@ impl<D: Device> ScriptedClerk<D> {
     /// The device, as it is. What was held is forgotten.
     pub fn into_device(self) -> D {
         let ScriptedClerk { clerk, .. } = self;
-        clerk.into_device()
+        Box::into_inner(clerk).into_device()
     }
 }
 
