@@ -14,6 +14,4 @@ mod power_losses;
 #[cfg(test)]
 mod refusals;
 #[cfg(test)]
-mod streams;
-#[cfg(test)]
 mod turns;
