@@ -1,4 +1,6 @@
 //! The text of every refusal.
+use file_device::FileRefusal;
+use four_state::LineRefusal;
 use gate_journal::{AppendRefusal, FormatRefusal, JournalCause, JournalRefusal, ReadRefusal};
 use journal_recovery::{Cause, OpenRefusal};
 use std::alloc::Global;
@@ -147,6 +149,29 @@ fn refusals_of_turns_and_entries_have_texts(rt: HostRuntime) -> Result<(), Fail>
                 EntryRefusal::OverLimit,
                 "the total of all accounts would pass its limit",
             ),
+        ],
+    )
+}
+
+#[test]
+fn refusals_of_lines_and_files_have_texts(rt: HostRuntime) -> Result<(), Fail> {
+    read_as(
+        &rt,
+        rt.alloc(),
+        &[
+            (LineRefusal::Stations, "a line has 2 to 64 stations"),
+            (
+                LineRefusal::Length,
+                "each list of bits has one bit for each station",
+            ),
+        ],
+    )?;
+    read_as(
+        &rt,
+        rt.alloc(),
+        &[
+            (FileRefusal::Memory, "out of memory"),
+            (FileRefusal::File, "the file can't be used as a device"),
         ],
     )
 }
