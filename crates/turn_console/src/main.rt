@@ -6,6 +6,7 @@
 #![tactic(auto)]
 
 mod command_line;
+mod console;
 mod engine;
 mod faults;
 mod held_entries;
@@ -14,7 +15,6 @@ mod power;
 mod printing;
 mod program;
 mod scripted_clerk;
-mod session;
 mod settings;
 #[cfg(test)]
 mod tests;
