@@ -1,7 +1,7 @@
 //! Runs a script over a device.
+use crate::console::Console;
 use crate::faults::ScriptFault;
 use crate::power::PowerLoss;
-use crate::session::Session;
 use script_grammar::{Lines, read_command};
 use script_streams::{Output, read_script};
 use std::alloc::Global;
@@ -32,7 +32,7 @@ fn run_lines<W: Write, D: PowerLoss + Drop>(
     device: D,
     output: &mut Output<'_, W>,
 ) -> Result<(), ScriptFault> {
-    let mut session = Session::Closed(device);
+    let mut console = Console::Closed(device);
     let mut line: u64 = 0;
     for text in Lines::of(script) {
         line = line.saturating_add(1);
@@ -41,7 +41,7 @@ fn run_lines<W: Write, D: PowerLoss + Drop>(
             Err(cause) => return Err(ScriptFault::Line { line, cause }),
         };
         if let Some(command) = command {
-            session = session.run(alloc, command, output)?;
+            console = console.run(alloc, command, output)?;
         }
     }
     Ok(())

@@ -6,6 +6,7 @@
 #![tactic(auto)]
 
 mod command_line;
+mod console;
 mod engine;
 mod faults;
 mod held_entries;
@@ -15,7 +16,6 @@ mod printing;
 mod program;
 mod refusals;
 mod scripted_clerk;
-mod session;
 mod settings;
 #[cfg(test)]
 mod tests;

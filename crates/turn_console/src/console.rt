@@ -12,21 +12,21 @@ use std::io::Write;
 use std::num::NonZeroU64;
 use turn_ledger::Entry;
 
-/// Where a script stands: on a device, or with an office open on it.
+/// The console where a script has come to: with its device alone, or with an office open on it.
 #[derive(Drop)]
-pub enum Session<D: Device> {
+pub enum Console<D: Device> {
     Closed(D),
     Open(ScriptedClerk<D>),
 }
 
-impl<D: PowerLoss + Drop> Session<D> {
+impl<D: PowerLoss + Drop> Console<D> {
     /// Runs a command and prints what it answers. A fault is that of the output.
     pub fn run<W: Write>(
         mut self,
         alloc: Global,
         command: Command,
         output: &mut Output<'_, W>,
-    ) -> Result<Session<D>, StreamFault> {
+    ) -> Result<Console<D>, StreamFault> {
         match command {
             Command::Format { slots } => self.format(slots, output)?,
             Command::Open { stations, x, up } => {
@@ -46,7 +46,7 @@ impl<D: PowerLoss + Drop> Session<D> {
         slots: NonZeroU64,
         output: &mut Output<'_, W>,
     ) -> Result<(), StreamFault> {
-        let Session::Closed(device) = self else {
+        let Console::Closed(device) = self else {
             return print_refusal(Refusal::OfficeOpen, output);
         };
         match format(device, slots.get()) {
@@ -62,9 +62,9 @@ impl<D: PowerLoss + Drop> Session<D> {
         x: &Bits,
         up: &Bits,
         output: &mut Output<'_, W>,
-    ) -> Result<Session<D>, StreamFault> {
+    ) -> Result<Console<D>, StreamFault> {
         let device = match self {
-            Session::Closed(device) => device,
+            Console::Closed(device) => device,
             open => {
                 print_refusal(Refusal::OfficeOpen, output)?;
                 return Ok(open);
@@ -75,11 +75,11 @@ impl<D: PowerLoss + Drop> Session<D> {
                 let next = clerk.next();
                 let total = clerk.ledger().total();
                 output.line(format_args!("opened {stations} next {next} total {total}"))?;
-                Ok(Session::Open(clerk))
+                Ok(Console::Open(clerk))
             }
             Err((device, refusal)) => {
                 print_refusal(refusal, output)?;
-                Ok(Session::Closed(device))
+                Ok(Console::Closed(device))
             }
         }
     }
@@ -90,7 +90,7 @@ impl<D: PowerLoss + Drop> Session<D> {
         entry: Entry,
         output: &mut Output<'_, W>,
     ) -> Result<(), StreamFault> {
-        let Session::Open(clerk) = self else {
+        let Console::Open(clerk) = self else {
             return print_refusal(Refusal::NoOffice, output);
         };
         match clerk.post(station, entry) {
@@ -104,7 +104,7 @@ impl<D: PowerLoss + Drop> Session<D> {
         station: u64,
         output: &mut Output<'_, W>,
     ) -> Result<(), StreamFault> {
-        let Session::Open(clerk) = self else {
+        let Console::Open(clerk) = self else {
             return print_refusal(Refusal::NoOffice, output);
         };
         match clerk.turn(station) {
@@ -117,15 +117,15 @@ impl<D: PowerLoss + Drop> Session<D> {
 
     fn bits<W: Write>(&self, output: &mut Output<'_, W>) -> Result<(), StreamFault> {
         match self {
-            Session::Open(clerk) => print_line(clerk.line(), output),
-            Session::Closed(_) => print_refusal(Refusal::NoOffice, output),
+            Console::Open(clerk) => print_line(clerk.line(), output),
+            Console::Closed(_) => print_refusal(Refusal::NoOffice, output),
         }
     }
 
     fn balances<W: Write>(&self, output: &mut Output<'_, W>) -> Result<(), StreamFault> {
         match self {
-            Session::Open(clerk) => print_balances(clerk.ledger(), output),
-            Session::Closed(_) => print_refusal(Refusal::NoOffice, output),
+            Console::Open(clerk) => print_balances(clerk.ledger(), output),
+            Console::Closed(_) => print_refusal(Refusal::NoOffice, output),
         }
     }
 
@@ -133,13 +133,13 @@ impl<D: PowerLoss + Drop> Session<D> {
         self,
         alloc: Global,
         output: &mut Output<'_, W>,
-    ) -> Result<Session<D>, StreamFault> {
+    ) -> Result<Console<D>, StreamFault> {
         let device = match self {
-            Session::Closed(device) => device,
-            Session::Open(clerk) => clerk.into_device(),
+            Console::Closed(device) => device,
+            Console::Open(clerk) => clerk.into_device(),
         };
         let device = device.lose_power(alloc);
         output.line(format_args!("crashed"))?;
-        Ok(Session::Closed(device))
+        Ok(Console::Closed(device))
     }
 }
