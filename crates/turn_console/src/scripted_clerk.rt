@@ -12,7 +12,7 @@ use turn_clerk::{Clerk, Turn, TurnRefusal};
 use turn_ledger::{Entry, Ledger};
 
 /// A clerk on a device, and for each station of its line the entries that are held for its turn. The clerk stands on the
-/// heap, since a session is handed on from command to command.
+/// heap, since a console is handed on from command to command.
 #[derive(Drop)]
 pub struct ScriptedClerk<D: Device> {
     clerk: Box<Clerk<D>>,
