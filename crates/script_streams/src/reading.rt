@@ -57,7 +57,9 @@ fn read_piece<R: Read>(
     requires room { 0 < length chunk.old }
     requires limit { vec_len script.old ≤ 16777216 }
     ensures within { OnOk result (vec_len script.new ≤ 16777216) }
-    ensures added { OnOk result ((bytes : List ℕ) × Consumes (R.remaining reader.old) (R.remaining reader.new) bytes × (script.new.items ≡ script.old.items ++ bytes)) }
+    ensures added { OnOk result ((bytes : List ℕ)
+        × Consumes (R.remaining reader.old) (R.remaining reader.new) bytes
+        × (script.new.items ≡ script.old.items ++ bytes)) }
     ensures end { IfOk result (λ ended. ended ≡ true → IsAtEnd (R.remaining reader.new)) }
     ensures too_long { IfErr result (λ fault. fault ≡ TooLong → IfSome (R.remaining reader.old) (λ bytes. 16777216 < vec_len script.old + length bytes)) }
 {
