@@ -1,0 +1,32 @@
+-- What the seats of an office hold in their hands, and whether its history bears it out.
+use Rattle.std.specs.Prelude.{◌≡◌, ℕ, ◌==◌, ◌<◌, ◌≤◌, List, filter, count_by, length, take, IfSome}
+use Rattle.four_state.specs.Configuration.{Configuration}
+use Rattle.turn_clerk.specs.declared.turns.Turn.{Turn}
+use Rattle.turn_clerk.specs.Turn.{HasPrivilege}
+use Rattle.turn_clerk.specs.History.{line_after}
+use Rattle.line_lock.specs.Seat.{SeatState}
+
+-- the turns of a station, in the order of the history
+abbrev pub turns_of : ℕ → List Turn → List Turn
+turns_of station history = filter (λ turn. turn.station == station) history
+
+-- After so many turns of the history the station had no privilege.
+pub record WasDenied (opening : Configuration) (history : List Turn) (station held : ℕ) : Type 0 where
+  pub within : held ≤ length history
+  pub no_privilege : ¬ HasPrivilege (line_after opening (take held history)) station
+
+-- The history bears out what a seat holds: its turns are those of its station, in order, each once, and where it was
+-- told that it isn't its turn, it wasn't.
+pub record IsBorneOut (opening : Configuration) (history : List Turn) (seat : SeatState) : Type 0 where
+  pub turns : seat.turns ≡ turns_of seat.station history
+  pub denied : IfSome seat.denied (WasDenied opening history seat.station)
+
+-- how many of the seats are the station's
+abbrev pub seats_of : ℕ → List SeatState → ℕ
+seats_of station seats = count_by (λ seat. seat.station == station) seats
+
+-- some station, of so many, has no seat among these
+pub record IsSeatMissing (stations : ℕ) (seats : List SeatState) : Type 0 where
+  pub station : ℕ
+  pub there : station < stations
+  pub none : seats_of station seats ≡ 0

@@ -1,0 +1,24 @@
+-- A seat at one moment, and what a turn that it is told of is.
+use Rattle.std.specs.Prelude.{ℕ, List, [], ◌∷◌, ◌++◌, Option, None}
+use Rattle.four_state.specs.Configuration.{Configuration}
+use Rattle.journal_recovery.specs.State.{State}
+use Rattle.turn_clerk.specs.declared.turns.Turn.{Turn}
+use Rattle.turn_clerk.specs.History.{IsLegal}
+
+pub record SeatState : Type 0 where
+  pub station : ℕ
+  -- the turns that its station took, in order
+  pub turns : List Turn
+  -- how many turns the history held when the station was last told that it isn't its turn
+  pub denied : Option ℕ
+
+-- a seat as an opening hands it out
+abbrev pub new_seat : ℕ → SeatState
+new_seat station = record { station = station; turns = []; denied = None }
+
+-- The turn is the last one of a legal history.
+pub record EndsLegalHistory (turn : Turn) : Type 0 where
+  pub line : Configuration
+  pub state : State
+  pub before : List Turn
+  pub legal : IsLegal line state (before ++ turn ∷ [])

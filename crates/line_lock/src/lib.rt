@@ -1,0 +1,17 @@
+//! One office for several counters: a clerk behind one lock, and a seat for each station of the line.
+#![tactic(auto)]
+
+mod closing;
+mod locked;
+mod office;
+mod seat;
+
+pub use closing::{CloseRefusal, Closing};
+pub use four_state::{Line, Rule};
+pub use office::Office;
+pub use seat::Seat;
+pub use sector_device::Device;
+pub use std::sync::ledger::{Blank, Ledger};
+pub use sweep_auditor::Audit;
+pub use turn_clerk::{Clerk, OpenRefusal, Turn, TurnRefusal};
+pub use turn_ledger::Entry;

@@ -1,0 +1,66 @@
+//! A station's seat.
+ghost use Rattle.std.specs.Prelude.{◌≡◌, ◌<◌};
+ghost use Rattle.line_lock.specs.Seat.{new_seat};
+
+use std::alloc::Global;
+use std::marker::Model;
+use std::sync::ledger::{Ledger, Share};
+use turn_clerk::Turn;
+
+/// A station's right to take turns, and an account of those that it took. Each turn that its station takes is counted
+/// in the office's book by the seat's share, which no one else has. `L` names the book: a seat fits its own office alone.
+#[derive(Drop)]
+pub struct Seat<L: Ledger> {
+    pub(crate) station: u8,
+    pub(crate) turns: Vec<Turn>,
+    pub(crate) denied: Option<u64>,
+    pub(crate) share: Share<L>,
+}
+
+impl<L: Ledger> Model for Seat<L> {
+    ghost use Rattle.std.specs.Prelude.{◌≡◌, ◌<◌, length};
+    ghost use Rattle.line_lock.specs.Seat.{SeatState};
+
+    ghost Value = { SeatState };
+
+    ghost view = { λ s. record { station = s.station; turns = s.turns.items; denied = s.denied } };
+
+    ghost invariant = { λ s. (s.station < L.parts) × (s.share.parts ≡ 1) × (s.share.amount ≡ length s.turns.items) };
+}
+
+impl<L: Ledger> Seat<L> {
+    // The seat of a station that has taken no turn, with its share of the book.
+    pub(crate) fn new(alloc: Global, station: u8, share: Share<L>) -> Seat<L>
+        requires station { station < L.parts }
+        requires share { (share.parts ≡ 1) × (share.amount ≡ 0) }
+        ensures { result ≡ new_seat station }
+    {
+        Seat {
+            station,
+            turns: Vec::new(alloc),
+            denied: None,
+            share,
+        }
+    }
+
+    /// The number of its station.
+    pub fn station(&self) -> u8
+        ensures { result ≡ self.now.station }
+    {
+        self.station
+    }
+
+    /// The turns that its station took, in order.
+    pub fn turns(&self) -> &[Turn]
+        ensures { result.now ≡ self.now.turns }
+    {
+        self.turns.as_slice()
+    }
+
+    /// How many turns the office's history held when the seat was last answered [`turn_clerk::TurnRefusal::NotPrivileged`].
+    pub fn denied(&self) -> Option<u64>
+        ensures { result ≡ self.now.denied }
+    {
+        self.denied
+    }
+}
