@@ -1,1 +1,3 @@
 mod Legal
+mod Listing
+mod Runs

@@ -8,3 +8,4 @@ pub mod Opened
 pub mod Answered
 pub mod Journaled
 pub mod View
+pub mod Equality

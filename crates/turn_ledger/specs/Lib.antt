@@ -12,3 +12,4 @@ pub mod LedgerLaws
 pub mod ScreenLaws
 pub mod Laws
 pub mod PlaceLaws
+pub mod Equality
