@@ -1,3 +1,4 @@
 mod Legal
 mod Listing
+mod OneEach
 mod Runs

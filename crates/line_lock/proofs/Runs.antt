@@ -1,5 +1,5 @@
 -- The moves of a run, one by one.
-use Rattle.std.proofs.Common.{◌≡◌, ◌<◌, ◌∷◌, [], ℕ, zero, suc, List, length, get_or, arith}
+use Rattle.std.proofs.Common.{◌<◌, ◌∷◌, [], ℕ, zero, suc, List, length, get_or, arith}
 use Rattle.four_state.specs.Configuration.{Configuration}
 use Rattle.four_state.specs.Privilege.{IsPrivilege}
 use Rattle.sweep_auditor.specs.declared.moves.Move.{Move}

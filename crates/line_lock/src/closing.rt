@@ -1,16 +1,16 @@
 //! What closing an office looks at, and what it answers.
-ghost use Rattle.std.specs.Prelude.{◌≡◌, ℕ, ◌<◌, ◌≤◌, ◌↔◌, All, length, take, true, false, IsTrue, IfErr, OnOk, Err, Some, slice_get};
-ghost use Rattle.four_state.specs.Configuration.{IsLine, stations};
-ghost use Rattle.sweep_auditor.specs.Run.{after, IsFirstLegitimate};
-ghost use Rattle.turn_clerk.specs.Clerk.{ClerkState};
+ghost use Rattle.std.specs.Prelude.{◌≡◌, ◌≢◌, ℕ, ◌-◌, ◌^◌, ◌<◌, ◌≤◌, ◌⊎◌, ◌↔◌, All, sum_by, length, take, drop, IfSome, IsSomeAnd, true, false, IsTrue, OnOk, Err, Some, slice_get};
+ghost use Rattle.four_state.specs.Configuration.{stations};
+ghost use Rattle.sweep_auditor.specs.Run.{IsFirstLegitimate};
+ghost use Rattle.sweep_auditor.specs.Stabilization.{top_of, LegitimateFrom, IsStretch, ComesRound};
 ghost use Rattle.turn_clerk.specs.History.{line_after, moves_of};
 ghost use Rattle.line_lock.specs.Account.{turns_of, WasDenied, IsBorneOut, seats_of, IsSeatMissing};
 
 use crate::seat::Seat;
 use four_state::Line;
 use sector_device::Device;
-use std::sync::ledger::Ledger;
-use sweep_auditor::Audit;
+use std::sync::ledger::{Ledger, Share};
+use sweep_auditor::{Audit, audit};
 use thiserror::Error;
 use turn_clerk::{Clerk, Turn};
 
@@ -36,7 +36,10 @@ pub enum CloseRefusal {
 fn seats_of<L: Ledger>(seats: &[Seat<L>], station: u8) -> usize
     ensures { result ≡ seats_of station seats.now }
 {
-    seats.iter().filter(|seat| seat.station() == station).count()
+    seats
+        .iter()
+        .filter(|seat| seat.station() == station)
+        .count()
 }
 
 // Whether some station has no seat.
@@ -94,5 +97,80 @@ fn was_denied<D: Device>(clerk: &Clerk<D>, station: u8, held: u64) -> bool
     requires { station < stations clerk.now.line }
     ensures { IsTrue result ↔ WasDenied clerk.now.opening.line clerk.now.history station held }
 {
-    held <= clerk.history().len() as u64 && line_at(clerk, held as usize).privilege(station).is_none()
+    held <= clerk.history().len() as u64
+        && line_at(clerk, held as usize).privilege(station).is_none()
+}
+
+// Whether the office's history bears out what a seat holds.
+fn is_borne_out<D: Device, L: Ledger>(clerk: &Clerk<D>, seat: &Seat<L>) -> bool
+    requires { stations clerk.now.line ≡ L.parts }
+    ensures { IsTrue result ↔ IsBorneOut clerk.now.opening.line clerk.now.history seat.now }
+{
+    let denied = match seat.denied() {
+        Some(held) => was_denied(clerk, seat.station(), held),
+        None => true,
+    };
+    denied && lists_all(seat, clerk.history())
+}
+
+/// Whether an office with this clerk can be closed with these seats, or why not.
+pub(crate) fn look_at<D: Device, L: Ledger>(
+    clerk: &Clerk<D>,
+    seats: &[Seat<L>],
+) -> Result<(), CloseRefusal>
+    requires { stations clerk.now.line ≡ L.parts }
+    ensures missing { (result ≡ Err CloseRefusal.SeatMissing) ↔ IsSeatMissing L.parts seats.now }
+    ensures foreign { result ≡ Err CloseRefusal.ForeignSeat
+        → (length seats.now ≢ L.parts) ⊎ ¬ All (IsBorneOut clerk.now.opening.line clerk.now.history) seats.now }
+    ensures one_each { OnOk result ((station : ℕ) → station < L.parts → seats_of station seats.now ≡ 1) }
+    ensures as_many { OnOk result (length seats.now ≡ L.parts) }
+    ensures borne_out { OnOk result (All (IsBorneOut clerk.now.opening.line clerk.now.history) seats.now) }
+{
+    let stations = clerk.line().stations();
+    if is_seat_missing(seats, stations) {
+        return Err(CloseRefusal::SeatMissing);
+    }
+    if seats.len() != stations as usize {
+        return Err(CloseRefusal::ForeignSeat);
+    }
+    for seat in seats {
+        if !is_borne_out(clerk, seat) {
+            return Err(CloseRefusal::ForeignSeat);
+        }
+    }
+    Ok(())
+}
+
+/// All seats' shares, put together with what was left of the ledger.
+pub(crate) fn gathered<L: Ledger>(rest: Share<L>, seats: Vec<Seat<L>>) -> Share<L>
+    requires { (rest.parts ≡ 0) × (rest.amount ≡ 0) }
+    ensures parts { result.parts ≡ length seats.items }
+    ensures amount { result.amount ≡ sum_by (λ seat. length seat.turns) seats.items }
+{
+    let mut all = rest;
+    for seat in seats {
+        let Seat { share, .. } = seat;
+        all.merge(share);
+    }
+    all
+}
+
+/// The audit of a clerk's opening line and all its moves.
+pub(crate) fn audited<D: Device>(clerk: &Clerk<D>) -> Audit
+    ensures last { result.last ≡ line_after clerk.now.opening.line clerk.now.history }
+    ensures first { let moves = moves_of clerk.now.history in
+        IsFirstLegitimate clerk.now.opening.line moves (length moves) result.first_legitimate }
+    ensures stabilizes_in_cube { let n = top_of clerk.now.opening.line in
+        n ^ 3 - 1 ≤ length (moves_of clerk.now.history) → IsSomeAnd result.first_legitimate (λ i. i ≤ n ^ 3 - 1) }
+    ensures stays_legitimate { IfSome result.first_legitimate
+        (λ i. LegitimateFrom clerk.now.opening.line (moves_of clerk.now.history) i) }
+    ensures sweeps { IfSome result.first_legitimate
+        (λ i. IsStretch (top_of clerk.now.opening.line) (drop i (moves_of clerk.now.history))) }
+    ensures comes_round { IfSome result.first_legitimate
+        (λ i. ComesRound clerk.now.opening.line (moves_of clerk.now.history) i) }
+{
+    match audit(clerk.opening(), clerk.moves()) {
+        Ok(audit) => audit,
+        Err(_) => unreachable!(),
+    }
 }

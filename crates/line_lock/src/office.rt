@@ -1,13 +1,19 @@
 //! The office.
-ghost use Rattle.std.specs.Prelude.{◌≡◌, ◌≢◌, ◌<◌, ◌≤◌, ◌∷◌, ◌++◌, [], length, map, IfOk, IfErr, OnErr, IsSomeAnd, Some, Err, vec_len, vec_capacity};
+ghost use Rattle.std.specs.Prelude.{◌≡◌, ◌≢◌, ℕ, ◌-◌, ◌^◌, ◌<◌, ◌≤◌, ◌↔◌, ◌∷◌, ◌++◌, [], length, map, drop, All, sum_by, IfOk, IfErr, OnOk, OnErr, IsErrAnd, IfSome, IsSomeAnd, Some, Err, vec_len, vec_capacity};
 ghost use Rattle.std.specs.List.{range_with_len};
 ghost use Rattle.sector_device.specs.Device.{AreCalls};
 ghost use Rattle.sector_device.specs.Crash.{OnlyLooks};
 ghost use Rattle.four_state.specs.Configuration.{stations};
+ghost use Rattle.sweep_auditor.specs.Run.{IsRun, IsFirstLegitimate};
+ghost use Rattle.sweep_auditor.specs.Stabilization.{top_of, LegitimateFrom, IsStretch, ComesRound};
+ghost use Rattle.turn_clerk.specs.Clerk.{KeepsHistory, LeavesAcknowledged, LeftPrefixEver};
+ghost use Rattle.turn_clerk.specs.History.{moves_of};
+ghost use Rattle.line_lock.specs.Account.{IsBorneOut, seats_of, IsSeatMissing};
 ghost use Rattle.turn_ledger.specs.declared.limits.TheConstants.{BATCH_LIMIT};
 ghost use Rattle.journal_recovery.specs.Refused.{RecoveryRefuses};
 ghost use Rattle.line_lock.specs.Seat.{new_seat, EndsLegalHistory};
 
+use crate::closing::{CloseRefusal, Closing, audited, gathered, look_at};
 use crate::locked::{Answer, Locked};
 use crate::seat::Seat;
 use four_state::Line;
@@ -89,6 +95,66 @@ impl<D: Device, L: Ledger> Office<D, L> {
         }
         let answer = self.locked.lock(rt).turn(*station, share, entries);
         noted(turns, denied, answer)
+    }
+
+    /// Closes the office, where the list has the seat of each station and the history bears out what each one holds:
+    /// its list is that of the station's turns, in order, each once, and where it was told that it isn't its turn, it
+    /// wasn't. Seats may come in any order. A refusal hands back the office and the seats. It waits for nobody, and a
+    /// faulted office is closed too.
+    pub fn close(
+        self,
+        seats: Vec<Seat<L>>,
+    ) -> Result<Closing<D>, (Office<D, L>, Vec<Seat<L>>, CloseRefusal)>
+        ensures missing { (IsErrAnd result (λ e. e.2 ≡ CloseRefusal.SeatMissing)) ↔ IsSeatMissing L.parts seats.items }
+        ensures handed_back { IfErr result (λ e. e.1.items ≡ seats.items) }
+
+        // What the seats hold, turn by turn.
+        ensures stations { IfOk result (λ closing. stations closing.clerk.opening.line ≡ L.parts) }
+        ensures one_seat { OnOk result ((station : ℕ) → station < L.parts → seats_of station seats.items ≡ 1) }
+        ensures borne_out { IfOk result (λ closing.
+            All (IsBorneOut closing.clerk.opening.line closing.clerk.history) seats.items) }
+        ensures counted { IfOk result (λ closing.
+            length closing.clerk.history ≡ sum_by (λ seat. length seat.turns) seats.items) }
+
+        // The clerk, over its whole life.
+        ensures legal { IfOk result (λ closing. KeepsHistory closing.clerk) }
+        ensures run { IfOk result (λ closing. IsRun closing.clerk.opening.line (moves_of closing.clerk.history)) }
+        ensures acknowledged { IfOk result (λ closing.
+            (D.state closing.clerk.journal.device).honest → LeavesAcknowledged D.state closing.clerk) }
+        ensures at_any_moment { IfOk result (λ closing.
+            (D.state closing.clerk.journal.device).honest → LeftPrefixEver D.state closing.clerk) }
+
+        // The audit of its opening line and all its moves.
+        ensures last { IfOk result (λ closing. closing.audit.last ≡ closing.clerk.line) }
+        ensures first { IfOk result (λ closing. let moves = moves_of closing.clerk.history in
+            IsFirstLegitimate closing.clerk.opening.line moves (length moves) closing.audit.first_legitimate) }
+        ensures stabilizes_in_cube { IfOk result (λ closing. let n = top_of closing.clerk.opening.line in
+            n ^ 3 - 1 ≤ length closing.clerk.history
+            → IsSomeAnd closing.audit.first_legitimate (λ i. i ≤ n ^ 3 - 1)) }
+        ensures stays_legitimate { IfOk result (λ closing. IfSome closing.audit.first_legitimate
+            (λ i. LegitimateFrom closing.clerk.opening.line (moves_of closing.clerk.history) i)) }
+        ensures sweeps { IfOk result (λ closing. IfSome closing.audit.first_legitimate
+            (λ i. IsStretch (top_of closing.clerk.opening.line) (drop i (moves_of closing.clerk.history)))) }
+        ensures comes_round { IfOk result (λ closing. IfSome closing.audit.first_legitimate
+            (λ i. ComesRound closing.clerk.opening.line (moves_of closing.clerk.history) i)) }
+    {
+        let Office { locked } = self;
+        let locked = locked.into_inner();
+        if let Err(refusal) = look_at(&locked.clerk, seats.as_slice()) {
+            let locked = Mutex::new(locked);
+            return Err((Office { locked }, seats, refusal));
+        }
+        let Locked {
+            clerk,
+            mut book,
+            rest,
+        } = locked;
+        // for the contract alone: each turn is in some seat's list, and what every clerk keeps
+        book.audit(&mut gathered(rest, seats));
+        clerk.legal_history();
+        clerk.durable_prefix();
+        let audit = audited(&clerk);
+        Ok(Closing { clerk, audit })
     }
 }
 

@@ -43,9 +43,10 @@ impl<L: Ledger> Seat<L> {
         }
     }
 
-    /// The number of its station.
+    /// The number of its station, which is one of the office's.
     pub fn station(&self) -> u8
-        ensures { result ≡ self.now.station }
+        ensures value { result ≡ self.now.station }
+        ensures there { result < L.parts }
     {
         self.station
     }

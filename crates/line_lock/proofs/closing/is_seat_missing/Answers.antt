@@ -1,4 +1,4 @@
-use Rattle.std.proofs.Common.{◌≡◌, ◌+◌, ◌<◌, ◌≤◌, ◌≢◌, ℕ, inl, inr, subst, sym, ◌∙◌, ap, arith}
+use Rattle.std.proofs.Common.{ℕ, inl, inr, sym, ◌∙◌, ap, arith}
 use Rattle.std.proofs.lemmas.Bool.{cases_eq}
 use Rattle.line_lock.specs.Account.{seats_of}
 use Rattle.line_lock.proofs.closing.is_seat_missing.Goals as goal

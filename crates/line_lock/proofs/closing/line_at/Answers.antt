@@ -1,10 +1,10 @@
-use Rattle.std.proofs.Common.{rules, ◌≡◌, ◌∙◌, ap, sym, subst, take, get_or}
+use Rattle.std.proofs.Common.{rules, ◌∙◌, ap, sym, subst, take, get_or}
 use Rattle.std.proofs.lemmas.List.{take_all, take-map}
 use Rattle.four_state.specs.Configuration.{Configuration}
 use Rattle.four_state.specs.Privilege.{IsPrivilege}
 use Rattle.four_state.specs.declared.rules.Rule.TheVariants.{Bottom}
 use Rattle.sweep_auditor.specs.declared.moves.Move.{Move}
-use Rattle.sweep_auditor.specs.Run.{next, after, configuration_at, IsRun}
+use Rattle.sweep_auditor.specs.Run.{next, after, IsRun}
 use Rattle.sweep_auditor.specs.RunLaws.{IsRun-take, configuration_at-more}
 use Rattle.turn_clerk.specs.History.{moves_of, move_of}
 use Rattle.line_lock.proofs.Runs.{privileged}

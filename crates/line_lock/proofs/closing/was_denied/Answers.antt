@@ -1,5 +1,5 @@
-use Rattle.std.proofs.Common.{rules, ◌≡◌, ◌<◌, ◌∙◌, ap, sym, subst, take, arith}
-use Rattle.four_state.specs.Configuration.{Configuration, stations}
+use Rattle.std.proofs.Common.{◌≡◌, ◌∙◌, ap, sym, take, arith}
+use Rattle.four_state.specs.Configuration.{stations}
 use Rattle.sweep_auditor.specs.RunLaws.{stations-after}
 use Rattle.turn_clerk.specs.History.{moves_of}
 use Rattle.line_lock.proofs.closing.was_denied.Goals as goal

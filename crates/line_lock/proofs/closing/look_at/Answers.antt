@@ -1,0 +1,30 @@
+use Rattle.std.proofs.Common.{rules, ◌≡◌, All, subst, arith}
+use Rattle.std.proofs.lemmas.List.{take_all}
+use Rattle.std.proofs.lemmas.List.Elements.{All-more}
+use Rattle.line_lock.specs.Account.{IsBorneOut, IsSeatMissing}
+use Rattle.line_lock.proofs.OneEach.{one_each}
+use Rattle.line_lock.proofs.closing.look_at.Goals as goal
+
+pub loop-seat-preserved : goal.loop-seat-preserved
+loop-seat-preserved g c =
+    let clerk = c.args.clerk.now in
+    let seat = c.seat-item.result in
+    let out : IsBorneOut clerk.opening.line clerk.history seat = c.is_borne_out.ensures.0 c.if-not-is_borne_out.false in
+    All-more (IsBorneOut clerk.opening.line clerk.history) c.args.seats.now c.loop-seat.seat-index seat c.loop-seat-test.true c.loop-seat.invariant
+    (subst (IsBorneOut clerk.opening.line clerk.history) c.seat-item.is out)
+
+pub returns-clause-one_each : goal.returns-clause-one_each
+returns-clause-one_each g c =
+    let stations = c.stations-stations.result in
+    let parts : stations ≡ g.L.Ledger.parts = search rules in
+    let none_missing = c.is_seat_missing.ensures.1 in
+    let no = c.if-is_seat_missing.false in
+    λ station lt.
+    one_each stations c.args.seats.now c.if-seats-stations.false
+    (λ k there none. let missing : IsSeatMissing stations c.args.seats.now = record { station = k; there = there; none = none } in let yes = none_missing missing in cc)
+    station (omega (arith, lt, parts))
+
+pub returns-clause-borne_out : goal.returns-clause-borne_out
+returns-clause-borne_out g c =
+    let seats = c.args.seats.now in
+    subst (All (IsBorneOut c.args.clerk.now.opening.line c.args.clerk.now.history)) (take_all c.loop-seat.seat-index seats c.loop-seat-test.false) c.loop-seat.invariant
