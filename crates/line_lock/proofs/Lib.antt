@@ -2,3 +2,4 @@ mod Legal
 mod Listing
 mod OneEach
 mod Runs
+pub mod Sharing

@@ -15,3 +15,6 @@ pub use std::sync::ledger::{Blank, Ledger};
 pub use sweep_auditor::Audit;
 pub use turn_clerk::{Clerk, OpenRefusal, Turn, TurnRefusal};
 pub use turn_ledger::Entry;
+
+#[cfg(test)]
+mod tests;

@@ -1,0 +1,190 @@
+//! Closing: what is missing, what is foreign, and what is handed back.
+
+use super::{Scene, act, deposit, formatted, line};
+use crate::{Clerk, CloseRefusal, Closing, Ledger, Office, OpenRefusal, Seat};
+use sector_device::{Device, MemoryDevice};
+use std::alloc::Global;
+use std::marker::Brand;
+use std::process::Abort;
+use std::sync::Wait;
+use std::sync::ledger::Blank;
+use std::test::Fail;
+use std::thread::Threads;
+
+// Closes the office, which refuses, and hands out what it handed back.
+fn refused<L: Ledger>(
+    rt: &impl Abort,
+    office: Office<MemoryDevice, L>,
+    seats: Vec<Seat<L>>,
+    expected: CloseRefusal,
+) -> (Office<MemoryDevice, L>, Vec<Seat<L>>) {
+    match office.close(seats) {
+        Ok(_) => panic!(rt; "closed"),
+        Err((office, seats, refusal)) => {
+            assert_eq!(rt; refusal, expected);
+            (office, seats)
+        }
+    }
+}
+
+fn closed<L: Ledger>(
+    rt: &impl Abort,
+    office: Office<MemoryDevice, L>,
+    seats: Vec<Seat<L>>,
+) -> Closing<MemoryDevice> {
+    match office.close(seats) {
+        Ok(closing) => closing,
+        Err((_, _, refusal)) => panic!(rt; "{refusal}"),
+    }
+}
+
+struct OneSeatIsMissing;
+
+impl Scene for OneSeatIsMissing {
+    fn play<L: Ledger + Send + Sync, R: Abort + Wait + Threads + Sync>(
+        rt: &R,
+        office: Office<MemoryDevice, L>,
+        mut seats: Vec<Seat<L>>,
+    ) -> Result<(), Fail> {
+        let mut top = seats.pop().ok_or("the seat of station 1")?;
+        let (office, mut seats) = refused(rt, office, seats, CloseRefusal::SeatMissing);
+        assert_eq!(rt; seats.len(), 1);
+
+        // the office goes on after a refusal
+        let mut bottom = seats.pop().ok_or("the seat of station 0")?;
+        assert_eq!(rt; office.turn(rt, &mut bottom, &[deposit(7)])?.index, 0);
+        assert_eq!(rt; office.turn(rt, &mut top, &[])?.index, 1);
+        seats.push(bottom)?;
+        seats.push(top)?;
+        let Closing { clerk, audit } = closed(rt, office, seats);
+        assert_eq!(rt; (clerk.history().len(), clerk.next()), (2, 1));
+        assert_eq!(rt;
+            (audit.first_legitimate, audit.last),
+            (Some(0), clerk.line())
+        );
+        Ok(())
+    }
+}
+
+#[test]
+fn a_missing_seat_is_told_and_the_office_goes_on(rt: HostRuntime) -> Result<(), Fail> {
+    let alloc = rt.alloc();
+    act::<OneSeatIsMissing, _>(&rt, alloc, formatted(alloc)?, line(&rt, [0, 0], [1, 0]))
+}
+
+struct NobodyTookATurn;
+
+impl Scene for NobodyTookATurn {
+    fn play<L: Ledger + Send + Sync, R: Abort + Wait + Threads + Sync>(
+        rt: &R,
+        office: Office<MemoryDevice, L>,
+        seats: Vec<Seat<L>>,
+    ) -> Result<(), Fail> {
+        let Closing { clerk, audit } = closed(rt, office, seats);
+        assert_eq!(rt; clerk.history().len(), 0);
+        assert_eq!(rt; clerk.opening(), line(rt, [1, 1, 0], [1, 1, 0]));
+        assert_eq!(rt;
+            (clerk.opening_balance(1), clerk.opening_next()),
+            (Some(500), 1)
+        );
+        assert_eq!(rt; audit.last, clerk.opening());
+        Ok(())
+    }
+}
+
+// A device with one posted deposit, after a power failure.
+fn with_one_deposit(rt: &impl Abort, alloc: Global) -> Result<MemoryDevice, Fail> {
+    let device = formatted(alloc)?;
+    match Clerk::open(alloc, device, line(rt, [0, 0, 0], [1, 0, 0])) {
+        Ok(mut clerk) => {
+            assert_eq!(rt; clerk.turn(0, &[deposit(500)])?.posted, Some(0));
+            Ok(clerk.into_device())
+        }
+        Err((_, refusal)) => panic!(rt; "{refusal}"),
+    }
+}
+
+#[test]
+fn close_keeps_opening(rt: HostRuntime) -> Result<(), Fail> {
+    let alloc = rt.alloc();
+    let device = with_one_deposit(&rt, alloc)?;
+    act::<NobodyTookATurn, _>(&rt, alloc, device, line(&rt, [1, 1, 0], [1, 1, 0]))
+}
+
+struct SeatsThatLie;
+
+impl Scene for SeatsThatLie {
+    fn play<L: Ledger + Send + Sync, R: Abort + Wait + Threads + Sync>(
+        rt: &R,
+        office: Office<MemoryDevice, L>,
+        mut seats: Vec<Seat<L>>,
+    ) -> Result<(), Fail> {
+        let mut top = seats.pop().ok_or("the seat of station 1")?;
+        let mut bottom = seats.pop().ok_or("the seat of station 0")?;
+        assert_eq!(rt; office.turn(rt, &mut bottom, &[])?.index, 0);
+
+        // told that it isn't its turn after the one turn, when it was
+        top.denied = Some(1);
+        seats.push(bottom)?;
+        seats.push(top)?;
+        let (office, mut seats) = refused(rt, office, seats, CloseRefusal::ForeignSeat);
+
+        // told so after more turns than there were
+        let mut top = seats.pop().ok_or("the seat of station 1")?;
+        top.denied = Some(2);
+        seats.push(top)?;
+        let (office, mut seats) = refused(rt, office, seats, CloseRefusal::ForeignSeat);
+
+        // told so before the first one, as it was
+        let mut top = seats.pop().ok_or("the seat of station 1")?;
+        top.denied = Some(0);
+        seats.push(top)?;
+        assert_eq!(rt; closed(rt, office, seats).clerk.history().len(), 1);
+        Ok(())
+    }
+}
+
+#[test]
+fn a_seat_that_the_history_does_not_bear_out_is_foreign(rt: HostRuntime) -> Result<(), Fail> {
+    let alloc = rt.alloc();
+    act::<SeatsThatLie, _>(&rt, alloc, formatted(alloc)?, line(&rt, [0, 0], [1, 0]))
+}
+
+struct AnotherTurnInTheList;
+
+impl Scene for AnotherTurnInTheList {
+    fn play<L: Ledger + Send + Sync, R: Abort + Wait + Threads + Sync>(
+        rt: &R,
+        office: Office<MemoryDevice, L>,
+        mut seats: Vec<Seat<L>>,
+    ) -> Result<(), Fail> {
+        let top = seats.pop().ok_or("the seat of station 1")?;
+        let mut bottom = seats.pop().ok_or("the seat of station 0")?;
+        let turn = office.turn(rt, &mut bottom, &[deposit(5)])?;
+        let mut other = turn;
+        other.index = 1;
+        let Seat {
+            station,
+            mut turns,
+            denied,
+            share,
+        } = bottom;
+        assert!(rt; turns.pop() == Some(turn));
+        turns.push(other)?;
+        seats.push(Seat {
+            station,
+            turns,
+            denied,
+            share,
+        })?;
+        seats.push(top)?;
+        refused(rt, office, seats, CloseRefusal::ForeignSeat);
+        Ok(())
+    }
+}
+
+#[test]
+fn a_list_with_another_turn_is_foreign(rt: HostRuntime) -> Result<(), Fail> {
+    let alloc = rt.alloc();
+    act::<AnotherTurnInTheList, _>(&rt, alloc, formatted(alloc)?, line(&rt, [0, 0], [1, 0]))
+}

@@ -1,0 +1,66 @@
+//! What a seat is answered.
+
+use super::{Scene, act, deposit, formatted, line};
+use crate::{Closing, Ledger, Office, Rule, Seat, TurnRefusal};
+use sector_device::MemoryDevice;
+use std::process::Abort;
+use std::sync::Wait;
+use std::test::Fail;
+use std::thread::Threads;
+
+struct OneTurnAfterTheOther;
+
+impl Scene for OneTurnAfterTheOther {
+    fn play<L: Ledger + Send + Sync, R: Abort + Wait + Threads + Sync>(
+        rt: &R,
+        office: Office<MemoryDevice, L>,
+        mut seats: Vec<Seat<L>>,
+    ) -> Result<(), Fail> {
+        let mut top = seats.pop().ok_or("the seat of station 1")?;
+        let mut bottom = seats.pop().ok_or("the seat of station 0")?;
+        assert_eq!(rt; (bottom.station(), top.station()), (0, 1));
+        assert_eq!(rt; (bottom.turns().len(), bottom.denied()), (0, None));
+
+        assert_eq!(rt;
+            office.turn(rt, &mut top, &[]),
+            Err(TurnRefusal::NotPrivileged)
+        );
+        assert_eq!(rt; top.denied(), Some(0));
+        let first = office.turn(rt, &mut bottom, &[deposit(5)])?;
+        assert_eq!(rt;
+            (first.index, first.rule, first.posted),
+            (0, Rule::Bottom, Some(0))
+        );
+        assert_eq!(rt;
+            office.turn(rt, &mut bottom, &[]),
+            Err(TurnRefusal::NotPrivileged)
+        );
+        assert_eq!(rt; bottom.denied(), Some(1));
+        let second = office.turn(rt, &mut top, &[])?;
+        assert_eq!(rt;
+            (second.index, second.rule, second.posted),
+            (1, Rule::Top, None)
+        );
+        assert!(rt; bottom.turns() == [first].as_slice() && top.turns() == [second].as_slice());
+
+        // in whatever order the seats are handed in
+        seats.push(top)?;
+        seats.push(bottom)?;
+        match office.close(seats) {
+            Ok(Closing { clerk, audit }) => {
+                assert!(rt; clerk.history() == [first, second].as_slice());
+                assert_eq!(rt; clerk.ledger().balance(1), Some(5));
+                assert_eq!(rt; audit.last, line(rt, [1, 1], [1, 0]));
+                assert_eq!(rt; audit.first_legitimate, Some(0));
+                Ok(())
+            }
+            Err((_, _, refusal)) => panic!(rt; "{refusal}"),
+        }
+    }
+}
+
+#[test]
+fn turns_are_listed_and_refusals_noted(rt: HostRuntime) -> Result<(), Fail> {
+    let alloc = rt.alloc();
+    act::<OneTurnAfterTheOther, _>(&rt, alloc, formatted(alloc)?, line(&rt, [0, 0], [1, 0]))
+}
