@@ -1,12 +1,11 @@
 -- Each move that leaves two marks or more lowers the energy.
-use Rattle.std.proofs.Common.{◌≡◌, ℕ, zero, suc, ◌+◌, ◌*◌, ◌≤◌, ◌⊎◌, Bool, true, false, List, [], ◌∷◌, ◌++◌, length, refl, sym, ap, ◌∙◌, arith, inl, inr}
+use Rattle.std.proofs.Common.{◌≡◌, ℕ, suc, ◌+◌, ◌*◌, ◌≤◌, Bool, true, false, List, [], ◌∷◌, ◌++◌, length, refl, ap, ◌∙◌, arith, inl, inr}
 use Rattle.std.proofs.Math.Nat.{mul-le-mul_left}
 use Rattle.std.proofs.lemmas.Bool.{cases_lt}
 use Rattle.sweep_auditor.proofs.Rows.{Cell, Rise, Fall, Bare, count, Onto, leaves_fall, leaves_none, onto_up, onto_low, onto_fall, Under, under_rise, falls_on, vanishes, AtTop, turns, ends, Change, bottom, raise, lower, top}
-use Rattle.sweep_auditor.proofs.Worth.{free, some, low, worth, whole, last, pairs, energy, some-most, some-least, low-most, worth-near, worth-far, last-most, last-marked, last-bare, pairs-more, count-append, last-append, whole-bare, Lowers, whole-falls}
+use Rattle.sweep_auditor.proofs.Energy.{some, low, worth, whole, last, pairs, energy, some-most, some-least, low-most, worth-near, last-most, last-marked, last-bare, pairs-more, count-append, last-append, whole-bare, Lowers, whole-falls}
 
 -- ---- where the lowest mark stands below the two boundaries: what the change does to their worth
-
 
 -- a rise over a free boundary
 over_up : (up : Bool) (back : List Cell) → Lowers 0 1 0 (Bare true ∷ Rise true ∷ back) (Rise up ∷ Bare true ∷ back)

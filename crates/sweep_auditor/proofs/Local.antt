@@ -1,5 +1,5 @@
 -- A move of the line changes its row at the station's own two boundaries.
-use Rattle.std.proofs.Common.{◌≡◌, ◌≢◌, ℕ, zero, suc, ◌+◌, ◌-◌, ◌<◌, ◌≤◌, Bool, true, false, cond, not, ◌&&◌, List, [], ◌∷◌, ◌++◌, refl, sym, ap, ◌∙◌, arith, inl, inr, get_or-set_same, get_or-set_other, zero-add, add-zero, length-set, subst}
+use Rattle.std.proofs.Common.{◌≡◌, ◌≢◌, ℕ, zero, suc, ◌+◌, ◌-◌, ◌<◌, ◌≤◌, Bool, true, false, cond, not, ◌&&◌, List, [], ◌∷◌, ◌++◌, refl, sym, ap, ◌∙◌, arith, inl, inr, get_or-set_same, get_or-set_other, zero-add, length-set, subst}
 use Rattle.std.specs.Bool.{beq}
 use Rattle.std.proofs.lemmas.Bool.{and_parts, cases_lt, eqb-true, false≢true, not-true}
 use Rattle.std.proofs.lemmas.List.FromFn.{length-map-range_with_len}
@@ -7,7 +7,7 @@ use Rattle.four_state.specs.Configuration.{Configuration, IsConfiguration, stati
 use Rattle.four_state.specs.Privilege.{IsPrivilege}
 use Rattle.four_state.specs.Motion.{moved, x_flipped}
 use Rattle.four_state.specs.MotionLaws.{middle_stands}
-use Rattle.four_state.specs.Marks.{Mark, Rising, Falling, Still, mark_at, marks_from, marks_of}
+use Rattle.four_state.specs.Marks.{Mark, Rising, Falling, Still, marks_of}
 use Rattle.four_state.specs.PrivilegeLaws.{up_above}
 use Rattle.four_state.specs.declared.rules.Rule.{Rule}
 use Rattle.four_state.specs.declared.rules.Rule.TheVariants.{Bottom, Top, Raise, Lower}

@@ -1,12 +1,19 @@
 //! What every run has, each the contract of a function with an empty body. No code stands in
 //! these statements: they speak of configurations, moves and runs alone, for lines of any length.
 
-ghost use Rattle.sweep_auditor.specs.Stabilization.{Stabilizes, StabilizesInCube, SweepsFromLegitimate};
+ghost use Rattle.sweep_auditor.specs.Stabilization.{Stabilizes, StabilizesFromAny, StabilizesInCube, SweepsFromLegitimate};
 
-/// With N for the number of the top station: every run of 3·N·(N - 1) moves contains a legitimate
-/// configuration, whichever privilege moved each time.
+/// With N for the number of the top station and k for the number of privileges at the start: every
+/// run of (k - 1)·(2·N - k) + 1 moves contains a legitimate configuration, whichever privilege moved
+/// each time.
 pub fn stabilizes()
     ensures { Stabilizes }
+{}
+
+/// From any start, every run of N² - N + 1 moves contains a legitimate configuration. From N = 3 on
+/// there are starts and runs of N² - N moves that contain none.
+pub fn stabilizes_from_any()
+    ensures { StabilizesFromAny }
 {}
 
 /// Every run of N³ - 1 moves contains a legitimate configuration.
