@@ -21,7 +21,7 @@ abbrev mark : Bool → Bool → Bool → Bool → Mark
 mark a b u v = cond (differ a b) Rising (cond (not (differ a b) && (u && not v)) Falling Still)
 
 -- the same with the bit up of the station above it
-abbrev cell : Bool → Bool → Bool → Bool → Cell
+abbrev pub cell : Bool → Bool → Bool → Bool → Cell
 cell a b u v = cell_of (mark a b u v) v
 
 mark-differ : (a b u v : Bool) → differ b a ≡ true → mark a b u v ≡ Rising
@@ -126,21 +126,21 @@ cells_beyond c d s (suc n) a h l =
     ap (λ (m : Cell). m ∷ cells_from d (a + 1) n) first ∙ ap (λ (ms : List Cell). cell_at c a ∷ ms) rest
 
 -- the row round two boundaries, from b on
-cells_round : (c : Configuration) (b q : ℕ) → stations c ≡ b + q + 3 → cells_of c ≡ cells_from c 0 b ++ cell_at c b ∷ cell_at c (b + 1) ∷ cells_from c (b + 1 + 1) q
+pub cells_round : (c : Configuration) (b q : ℕ) → stations c ≡ b + q + 3 → cells_of c ≡ cells_from c 0 b ++ cell_at c b ∷ cell_at c (b + 1) ∷ cells_from c (b + 1 + 1) q
 cells_round c b q e =
     let counted : stations c - 1 ≡ b + suc (suc q) = omega arith in
     let parts = map_range-add (cell_at c) b (suc (suc q)) 0 in
     ap (cells_from c 0) counted ∙ rw zero-add at parts
 
 -- the row below and at the top boundary
-cells_to_top : (c : Configuration) (b : ℕ) → stations c ≡ b + 2 → cells_of c ≡ cells_from c 0 b ++ cell_at c b ∷ []
+pub cells_to_top : (c : Configuration) (b : ℕ) → stations c ≡ b + 2 → cells_of c ≡ cells_from c 0 b ++ cell_at c b ∷ []
 cells_to_top c b e =
     let counted : stations c - 1 ≡ b + suc zero = omega arith in
     let parts = map_range-add (cell_at c) b (suc zero) 0 in
     ap (cells_from c 0) counted ∙ rw zero-add at parts
 
 -- the bottom boundary and those above
-cells_from_bottom : (c : Configuration) (q : ℕ) → stations c ≡ q + 2 → cells_of c ≡ cell_at c 0 ∷ cells_from c 1 q
+pub cells_from_bottom : (c : Configuration) (q : ℕ) → stations c ≡ q + 2 → cells_of c ≡ cell_at c 0 ∷ cells_from c 1 q
 cells_from_bottom c q e =
     let counted : stations c - 1 ≡ suc q = omega arith in
     ap (cells_from c 0) counted
@@ -193,33 +193,38 @@ moved_elsewhere c s Lower = record {
 pub x_flipped_at : (c : Configuration) (s : ℕ) → s < stations c → x_at (record { x = x_flipped c s; up = c.up }) s ≡ not (x_at c s)
 x_flipped_at c s l = get_or-set_same c.x s (not (x_at c s)) false l
 
-raise_change : (c : Configuration) (b q : ℕ) → IsConfiguration c → stations c ≡ b + q + 3 → differ (x_at c (b + 1)) (x_at c b) ≡ true → Change (b + 1) (cells_of c) (cells_of (moved c (b + 1) Raise))
-raise_change c b q h e p =
+pub raise_row : (c : Configuration) (b q : ℕ) → IsConfiguration c → stations c ≡ b + q + 3 → differ (x_at c (b + 1)) (x_at c b) ≡ true → cells_of (moved c (b + 1) Raise) ≡ cells_from c 0 b ++ Bare true ∷ cell (not (x_at c (b + 1))) (x_at c (b + 1 + 1)) true (up_at c (b + 1 + 1)) ∷ cells_from c (b + 1 + 1) q
+raise_row c b q h e p =
     let d = moved c (b + 1) Raise in
     let same = moved_elsewhere c (b + 1) Raise in
     let as_long = h.as_long in
     let long = length-set c.x (b + 1) (not (x_at c (b + 1))) in
     let front = cells_from c 0 b in
     let back = cells_from c (b + 1 + 1) q in
-    let up = up_at c (b + 1) in
     let x_here = x_flipped_at c (b + 1) (omega arith) in
     let up_here : up_at d (b + 1) ≡ true = get_or-set_same c.up (b + 1) true false (omega arith) in
     let x_below = same.x_same b (λ i. absurd (omega arith)) in
     let up_below = same.up_same b (λ i. absurd (omega arith)) in
     let x_above = same.x_same (b + 1 + 1) (λ i. absurd (omega arith)) in
     let up_above = same.up_same (b + 1 + 1) (λ i. absurd (omega arith)) in
-    let was_below : cell_at c b ≡ Rise up = ap (λ (m : Mark). cell_of m up) (mark-differ (x_at c b) (x_at c (b + 1)) (up_at c b) (up_at c (b + 1)) p) in
     let now_below : cell_at d b ≡ Bare true =
     cell_is d b (x_at c b) (not (x_at c (b + 1))) (up_at c b) true x_below x_here up_below up_here ∙ ap (λ (m : Mark). cell_of m true) (mark-raised (x_at c b) (x_at c (b + 1)) (up_at c b) p) in
     let now_here = cell_is d (b + 1) (not (x_at c (b + 1))) (x_at c (b + 1 + 1)) true (up_at c (b + 1 + 1)) x_here x_above up_here up_above in
-    let onto = raised_onto (x_at c (b + 1)) (x_at c (b + 1 + 1)) (up_at c (b + 1)) (up_at c (b + 1 + 1)) in
-    raise front back up (cell_at c (b + 1)) (cell_at d (b + 1)) (subst (Onto up (cell_at c (b + 1))) (sym now_here) onto)
-    (ap (λ k. k + 1) (sym (length-map-range_with_len (cell_at c) 0 b)))
-    (cells_round c b q e ∙ ap (λ (m : Cell). front ++ m ∷ cell_at c (b + 1) ∷ back) was_below)
-    (later_round c d b q same (long ∙ e) ∙ ap (λ (m : Cell). front ++ m ∷ cell_at d (b + 1) ∷ back) now_below)
+    later_round c d b q same (long ∙ e) ∙ ap (λ (m : Cell). front ++ m ∷ cell_at d (b + 1) ∷ back) now_below
+    ∙ ap (λ (m : Cell). front ++ Bare true ∷ m ∷ back) now_here
 
-lower_change : (c : Configuration) (b q : ℕ) → IsConfiguration c → stations c ≡ b + q + 3 → beq (x_at c (b + 1)) (x_at c (b + 1 + 1)) ≡ true → up_at c (b + 1) ≡ true → up_at c (b + 1 + 1) ≡ false → Change (b + 1) (cells_of c) (cells_of (moved c (b + 1) Lower))
-lower_change c b q h e p up above =
+raise_change : (c : Configuration) (b q : ℕ) → IsConfiguration c → stations c ≡ b + q + 3 → differ (x_at c (b + 1)) (x_at c b) ≡ true → Change (b + 1) (cells_of c) (cells_of (moved c (b + 1) Raise))
+raise_change c b q h e p =
+    let front = cells_from c 0 b in
+    let back = cells_from c (b + 1 + 1) q in
+    let up = up_at c (b + 1) in
+    let was_below : cell_at c b ≡ Rise up = ap (λ (m : Mark). cell_of m up) (mark-differ (x_at c b) (x_at c (b + 1)) (up_at c b) up p) in
+    raise front back up _ _ (raised_onto (x_at c (b + 1)) (x_at c (b + 1 + 1)) up (up_at c (b + 1 + 1)))
+    (ap (λ k. k + 1) (sym (length-map-range_with_len (cell_at c) 0 b)))
+    (cells_round c b q e ∙ ap (λ (m : Cell). front ++ m ∷ cell_at c (b + 1) ∷ back) was_below) (raise_row c b q h e p)
+
+pub lower_row : (c : Configuration) (b q : ℕ) → IsConfiguration c → stations c ≡ b + q + 3 → beq (x_at c (b + 1)) (x_at c (b + 1 + 1)) ≡ true → up_at c (b + 1 + 1) ≡ false → cells_of (moved c (b + 1) Lower) ≡ cells_from c 0 b ++ cell (x_at c b) (x_at c (b + 1)) (up_at c b) false ∷ Bare false ∷ cells_from c (b + 1 + 1) q
+lower_row c b q h e p above =
     let d = moved c (b + 1) Lower in
     let same = moved_elsewhere c (b + 1) Lower in
     let as_long = h.as_long in
@@ -228,52 +233,65 @@ lower_change c b q h e p up above =
     let up_here : up_at d (b + 1) ≡ false = get_or-set_same c.up (b + 1) false false (omega arith) in
     let up_below = same.up_same b (λ i. absurd (omega arith)) in
     let up_above : up_at d (b + 1 + 1) ≡ false = same.up_same (b + 1 + 1) (λ i. absurd (omega arith)) ∙ above in
-    let was_here : cell_at c (b + 1) ≡ Fall =
-    ap (λ (m : Mark). cell_of m (up_at c (b + 1 + 1))) (mark-fall (x_at c (b + 1)) (x_at c (b + 1 + 1)) (up_at c (b + 1)) (up_at c (b + 1 + 1)) p up above) in
-    let was_below = cell_is c b (x_at c b) (x_at c (b + 1)) (up_at c b) true refl refl refl up in
     let now_below = cell_is d b (x_at c b) (x_at c (b + 1)) (up_at c b) false refl refl up_below up_here in
     let now_here : cell_at d (b + 1) ≡ Bare false =
     cell_is d (b + 1) (x_at c (b + 1)) (x_at c (b + 1 + 1)) false false refl refl up_here up_above ∙ ap (λ (m : Mark). cell_of m false) (mark-lowered (x_at c (b + 1)) (x_at c (b + 1 + 1)) false p) in
-    let under = lowered_under (count front) (x_at c b) (x_at c (b + 1)) (up_at c b) (marked_below c b h) in
-    lower front back (cell_at c b) (cell_at d b) (rw (was_below, now_below) under)
-    (ap (λ k. k + 1) (sym (length-map-range_with_len (cell_at c) 0 b)))
-    (cells_round c b q e ∙ ap (λ (m : Cell). front ++ cell_at c b ∷ m ∷ back) was_here)
-    (later_round c d b q same e ∙ ap (λ (m : Cell). front ++ cell_at d b ∷ m ∷ back) now_here)
+    later_round c d b q same e ∙ ap (λ (m : Cell). front ++ m ∷ cell_at d (b + 1) ∷ back) now_below
+    ∙ ap (λ (m : Cell). front ++ cell (x_at c b) (x_at c (b + 1)) (up_at c b) false ∷ m ∷ back) now_here
 
-bottom_change : (c : Configuration) (q : ℕ) → IsConfiguration c → stations c ≡ q + 2 → beq (x_at c 0) (x_at c 1) ≡ true → up_at c 1 ≡ false → Change 0 (cells_of c) (cells_of (moved c 0 Bottom))
-bottom_change c q h e p above =
+lower_change : (c : Configuration) (b q : ℕ) → IsConfiguration c → stations c ≡ b + q + 3 → beq (x_at c (b + 1)) (x_at c (b + 1 + 1)) ≡ true → up_at c (b + 1) ≡ true → up_at c (b + 1 + 1) ≡ false → Change (b + 1) (cells_of c) (cells_of (moved c (b + 1) Lower))
+lower_change c b q h e p up above =
+    let front = cells_from c 0 b in
+    let back = cells_from c (b + 1 + 1) q in
+    let was_here : cell_at c (b + 1) ≡ Fall =
+    ap (λ (m : Mark). cell_of m (up_at c (b + 1 + 1))) (mark-fall (x_at c (b + 1)) (x_at c (b + 1 + 1)) (up_at c (b + 1)) (up_at c (b + 1 + 1)) p up above) in
+    let was_below = cell_is c b (x_at c b) (x_at c (b + 1)) (up_at c b) true refl refl refl up in
+    lower front back _ _ (lowered_under (count front) (x_at c b) (x_at c (b + 1)) (up_at c b) (marked_below c b h))
+    (ap (λ k. k + 1) (sym (length-map-range_with_len (cell_at c) 0 b)))
+    (cells_round c b q e ∙ ap (λ (m : Cell). front ++ m ∷ cell_at c (b + 1) ∷ back) was_below
+    ∙ ap (λ (m : Cell). front ++ cell (x_at c b) (x_at c (b + 1)) (up_at c b) true ∷ m ∷ back) was_here) (lower_row c b q h e p above)
+
+pub bottom_row : (c : Configuration) (q : ℕ) → stations c ≡ q + 2 → beq (x_at c 0) (x_at c 1) ≡ true → up_at c 1 ≡ false → cells_of (moved c 0 Bottom) ≡ Rise false ∷ cells_from c 1 q
+bottom_row c q e p above =
     let d = moved c 0 Bottom in
     let same = moved_elsewhere c 0 Bottom in
     let long = length-set c.x 0 (not (x_at c 0)) in
-    let back = cells_from c 1 q in
     let x_here = x_flipped_at c 0 (omega arith) in
     let x_above = same.x_same 1 (λ i. absurd (omega arith)) in
-    let was : cell_at c 0 ≡ Fall = ap (λ (m : Mark). cell_of m (up_at c 1)) (mark-fall (x_at c 0) (x_at c 1) (up_at c 0) (up_at c 1) p h.up_at_the_bottom above) in
     let now : cell_at d 0 ≡ Rise false =
     cell_is d 0 (not (x_at c 0)) (x_at c 1) (up_at c 0) false x_here x_above refl above ∙ ap (λ (m : Mark). cell_of m false) (mark-bottom (x_at c 0) (x_at c 1) (up_at c 0) false p) in
-    let beyond = cells_beyond c d 0 q 1 same (omega arith) in
-    bottom back refl (cells_from_bottom c q e ∙ ap (λ (m : Cell). m ∷ back) was)
-    (cells_from_bottom d q (long ∙ e) ∙ ap (λ (m : Cell). m ∷ cells_from d 1 q) now ∙ ap (λ (ms : List Cell). Rise false ∷ ms) beyond)
+    cells_from_bottom d q (long ∙ e) ∙ ap (λ (m : Cell). m ∷ cells_from d 1 q) now
+    ∙ ap (λ (ms : List Cell). Rise false ∷ ms) (cells_beyond c d 0 q 1 same (omega arith))
 
-top_change : (c : Configuration) (b : ℕ) → IsConfiguration c → stations c ≡ b + 2 → differ (x_at c (b + 1)) (x_at c b) ≡ true → Change (b + 1) (cells_of c) (cells_of (moved c (b + 1) Top))
-top_change c b h e p =
+bottom_change : (c : Configuration) (q : ℕ) → IsConfiguration c → stations c ≡ q + 2 → beq (x_at c 0) (x_at c 1) ≡ true → up_at c 1 ≡ false → Change 0 (cells_of c) (cells_of (moved c 0 Bottom))
+bottom_change c q h e p above =
+    let back = cells_from c 1 q in
+    let was : cell_at c 0 ≡ Fall = ap (λ (m : Mark). cell_of m (up_at c 1)) (mark-fall (x_at c 0) (x_at c 1) (up_at c 0) (up_at c 1) p h.up_at_the_bottom above) in
+    bottom back refl (cells_from_bottom c q e ∙ ap (λ (m : Cell). m ∷ back) was) (bottom_row c q e p above)
+
+top_low : (c : Configuration) (b : ℕ) → IsConfiguration c → stations c ≡ b + 2 → up_at c (b + 1) ≡ false
+top_low c b h e = let at_top : stations c - 1 ≡ b + 1 = omega arith in rw at_top at h.not_up_at_the_top
+
+pub top_row : (c : Configuration) (b : ℕ) → IsConfiguration c → stations c ≡ b + 2 → cells_of (moved c (b + 1) Top) ≡ cells_from c 0 b ++ cell (x_at c b) (not (x_at c (b + 1))) (up_at c b) false ∷ []
+top_row c b h e =
     let d = moved c (b + 1) Top in
     let same = moved_elsewhere c (b + 1) Top in
     let long = length-set c.x (b + 1) (not (x_at c (b + 1))) in
     let front = cells_from c 0 b in
-    let at_top : stations c - 1 ≡ b + 1 = omega arith in
-    let low : up_at c (b + 1) ≡ false = rw at_top at h.not_up_at_the_top in
     let x_here = x_flipped_at c (b + 1) (omega arith) in
     let x_below = same.x_same b (λ i. absurd (omega arith)) in
-    let was : cell_at c b ≡ Rise false =
-    cell_is c b (x_at c b) (x_at c (b + 1)) (up_at c b) false refl refl refl low ∙ ap (λ (m : Mark). cell_of m false) (mark-differ (x_at c b) (x_at c (b + 1)) (up_at c b) false p) in
-    let now = cell_is d b (x_at c b) (not (x_at c (b + 1))) (up_at c b) false x_below x_here refl low in
-    let turn = flipped_top (x_at c b) (x_at c (b + 1)) (up_at c b) p in
+    let now = cell_is d b (x_at c b) (not (x_at c (b + 1))) (up_at c b) false x_below x_here refl (top_low c b h e) in
     let before = cells_before c d (b + 1) b 0 same (omega arith) in
-    top front (cell_at d b) (subst AtTop (sym now) turn)
+    cells_to_top d b (long ∙ e) ∙ ap (λ (ms : List Cell). ms ++ cell_at d b ∷ []) before ∙ ap (λ (m : Cell). front ++ m ∷ []) now
+
+top_change : (c : Configuration) (b : ℕ) → IsConfiguration c → stations c ≡ b + 2 → differ (x_at c (b + 1)) (x_at c b) ≡ true → Change (b + 1) (cells_of c) (cells_of (moved c (b + 1) Top))
+top_change c b h e p =
+    let front = cells_from c 0 b in
+    let was : cell_at c b ≡ Rise false =
+    cell_is c b (x_at c b) (x_at c (b + 1)) (up_at c b) false refl refl refl (top_low c b h e) ∙ ap (λ (m : Mark). cell_of m false) (mark-differ (x_at c b) (x_at c (b + 1)) (up_at c b) false p) in
+    top front _ (flipped_top (x_at c b) (x_at c (b + 1)) (up_at c b) p)
     (ap (λ k. k + 1) (sym (length-map-range_with_len (cell_at c) 0 b)))
-    (cells_to_top c b e ∙ ap (λ (m : Cell). front ++ m ∷ []) was)
-    (cells_to_top d b (long ∙ e) ∙ ap (λ (ms : List Cell). ms ++ cell_at d b ∷ []) before)
+    (cells_to_top c b e ∙ ap (λ (m : Cell). front ++ m ∷ []) was) (top_row c b h e)
 
 -- ---- each move
 
