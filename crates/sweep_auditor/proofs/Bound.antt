@@ -18,7 +18,7 @@ use Rattle.sweep_auditor.proofs.Falls.{Change-falls}
 use Rattle.sweep_auditor.proofs.Local.{Change-moved}
 
 -- as many privileges are present as there are marks in the row
-counted : (c : Configuration) → IsConfiguration c → count (cells_of c) ≡ length (privileges_of c)
+pub counted : (c : Configuration) → IsConfiguration c → count (cells_of c) ≡ length (privileges_of c)
 counted c h =
     let marks = count-cells_from c (stations c - 1) 0 in
     let privileges = length-privileges_of c h in

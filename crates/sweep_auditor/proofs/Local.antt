@@ -79,7 +79,7 @@ lowered_under below false false true h = falls_on
 lowered_under below false false false h = vanishes (h refl)
 
 -- the bottom station flips its x
-mark-bottom : (a b u v : Bool) → beq a b ≡ true → mark (not a) b u v ≡ Rising
+pub mark-bottom : (a b u v : Bool) → beq a b ≡ true → mark (not a) b u v ≡ Rising
 mark-bottom true true u v h = refl
 mark-bottom false false u v h = refl
 mark-bottom true false u v h = absurd (cc)
