@@ -126,7 +126,7 @@ stabilizes c moves h run long =
 
 -- ---- the bounds that don't speak of the start's privileges
 
-square_is : (n : ℕ) → n ^ 2 ≡ n * n
+pub square_is : (n : ℕ) → n ^ 2 ≡ n * n
 square_is n =
     let once : n ^ 1 ≡ n = pow-suc n 0 ∙ ap (λ k. k * n) (pow-zero n) ∙ omega arith in
     pow-suc n 1 ∙ ap (λ k. k * n) once

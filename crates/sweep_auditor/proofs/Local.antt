@@ -153,7 +153,7 @@ later_round c d b q h e =
     cells_round d b q e ∙ ap (λ (front : List Cell). front ++ cell_at d b ∷ cell_at d (b + 1) ∷ cells_from d (b + 1 + 1) q) before
     ∙ ap (λ (back : List Cell). cells_from c 0 b ++ cell_at d b ∷ cell_at d (b + 1) ∷ back) beyond
 
-cell_is : (d : Configuration) (i : ℕ) (a b u v : Bool) → x_at d i ≡ a → x_at d (i + 1) ≡ b → up_at d i ≡ u → up_at d (i + 1) ≡ v → cell_at d i ≡ cell a b u v
+pub cell_is : (d : Configuration) (i : ℕ) (a b u v : Bool) → x_at d i ≡ a → x_at d (i + 1) ≡ b → up_at d i ≡ u → up_at d (i + 1) ≡ v → cell_at d i ≡ cell a b u v
 cell_is d i a b u v p q r t =
     ap (λ (z : Bool). cell z (x_at d (i + 1)) (up_at d i) (up_at d (i + 1))) p ∙ ap (λ (z : Bool). cell a z (up_at d i) (up_at d (i + 1))) q
     ∙ ap (λ (z : Bool). cell a b z (up_at d (i + 1))) r ∙ ap (cell a b u) t

@@ -1,8 +1,7 @@
 -- The longest run: a start, and N² - N moves from it that pass no legitimate configuration.
-use Rattle.std.proofs.Common.{◌≡◌, ◌≢◌, ℕ, zero, suc, ◌+◌, ◌-◌, ◌*◌, ◌^◌, ◌<◌, ◌≤◌, Bool, true, false, not, ◌&&◌, List, [], ◌∷◌, ◌++◌, map, length, refl, sym, ap, ◌∙◌, subst, arith, append_assoc}
+use Rattle.std.proofs.Common.{◌≡◌, ℕ, zero, suc, ◌+◌, ◌*◌, ◌≤◌, Bool, true, false, List, [], ◌∷◌, ◌++◌, refl, sym, ap, ◌∙◌, arith, append_assoc}
 use Rattle.std.proofs.lemmas.List.{append-nil}
-use Rattle.four_state.specs.Configuration.{Configuration, IsConfiguration, stations, x_at, up_at, differ}
-use Rattle.sweep_auditor.proofs.Rows.{Cell, Rise, Fall, Bare, cell_at, cells_from, cells_of, count, map_range-add}
+use Rattle.sweep_auditor.proofs.Rows.{Cell, Rise, Fall, Bare, count}
 use Rattle.sweep_auditor.proofs.Energy.{count-append}
 use Rattle.sweep_auditor.proofs.Played.{above, Lasts, lasts_here, lasts_more, allows_raise, allows_sink, allows_fade, allows_turn, allows_bottom}
 

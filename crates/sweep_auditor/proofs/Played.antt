@@ -1,11 +1,11 @@
 -- Moves that a row allows, and how long a line with that row can go on without a legitimate configuration.
-use Rattle.std.proofs.Common.{◌≡◌, ℕ, zero, suc, ◌+◌, ◌-◌, ◌<◌, ◌≤◌, Bool, true, false, cond, not, ◌&&◌, List, [], ◌∷◌, ◌++◌, length, take, drop, get_or, refl, sym, ap, ◌∙◌, subst, arith, length-append, zero-add}
+use Rattle.std.proofs.Common.{◌≡◌, ℕ, zero, suc, ◌+◌, ◌-◌, ◌<◌, ◌≤◌, Bool, true, false, not, ◌&&◌, List, [], ◌∷◌, ◌++◌, length, take, drop, get_or, refl, sym, ap, ◌∙◌, subst, arith, length-append, zero-add}
 use Rattle.std.specs.Bool.{beq}
 use Rattle.std.proofs.lemmas.Bool.{and_parts, not-true, false≢true}
 use Rattle.std.proofs.lemmas.List.{take_at, append_cancel_left}
 use Rattle.std.proofs.lemmas.List.FromFn.{length-map-range_with_len}
 use Rattle.four_state.specs.Configuration.{Configuration, IsConfiguration, stations, x_at, up_at, differ}
-use Rattle.four_state.specs.Privilege.{IsPrivilege, IsLegitimate, privileges_of}
+use Rattle.four_state.specs.Privilege.{IsPrivilege}
 use Rattle.four_state.specs.Motion.{moved}
 use Rattle.four_state.specs.MotionLaws.{IsConfiguration-moved}
 use Rattle.four_state.specs.PrivilegeLaws.{guard-bottom, guard-top, guard-raise, guard-lower}
@@ -172,7 +172,7 @@ allows_raise front back v w c h e =
     record {
       privilege = guard-raise c b (omega arith) ∙ p;
       row = raise_row c b q h long (differ-turned _ _ p) ∙ ap (λ (m : Cell). cells_from c 0 b ++ Bare true ∷ m ∷ cells_from c (b + 1 + 1) q) now
-      ∙ ap (λ (l : List Cell). l ++ Bare true ∷ Rise w ∷ cells_from c (b + 1 + 1) q) r.front_is ∙ ap (λ (l : List Cell). front ++ Bare true ∷ Rise w ∷ l) r.back_is;
+          ∙ ap (λ (l : List Cell). l ++ Bare true ∷ Rise w ∷ cells_from c (b + 1 + 1) q) r.front_is ∙ ap (λ (l : List Cell). front ++ Bare true ∷ Rise w ∷ l) r.back_is;
     }
 
 allows_lower : (front back : List Cell) (x y : Cell) (c : Configuration) → IsConfiguration c → cells_of c ≡ front ++ x ∷ Fall ∷ back → cell (x_at c (length front)) (x_at c (length front + 1)) (up_at c (length front)) false ≡ y → Allows c (length front + 1) Lower (front ++ y ∷ Bare false ∷ back)
@@ -188,8 +188,8 @@ allows_lower front back x y c h e now =
     record {
       privilege = guard-lower c b room ∙ p;
       row = lower_row c b q h long (beq-same _ _ (not-true _ parts.0)) (not-true _ ups.1)
-      ∙ ap (λ (m : Cell). cells_from c 0 b ++ m ∷ Bare false ∷ cells_from c (b + 1 + 1) q) now
-      ∙ ap (λ (l : List Cell). l ++ y ∷ Bare false ∷ cells_from c (b + 1 + 1) q) r.front_is ∙ ap (λ (l : List Cell). front ++ y ∷ Bare false ∷ l) r.back_is;
+          ∙ ap (λ (m : Cell). cells_from c 0 b ++ m ∷ Bare false ∷ cells_from c (b + 1 + 1) q) now
+          ∙ ap (λ (l : List Cell). l ++ y ∷ Bare false ∷ cells_from c (b + 1 + 1) q) r.front_is ∙ ap (λ (l : List Cell). front ++ y ∷ Bare false ∷ l) r.back_is;
     }
 
 -- the bit up of the station below two boundaries

@@ -1,6 +1,7 @@
 //! What every run has, each the contract of a function with an empty body. No code stands in
 //! these statements: they speak of configurations, moves and runs alone, for lines of any length.
 
+ghost use Rattle.sweep_auditor.specs.Sharpness.{NoFewerMoves};
 ghost use Rattle.sweep_auditor.specs.Stabilization.{Stabilizes, StabilizesFromAny, StabilizesInCube, SweepsFromLegitimate};
 
 /// With N for the number of the top station and k for the number of privileges at the start: every
@@ -10,10 +11,15 @@ pub fn stabilizes()
     ensures { Stabilizes }
 {}
 
-/// From any start, every run of N² - N + 1 moves contains a legitimate configuration. From N = 3 on
-/// there are starts and runs of N² - N moves that contain none.
+/// From any start, every run of N² - N + 1 moves contains a legitimate configuration.
 pub fn stabilizes_from_any()
     ensures { StabilizesFromAny }
+{}
+
+/// From N = 3 on no fewer moves are enough: there is a start and a run of N² - N moves that contains
+/// no legitimate configuration.
+pub fn no_fewer_moves()
+    ensures { NoFewerMoves }
 {}
 
 /// Every run of N³ - 1 moves contains a legitimate configuration.
