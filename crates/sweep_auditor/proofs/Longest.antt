@@ -1,4 +1,4 @@
--- The longest run: a start, and N² - N moves from it that pass no legitimate configuration.
+-- The longest run from the rows of the worst starts, none of whose configurations is legitimate.
 use Rattle.std.proofs.Common.{◌≡◌, ℕ, zero, suc, ◌+◌, ◌*◌, ◌≤◌, Bool, true, false, List, [], ◌∷◌, ◌++◌, refl, sym, ap, ◌∙◌, arith, append_assoc}
 use Rattle.std.proofs.lemmas.List.{append-nil}
 use Rattle.sweep_auditor.proofs.Rows.{Cell, Rise, Fall, Bare, count}
@@ -37,9 +37,13 @@ two_marks front back a b = let parts = count-append front back in omega arith
 count-pushed : (front : List Cell) (cell : Cell) → 1 ≤ count front → 1 ≤ count (front ++ cell ∷ [])
 count-pushed front cell some = let parts = count-append front (cell ∷ []) in omega arith
 
-count-many : (n : ℕ) → count (many n (Rise true)) ≡ n
+pub count-many : (n : ℕ) → count (many n (Rise true)) ≡ n
 count-many zero = refl
 count-many (suc n) = let rest = count-many n in omega arith
+
+count-free : (n : ℕ) → count (many n (Bare false)) ≡ 0
+count-free zero = refl
+count-free (suc n) = count-free n
 
 -- the highest U goes up to the top
 climbs : (q number : ℕ) (front : List Cell) → 1 ≤ count front → Lasts (front ++ (many q (Bare true) ++ Rise false ∷ [])) number → Lasts (front ++ Rise false ∷ many q (Bare false)) (number + q)
@@ -146,13 +150,24 @@ last_two p =
     let counted : suc p + suc p + 1 ≡ 1 + suc p + suc p = omega arith in
     rw counted upper
 
--- with i + 2 boundaries, and i at least 1
-pub longest_row : (i p : ℕ) → i ≡ suc p → Lasts (Fall ∷ (many i (Rise true) ++ Rise false ∷ [])) ((i + 2) * (i + 1))
-longest_row i p e =
-    let final : Lasts (stage 0 i) (i + i + 1) = rw e (last_two p) in
-    let room : 0 + i ≡ i = omega arith in
-    let all = all_less i 0 (i + i + 1) (rw room final) in
-    let parts = count-append (many i (Rise true)) (Rise false ∷ []) in
+-- the start: a D at the bottom, i + 1 U's above it, and q free boundaries above those
+abbrev pub long_row : ℕ → ℕ → List Cell
+long_row i q = Fall ∷ (many i (Rise true) ++ Rise false ∷ many q (Bare false))
+
+pub count-long_row : (i q : ℕ) → count (long_row i q) ≡ i + 2
+count-long_row i q =
+    let parts = count-append (many i (Rise true)) (Rise false ∷ many q (Bare false)) in
     let marks = count-many i in
-    let counted : (i + 2) * (i + 1) ≡ i + i + 1 + i * (2 * 0 + i + 1) + 1 = omega arith in
-    rw counted (lasts_more _ _ _ _ (i + i + 1 + i * (2 * 0 + i + 1)) (omega arith) (λ c. allows_bottom (many i (Rise true) ++ Rise false ∷ []) c) all)
+    let none = count-free q in
+    omega arith
+
+-- the bottom station moves, and the rest follows
+pub longest_row : (i q p : ℕ) → i + q ≡ suc p → Lasts (long_row i q) ((i + 1) * (i + q + q + 2))
+longest_row i q p e =
+    let free : q + i ≡ suc p = omega arith in
+    let final : Lasts (stage 0 (q + i)) (q + i + (q + i) + 1) = rw free (last_two p) in
+    let all = all_less i q (q + i + (q + i) + 1) final in
+    let back = many i (Rise true) ++ Rise false ∷ many q (Bare false) in
+    let marks = count-long_row i q in
+    let number : (i + 1) * (i + q + q + 2) ≡ q + i + (q + i) + 1 + i * (2 * q + i + 1) + 1 = omega arith in
+    rw number (lasts_more _ _ _ _ (q + i + (q + i) + 1 + i * (2 * q + i + 1)) (omega arith) (λ c. allows_bottom back c) all)
