@@ -6,37 +6,42 @@ use Rattle.std.proofs.lemmas.List.{take-take, length-take-le}
 use Rattle.std.proofs.lemmas.List.FromFn.{length-map-range_with_len}
 use Rattle.four_state.specs.Configuration.{Configuration, IsConfiguration, stations}
 use Rattle.four_state.specs.Privilege.{IsPrivilege, IsLegitimate, privileges_of}
-use Rattle.four_state.specs.MotionLaws.{IsConfiguration-moved, stations-moved}
+use Rattle.four_state.specs.MotionLaws.{IsConfiguration-moved}
 use Rattle.four_state.specs.PrivilegeLaws.{length-privileges_of, one-le-privileges}
-use Rattle.four_state.specs.Marks.{mark_at, marks_of}
 use Rattle.sweep_auditor.specs.Run.{next, after, configuration_at, IsRun}
-use Rattle.sweep_auditor.specs.Stabilization.{ReachesLegitimate, Stabilizes, StabilizesInCube}
+use Rattle.sweep_auditor.specs.Stabilization.{ReachesLegitimate, Stabilizes, StabilizesFromAny, StabilizesInCube}
 use Rattle.sweep_auditor.specs.declared.moves.Move.{Move}
 use Rattle.sweep_auditor.specs.RunLaws.{IsConfiguration-after, IsRun-take}
-use Rattle.sweep_auditor.proofs.Energy.{total, Step-falls, total-most, total-least}
-use Rattle.sweep_auditor.proofs.Local.{Step-moved}
+use Rattle.sweep_auditor.proofs.Rows.{cell_at, cells_of, count, count-cells_from}
+use Rattle.sweep_auditor.proofs.Energy.{energy, energy-most, energy-least, count-most}
+use Rattle.sweep_auditor.proofs.Falls.{Change-falls}
+use Rattle.sweep_auditor.proofs.Local.{Change-moved}
+
+-- as many privileges are present as there are marks in the row
+pub counted : (c : Configuration) → IsConfiguration c → count (cells_of c) ≡ length (privileges_of c)
+counted c h =
+    let marks = count-cells_from c (stations c - 1) 0 in
+    let privileges = length-privileges_of c h in
+    omega arith
 
 -- no privilege is the only one
 abbrev pub IsCrowded : Configuration → Type 0
 IsCrowded c = 2 ≤ length (privileges_of c)
 
 -- one move that leaves two privileges or more
-one_falls : (c : Configuration) (m : Move) (n : ℕ) → IsConfiguration c → stations c ≡ n + 1 → IsPrivilege c m.station m.rule → IsCrowded (next c m) → total n (marks_of (next c m)) + 1 ≤ total n (marks_of c)
-one_falls c m n h e p crowded =
-    let later = IsConfiguration-moved c m.station m.rule h p in
-    let count = length-privileges_of (next c m) later in
-    let long = length-map-range_with_len (mark_at c) 0 (stations c - 1) in
-    Step-falls n m.station (marks_of c) (marks_of (next c m)) (Step-moved c m.station m.rule h p) (omega arith) (omega arith)
+one_falls : (c : Configuration) (m : Move) → IsConfiguration c → IsPrivilege c m.station m.rule → IsCrowded (next c m) → energy (cells_of (next c m)) + 1 ≤ energy (cells_of c)
+one_falls c m h p crowded =
+    let marks = counted (next c m) (IsConfiguration-moved c m.station m.rule h p) in
+    Change-falls m.station (cells_of c) (cells_of (next c m)) (Change-moved c m.station m.rule h p) (omega arith)
 
 -- a run that leaves two privileges or more each time
-run_falls : (moves : List Move) (c : Configuration) (n : ℕ) → IsConfiguration c → stations c ≡ n + 1 → IsRun c moves → ((k : ℕ) → k ≤ length moves → IsCrowded (configuration_at c moves k)) → total n (marks_of (after c moves)) + length moves ≤ total n (marks_of c)
-run_falls [] c n h e run crowded = omega arith
-run_falls (m ∷ moves) c n h e run crowded =
+run_falls : (moves : List Move) (c : Configuration) → IsConfiguration c → IsRun c moves → ((k : ℕ) → k ≤ length moves → IsCrowded (configuration_at c moves k)) → energy (cells_of (after c moves)) + length moves ≤ energy (cells_of c)
+run_falls [] c h run crowded = omega arith
+run_falls (m ∷ moves) c h run crowded =
     let p = run.0.privilege in
     let later = IsConfiguration-moved c m.station m.rule h p in
-    let long = stations-moved c m.station m.rule ∙ e in
-    let first = one_falls c m n h e p (crowded 1 (omega arith)) in
-    let rest = run_falls moves (next c m) n later long run.1 (λ k l. crowded (suc k) (omega arith)) in
+    let first = one_falls c m h p (crowded 1 (omega arith)) in
+    let rest = run_falls moves (next c m) later run.1 (λ k l. crowded (suc k) (omega arith)) in
     omega arith
 
 -- each configuration of a run has a privilege, so it is legitimate or crowded
@@ -72,61 +77,115 @@ found_or_crowded c moves (suc m) h run =
           ]
     ]
 
--- what a run of the whole bound would need
-no_room : (j each n m : ℕ) → n ≡ j + 1 → each ≡ 3 * j + 2 → m ≡ 3 * n * (n - 1) → n + n + n + n + 1 + m ≤ n * each + n + n → ⊥
-no_room j each n m e at_most bound h =
-    let less : n - 1 ≡ j = omega arith in
-    let product : n * each ≡ (j + 1) * (3 * j + 2) = rw (e, at_most) refl in
-    let whole : m ≡ 3 * (j + 1) * j = bound ∙ ap (λ k. 3 * n * k) less ∙ ap (λ k. 3 * k * j) e in
+-- with k privileges at the start and n boundaries, and k at most n
+bound_is : (n k j : ℕ) → k ≡ j + 1 → k ≤ n → (k - 1) * (2 * n - k) ≡ (j + 1) * j + (j + j) * (n - k)
+bound_is n k j e l =
+    let f = n - k in
+    let all : n ≡ j + 1 + f = omega arith in
+    let less : k - 1 ≡ j = omega arith in
+    let twice : 2 * n - k ≡ j + 1 + f + f = omega arith in
+    rw (less, twice) (omega arith)
+
+-- So the energy of a configuration is at most one more than its bound.
+energy_within : (c : Configuration) → IsConfiguration c → let n = stations c - 1 in let k = length (privileges_of c) in 2 ≤ k → energy (cells_of c) ≤ (k - 1) * (2 * n - k) + 2
+energy_within c h two =
+    let n = stations c - 1 in
+    let k = length (privileges_of c) in
+    let marks = counted c h in
+    let long = length-map-range_with_len (cell_at c) 0 n in
+    let room = count-most (cells_of c) in
+    let most = energy-most (cells_of c) (k - 1) (n - k) (omega arith) (omega arith) (omega arith) in
+    let bound = bound_is n k (k - 1) (omega arith) (omega arith) in
     omega arith
 
-pub crowded_ends : (c : Configuration) (moves : List Move) (n : ℕ) → IsConfiguration c → stations c ≡ n + 1 → IsRun c moves → 3 * n * (n - 1) ≤ length moves → ((k : ℕ) → k ≤ 3 * n * (n - 1) → IsCrowded (configuration_at c moves k)) → ⊥
-crowded_ends c moves n h e run long crowded =
-    let m = 3 * n * (n - 1) in
-    let two = h.at_least_two in
+-- no run has so many moves and a crowd each time
+pub crowded_ends : (c : Configuration) (moves : List Move) (m : ℕ) → IsConfiguration c → IsRun c moves → let n = stations c - 1 in let k = length (privileges_of c) in m ≡ (k - 1) * (2 * n - k) + 1 → m ≤ length moves → ((i : ℕ) → i ≤ m → IsCrowded (configuration_at c moves i)) → ⊥
+crowded_ends c moves m h run bound long crowded =
     let front = take m moves in
     let front_long : length front ≡ m = length-take-le m moves long in
     let front_run = IsRun-take m moves c run in
-    let all : (k : ℕ) → k ≤ length front → IsCrowded (configuration_at c front k) =
-    λ k l. let same = take-take k m moves (omega arith) in rw same (crowded k (omega arith)) in
-    let falls = run_falls front c n h e front_run all in
-    let last = after c front in
+    let all : (i : ℕ) → i ≤ length front → IsCrowded (configuration_at c front i) =
+    λ i l. let same = take-take i m moves (omega arith) in rw same (crowded i (omega arith)) in
+    let falls = run_falls front c h front_run all in
     let last_is = IsConfiguration-after front c h front_run in
-    let last_crowded : IsCrowded last = crowded m (omega arith) in
-    let count = length-privileges_of last last_is in
-    let least = total-least n (marks_of last) (omega arith) (omega arith) in
-    let marks_long = length-map-range_with_len (mark_at c) 0 (stations c - 1) in
-    let most = total-most n (3 * (n - 1) + 2) (marks_of c) (omega arith) (omega arith) in
-    no_room (n - 1) (3 * (n - 1) + 2) n m (omega arith) refl refl (omega arith)
+    let last_crowded : IsCrowded (after c front) = crowded m (omega arith) in
+    let marks = counted (after c front) last_is in
+    let least = energy-least (cells_of (after c front)) (omega arith) in
+    let most = energy_within c h (crowded 0 (omega arith)) in
+    omega arith
 
--- Every run of 3·N·(N - 1) moves contains a legitimate configuration.
+-- With k privileges at the start, every run of (k - 1)·(2·N - k) + 1 moves contains a legitimate configuration.
 pub stabilizes : Stabilizes
 stabilizes c moves h run long =
-    let two = h.at_least_two in
     let n = stations c - 1 in
-    elim (found_or_crowded c moves (3 * n * (n - 1)) h run) [
+    let k = length (privileges_of c) in
+    elim (found_or_crowded c moves ((k - 1) * (2 * n - k) + 1) h run) [
       | inl found ↦ found
-      | inr crowded ↦ absurd (crowded_ends c moves n h (omega arith) run long crowded)
+      | inr crowded ↦ absurd (crowded_ends c moves ((k - 1) * (2 * n - k) + 1) h run refl long crowded)
     ]
 
-cube_is : (n : ℕ) → n ^ 3 ≡ n * n * n
-cube_is n =
-    let once : n ^ 1 ≡ n = pow-suc n 0 ∙ ap (λ k. k * n) (pow-zero n) ∙ omega arith in
-    pow-suc n 2 ∙ ap (λ k. k * n) (pow-suc n 1 ∙ ap (λ k. k * n) once)
+-- ---- the bounds that don't speak of the start's privileges
 
-cube_above : (j n : ℕ) → n ≡ j + 1 → 3 * n * (n - 1) ≤ n ^ 3 - 1
-cube_above j n e =
-    let less : n - 1 ≡ j = omega arith in
-    let product : 3 * n * (n - 1) ≡ 3 * (j + 1) * j = ap (λ k. 3 * n * k) less ∙ ap (λ k. 3 * k * j) e in
-    let cube : n ^ 3 ≡ (j + 1) * (j + 1) * (j + 1) = cube_is n ∙ ap (λ k. k * k * k) e in
+pub square_is : (n : ℕ) → n ^ 2 ≡ n * n
+square_is n =
+    let once : n ^ 1 ≡ n = pow-suc n 0 ∙ ap (λ k. k * n) (pow-zero n) ∙ omega arith in
+    pow-suc n 1 ∙ ap (λ k. k * n) once
+
+cube_is : (n : ℕ) → n ^ 3 ≡ n * n * n
+cube_is n = pow-suc n 2 ∙ ap (λ k. k * n) (square_is n)
+
+-- the bound with k is greatest where k is n
+bound_most : (n k j f : ℕ) → k ≡ j + 1 → n ≡ j + 1 + f → (k - 1) * (2 * n - k) + n ≤ n ^ 2
+bound_most n k j f e all =
+    let square = square_is n in
+    let bound = bound_is n k j e (omega arith) in
+    let rest : n - k ≡ f = omega arith in
+    let whole : n * n ≡ (j + 1 + f) * (j + 1 + f) = ap (λ i. i * i) all in
+    let part : (j + j) * (n - k) ≡ (j + j) * f = ap (λ i. (j + j) * i) rest in
     omega arith
+
+square_below_cube : (n i : ℕ) → n ≡ i + 2 → n ^ 2 + 2 ≤ n ^ 3 + n
+square_below_cube n i e =
+    let square : n ^ 2 ≡ (i + 2) * (i + 2) = square_is n ∙ ap (λ k. k * k) e in
+    let cube : n ^ 3 ≡ (i + 2) * (i + 2) * (i + 2) = cube_is n ∙ ap (λ k. k * k * k) e in
+    omega arith
+
+-- a start that isn't legitimate has at most as many privileges as boundaries, and its bound is at most N² - N + 1
+within_square : (c : Configuration) → IsConfiguration c → IsCrowded c → let n = stations c - 1 in let k = length (privileges_of c) in (2 ≤ n) × ((k - 1) * (2 * n - k) + n ≤ n ^ 2)
+within_square c h two =
+    let n = stations c - 1 in
+    let k = length (privileges_of c) in
+    let marks = counted c h in
+    let long = length-map-range_with_len (cell_at c) 0 n in
+    let room = count-most (cells_of c) in
+    (omega arith, bound_most n k (k - 1) (n - k) (omega arith) (omega arith))
+
+-- a bound that is enough from a start that isn't legitimate is enough
+reaches : (c : Configuration) (moves : List Move) (most : ℕ) → IsConfiguration c → IsRun c moves → most ≤ length moves → let n = stations c - 1 in let k = length (privileges_of c) in (IsCrowded c → (k - 1) * (2 * n - k) + 1 ≤ most) → ReachesLegitimate c moves most
+reaches c moves most h run long enough =
+    elim (legitimate_or_crowded c moves 0 h run) [
+      | inl is ↦ record { number = 0; within = omega arith; legitimate = is }
+      | inr crowded ↦
+          let less = enough crowded in
+          let found = stabilizes c moves h run (omega arith) in
+          let within = found.within in
+          record { number = found.number; within = omega arith; legitimate = found.legitimate }
+    ]
+
+-- Every run of N² - N + 1 moves contains a legitimate configuration.
+pub stabilizes_from_any : StabilizesFromAny
+stabilizes_from_any c moves h run long =
+    let n = stations c - 1 in
+    reaches c moves (n ^ 2 - n + 1) h run long (λ crowded. let square = within_square c h crowded in let most = square.1 in omega arith)
 
 -- Every run of N³ - 1 moves does.
 pub stabilizes_in_cube : StabilizesInCube
 stabilizes_in_cube c moves h run long =
-    let two = h.at_least_two in
     let n = stations c - 1 in
-    let less = cube_above (n - 1) n (omega arith) in
-    let found = stabilizes c moves h run (omega arith) in
-    let within = found.within in
-    record { number = found.number; within = omega arith; legitimate = found.legitimate }
+    reaches c moves (n ^ 3 - 1) h run long
+    (λ crowded.
+    let square = within_square c h crowded in
+    let two = square.0 in
+    let most = square.1 in
+    let cube = square_below_cube n (n - 2) (omega arith) in
+    omega arith)

@@ -1,245 +1,317 @@
--- A number that falls with every move, as long as two or more marks are left.
-use Rattle.std.proofs.Common.{◌≡◌, ℕ, suc, ◌+◌, ◌*◌, ◌≤◌, List, [], ◌∷◌, ◌++◌, length, refl, arith, length-append, inl, inr}
-use Rattle.std.proofs.Math.Nat.{suc-mul}
-use Rattle.std.proofs.lemmas.Bool.{cases_lt}
-use Rattle.four_state.specs.Marks.{Mark, Rising, Falling, Still, mark_count}
-use Rattle.four_state.specs.PrivilegeLaws.{mark_count-append}
-use Rattle.sweep_auditor.proofs.Rewrite.{Onto, leaves_fall, leaves_none, onto_none, onto_fall, Under, under_rise, falls_on, vanishes, AtTop, turns, ends, Step, bottom, raise, lower, top}
+-- What a row is worth: a number that falls with every move, as long as two marks or more are left.
+use Rattle.std.proofs.Common.{◌≡◌, ℕ, zero, suc, ◌+◌, ◌-◌, ◌*◌, ◌≤◌, Bool, true, false, cond, not, List, [], ◌∷◌, ◌++◌, length, refl, ap, ◌∙◌, arith}
+use Rattle.std.proofs.Math.Nat.{mul-le-mul_left}
+use Rattle.sweep_auditor.proofs.Rows.{Cell, Rise, Fall, Bare, count}
 
--- 2n for each mark, and how far it has still to go: a rise up to the top, a fall down to the bottom. The first
--- mark stands on boundary b.
-abbrev pub energy : ℕ → ℕ → List Mark → ℕ
-energy n b [] = 0
-energy n b (Rising ∷ marks) = n + n + length marks + energy n (b + 1) marks
-energy n b (Falling ∷ marks) = n + n + b + energy n (b + 1) marks
-energy n b (Still ∷ marks) = energy n (b + 1) marks
+-- how many boundaries are free
+abbrev pub free : List Cell → ℕ
+free [] = 0
+free (Rise up ∷ cells) = free cells
+free (Fall ∷ cells) = free cells
+free (Bare up ∷ cells) = free cells + 1
 
--- n where the first mark is a fall, 0 where it is a rise, and `rest` where there is none
-abbrev pub first_extra : ℕ → ℕ → List Mark → ℕ
-first_extra n rest [] = rest
-first_extra n rest (Rising ∷ marks) = 0
-first_extra n rest (Falling ∷ marks) = n
-first_extra n rest (Still ∷ marks) = first_extra n rest marks
+-- 1 where there is a mark, else 0
+abbrev pub some : List Cell → ℕ
+some [] = 0
+some (Rise up ∷ cells) = 1
+some (Fall ∷ cells) = 1
+some (Bare up ∷ cells) = some cells
 
--- n where the last mark is a rise, 0 where it is a fall, and `so_far` where there is none
-abbrev pub last_extra : ℕ → ℕ → List Mark → ℕ
-last_extra n so_far [] = so_far
-last_extra n so_far (Rising ∷ marks) = last_extra n n marks
-last_extra n so_far (Falling ∷ marks) = last_extra n 0 marks
-last_extra n so_far (Still ∷ marks) = last_extra n so_far marks
+-- how many marks but the last have a station above them that isn't up
+abbrev pub low : List Cell → ℕ
+low [] = 0
+low (Rise true ∷ cells) = low cells
+low (Rise false ∷ cells) = low cells + some cells
+low (Fall ∷ cells) = low cells + some cells
+low (Bare up ∷ cells) = low cells
 
-abbrev pub total : ℕ → List Mark → ℕ
-total n marks = energy n 0 marks + first_extra n 0 marks + last_extra n 0 marks
+-- The worth of what stands above the lowest mark. `near`: the stations are not up from a mark other than the lowest
+-- on, so far.
+abbrev pub worth : Bool → List Cell → ℕ
+worth near [] = 0
+worth near (Rise up ∷ cells) = free cells + free cells + worth (not up) cells
+worth near (Fall ∷ cells) = worth true cells
+worth near (Bare true ∷ cells) = low cells + low cells + some cells + worth false cells
+worth near (Bare false ∷ cells) = low cells + low cells + some cells + cond near (some cells) 0 + worth near cells
 
--- ---- lists end to end
+-- the worth of the lowest mark, with what stands below and above it
+abbrev pub whole : ℕ → List Cell → ℕ
+whole below [] = 0
+whole below (Rise up ∷ cells) = below * (low cells + low cells) + worth false cells
+whole below (Fall ∷ cells) = below * (low cells + low cells + 2) + 1 + worth false cells
+whole below (Bare up ∷ cells) = whole (below + 1) cells
 
-energy-append : (n : ℕ) (r k : List Mark) → length r ≡ length k → (front : List Mark) (b j : ℕ) → b + length front ≡ j → energy n b (front ++ r) + energy n j k ≡ energy n b (front ++ k) + energy n j r
-energy-append n r k same [] b j e =
-    let here : b ≡ j = omega arith in
-    rw here (omega arith)
-energy-append n r k same (Rising ∷ front) b j e =
-    let next = energy-append n r k same front (b + 1) j (omega arith) in
-    let long_r = length-append front r in
-    let long_k = length-append front k in
-    omega arith
-energy-append n r k same (Falling ∷ front) b j e =
-    let next = energy-append n r k same front (b + 1) j (omega arith) in
-    omega arith
-energy-append n r k same (Still ∷ front) b j e = energy-append n r k same front (b + 1) j (omega arith)
+-- 1 where the last mark is a rise, 0 where it is a fall
+abbrev pub last : ℕ → List Cell → ℕ
+last so_far [] = so_far
+last so_far (Rise up ∷ cells) = last 1 cells
+last so_far (Fall ∷ cells) = last 0 cells
+last so_far (Bare up ∷ cells) = last so_far cells
 
-first_extra-append : (n rest : ℕ) (front back : List Mark) → first_extra n rest (front ++ back) ≡ first_extra n (first_extra n rest back) front
-first_extra-append n rest [] back = refl
-first_extra-append n rest (Rising ∷ front) back = refl
-first_extra-append n rest (Falling ∷ front) back = refl
-first_extra-append n rest (Still ∷ front) back = first_extra-append n rest front back
+-- n·(n - 1)
+abbrev pub pairs : ℕ → ℕ
+pairs zero = 0
+pairs (suc n) = pairs n + n + n
 
-last_extra-append : (n so_far : ℕ) (front back : List Mark) → last_extra n so_far (front ++ back) ≡ last_extra n (last_extra n so_far front) back
-last_extra-append n so_far [] back = refl
-last_extra-append n so_far (Rising ∷ front) back = last_extra-append n n front back
-last_extra-append n so_far (Falling ∷ front) back = last_extra-append n 0 front back
-last_extra-append n so_far (Still ∷ front) back = last_extra-append n so_far front back
+abbrev pub energy : List Cell → ℕ
+energy cells = pairs (count cells) + last 0 cells + whole 0 cells
 
--- ---- the extras are monotone, at most n, and don't depend on what stands beside marks
+-- ---- simple bounds
 
-first_extra-le : (n a b : ℕ) (front : List Mark) → a ≤ b → first_extra n a front ≤ first_extra n b front
-first_extra-le n a b [] h = h
-first_extra-le n a b (Rising ∷ front) h = omega arith
-first_extra-le n a b (Falling ∷ front) h = omega arith
-first_extra-le n a b (Still ∷ front) h = first_extra-le n a b front h
+pub pairs-more : (n : ℕ) → pairs (n + 1) ≡ pairs n + n + n
+pairs-more n = let e : n + 1 ≡ suc n = omega arith in ap pairs e
 
-first_extra-add : (n a b d : ℕ) (front : List Mark) → b ≤ a + d → first_extra n b front ≤ first_extra n a front + d
-first_extra-add n a b d [] h = h
-first_extra-add n a b d (Rising ∷ front) h = omega arith
-first_extra-add n a b d (Falling ∷ front) h = omega arith
-first_extra-add n a b d (Still ∷ front) h = first_extra-add n a b d front h
+pub some-most : (cells : List Cell) → some cells ≤ 1
+some-most [] = omega arith
+some-most (Rise up ∷ cells) = omega arith
+some-most (Fall ∷ cells) = omega arith
+some-most (Bare up ∷ cells) = some-most cells
 
-first_extra-most : (n a : ℕ) (front : List Mark) → a ≤ n → first_extra n a front ≤ n
-first_extra-most n a [] h = h
-first_extra-most n a (Rising ∷ front) h = omega arith
-first_extra-most n a (Falling ∷ front) h = omega arith
-first_extra-most n a (Still ∷ front) h = first_extra-most n a front h
+pub some-least : (cells : List Cell) → 1 ≤ count cells → 1 ≤ some cells
+some-least [] h = h
+some-least (Rise up ∷ cells) h = omega arith
+some-least (Fall ∷ cells) h = omega arith
+some-least (Bare up ∷ cells) h = some-least cells h
 
-first_extra-marked : (n a b : ℕ) (front : List Mark) → 1 ≤ mark_count front → first_extra n a front ≡ first_extra n b front
-first_extra-marked n a b [] h = absurd (omega arith)
-first_extra-marked n a b (Rising ∷ front) h = refl
-first_extra-marked n a b (Falling ∷ front) h = refl
-first_extra-marked n a b (Still ∷ front) h = first_extra-marked n a b front (omega arith)
+pub low-most : (cells : List Cell) → low cells + some cells ≤ count cells
+low-most [] = omega arith
+low-most (Rise true ∷ cells) = let rest = low-most cells in omega arith
+low-most (Rise false ∷ cells) = let rest = low-most cells in omega arith
+low-most (Fall ∷ cells) = let rest = low-most cells in omega arith
+low-most (Bare up ∷ cells) = low-most cells
 
-last_extra-le : (n a b : ℕ) (back : List Mark) → a ≤ b → last_extra n a back ≤ last_extra n b back
-last_extra-le n a b [] h = h
-last_extra-le n a b (Rising ∷ back) h = omega arith
-last_extra-le n a b (Falling ∷ back) h = omega arith
-last_extra-le n a b (Still ∷ back) h = last_extra-le n a b back h
+pub worth-near : (near : Bool) (cells : List Cell) → worth near cells ≤ worth true cells
+worth-near true cells = omega arith
+worth-near false [] = omega arith
+worth-near false (Rise up ∷ cells) = omega arith
+worth-near false (Fall ∷ cells) = omega arith
+worth-near false (Bare true ∷ cells) = omega arith
+worth-near false (Bare false ∷ cells) = let rest = worth-near false cells in omega arith
 
-last_extra-add : (n a b d : ℕ) (back : List Mark) → b ≤ a + d → last_extra n b back ≤ last_extra n a back + d
-last_extra-add n a b d [] h = h
-last_extra-add n a b d (Rising ∷ back) h = omega arith
-last_extra-add n a b d (Falling ∷ back) h = omega arith
-last_extra-add n a b d (Still ∷ back) h = last_extra-add n a b d back h
+pub worth-far : (near : Bool) (cells : List Cell) → worth false cells ≤ worth near cells
+worth-far true cells = worth-near false cells
+worth-far false cells = omega arith
 
-last_extra-most : (n a : ℕ) (back : List Mark) → a ≤ n → last_extra n a back ≤ n
-last_extra-most n a [] h = h
-last_extra-most n a (Rising ∷ back) h = last_extra-most n n back (omega arith)
-last_extra-most n a (Falling ∷ back) h = last_extra-most n 0 back (omega arith)
-last_extra-most n a (Still ∷ back) h = last_extra-most n a back h
+pub last-most : (so_far : ℕ) (cells : List Cell) → so_far ≤ 1 → last so_far cells ≤ 1
+last-most so_far [] h = h
+last-most so_far (Rise up ∷ cells) h = last-most 1 cells (omega arith)
+last-most so_far (Fall ∷ cells) h = last-most 0 cells (omega arith)
+last-most so_far (Bare up ∷ cells) h = last-most so_far cells h
 
-last_extra-marked : (n a b : ℕ) (back : List Mark) → 1 ≤ mark_count back → last_extra n a back ≡ last_extra n b back
-last_extra-marked n a b [] h = absurd (omega arith)
-last_extra-marked n a b (Rising ∷ back) h = refl
-last_extra-marked n a b (Falling ∷ back) h = refl
-last_extra-marked n a b (Still ∷ back) h = last_extra-marked n a b back (omega arith)
+pub last-marked : (a b : ℕ) (cells : List Cell) → 1 ≤ count cells → last a cells ≡ last b cells
+last-marked a b [] h = absurd (omega arith)
+last-marked a b (Rise up ∷ cells) h = refl
+last-marked a b (Fall ∷ cells) h = refl
+last-marked a b (Bare up ∷ cells) h = last-marked a b cells h
 
-last_extra-bare : (n a : ℕ) (back : List Mark) → mark_count back ≡ 0 → last_extra n a back ≡ a
-last_extra-bare n a [] h = refl
-last_extra-bare n a (Rising ∷ back) h = absurd (omega arith)
-last_extra-bare n a (Falling ∷ back) h = absurd (omega arith)
-last_extra-bare n a (Still ∷ back) h = last_extra-bare n a back (omega arith)
+pub last-bare : (a : ℕ) (cells : List Cell) → count cells ≡ 0 → last a cells ≡ a
+last-bare a [] h = refl
+last-bare a (Rise up ∷ cells) h = absurd (omega arith)
+last-bare a (Fall ∷ cells) h = absurd (omega arith)
+last-bare a (Bare up ∷ cells) h = last-bare a cells h
 
--- ---- each rewrite lowers the total
+pub count-free : (cells : List Cell) → count cells + free cells ≡ length cells
+count-free [] = omega arith
+count-free (Rise up ∷ cells) = let rest = count-free cells in omega arith
+count-free (Fall ∷ cells) = let rest = count-free cells in omega arith
+count-free (Bare up ∷ cells) = let rest = count-free cells in omega arith
 
--- the parts of the total, before and later
-joined : (n b : ℕ) (front r k : List Mark) → length r ≡ length k → length front ≡ b → energy n b k + first_extra n (first_extra n 0 k) front + last_extra n (last_extra n 0 front) k + 1 ≤ energy n b r + first_extra n (first_extra n 0 r) front + last_extra n (last_extra n 0 front) r → total n (front ++ k) + 1 ≤ total n (front ++ r)
-joined n b front r k same long h =
-    let energies = energy-append n r k same front 0 b (omega arith) in
-    let first_r = first_extra-append n 0 front r in
-    let first_k = first_extra-append n 0 front k in
-    let last_r = last_extra-append n 0 front r in
-    let last_k = last_extra-append n 0 front k in
-    omega arith
+pub count-most : (cells : List Cell) → count cells ≤ length cells
+count-most cells = let all = count-free cells in omega arith
 
-raise_falls : (n b : ℕ) (front back : List Mark) (m k : Mark) → Onto m k → length front ≡ b → b + 2 + length back ≡ n → total n (front ++ Still ∷ k ∷ back) + 1 ≤ total n (front ++ Rising ∷ m ∷ back)
-raise_falls n b front back m k onto_none long e =
-    joined n b front (Rising ∷ Still ∷ back) (Still ∷ Rising ∷ back) refl long (omega arith)
-raise_falls n b front back m k onto_fall long e =
-    let last = last_extra-add n 0 n n back (omega arith) in
-    joined n b front (Rising ∷ Falling ∷ back) (Still ∷ Rising ∷ back) refl long (omega arith)
-raise_falls n b front back m k leaves_fall long e =
-    let first = first_extra-add n 0 n n front (omega arith) in
-    let last = last_extra-le n 0 n back (omega arith) in
-    joined n b front (Rising ∷ Rising ∷ back) (Still ∷ Falling ∷ back) refl long (omega arith)
-raise_falls n b front back m k leaves_none long e =
-    let rest = first_extra-most n 0 back (omega arith) in
-    let first = first_extra-add n 0 (first_extra n 0 back) n front (omega arith) in
-    let so_far = last_extra-most n 0 front (omega arith) in
-    let last = last_extra-le n (last_extra n 0 front) n back so_far in
-    joined n b front (Rising ∷ Rising ∷ back) (Still ∷ Still ∷ back) refl long (omega arith)
+-- ---- bounds of the energy
 
-lower_falls : (n b : ℕ) (front back : List Mark) (m k : Mark) → Under m k → length front ≡ b → b + 2 + length back ≡ n → total n (front ++ k ∷ Still ∷ back) + 1 ≤ total n (front ++ m ∷ Falling ∷ back)
-lower_falls n b front back m k under_rise long e =
-    let last = last_extra-add n 0 n n back (omega arith) in
-    joined n b front (Rising ∷ Falling ∷ back) (Rising ∷ Still ∷ back) refl long (omega arith)
-lower_falls n b front back m k falls_on long e =
-    joined n b front (Still ∷ Falling ∷ back) (Falling ∷ Still ∷ back) refl long (omega arith)
-lower_falls n b front back m k vanishes long e =
-    let rest = first_extra-most n 0 back (omega arith) in
-    let first = first_extra-le n (first_extra n 0 back) n front rest in
-    let so_far = last_extra-most n 0 front (omega arith) in
-    let last = last_extra-add n 0 (last_extra n 0 front) n back (omega arith) in
-    joined n b front (Still ∷ Falling ∷ back) (Still ∷ Still ∷ back) refl long (omega arith)
-
-bottom_falls : (n : ℕ) (back : List Mark) → suc (length back) ≡ n → 1 ≤ mark_count back → total n (Rising ∷ back) + 1 ≤ total n (Falling ∷ back)
-bottom_falls n back long marked =
-    let last = last_extra-marked n 0 n back marked in
+pairs-is : (n : ℕ) → pairs (n + 1) ≡ (n + 1) * n
+pairs-is zero = omega arith
+pairs-is (suc n) =
+    let rest = pairs-is n in
+    let more = pairs-more (suc n) in
+    let e : suc n ≡ n + 1 = omega arith in
+    let product : (suc n + 1) * suc n ≡ (n + 1 + 1) * (n + 1) = ap (λ k. (k + 1) * k) e in
+    let same : pairs (suc n) ≡ pairs (n + 1) = ap pairs e in
     omega arith
 
-top_falls : (n b : ℕ) (front : List Mark) (k : Mark) → AtTop k → length front ≡ b → b + 1 ≡ n → 2 ≤ mark_count (front ++ k ∷ []) → total n (front ++ k ∷ []) + 1 ≤ total n (front ++ Rising ∷ [])
-top_falls n b front k turns long e two =
-    let count = mark_count-append front (Falling ∷ []) in
-    let first = first_extra-marked n 0 n front (omega arith) in
-    joined n b front (Rising ∷ []) (Falling ∷ []) refl long (omega arith)
-top_falls n b front k ends long e two =
-    let last = last_extra-most n 0 front (omega arith) in
-    joined n b front (Rising ∷ []) (Still ∷ []) refl long (omega arith)
-
--- A move that leaves two marks or more lowers the total.
-pub Step-falls : (n s : ℕ) (before later : List Mark) → Step s before later → length before ≡ n → 2 ≤ mark_count later → total n later + 1 ≤ total n before
-Step-falls n s before later (bottom back _ b l) long two =
-    let long_now = rw b at long in
-    let two_now = rw l at two in
-    rw (b, l) (bottom_falls n back long_now (omega arith))
-Step-falls n s before later (raise front back m k onto _ b l) long two =
-    let long_now = rw b at long in
-    let parts = length-append front (Rising ∷ m ∷ back) in
-    rw (b, l) (raise_falls n (length front) front back m k onto refl (omega arith))
-Step-falls n s before later (lower front back m k under _ b l) long two =
-    let long_now = rw b at long in
-    let parts = length-append front (m ∷ Falling ∷ back) in
-    rw (b, l) (lower_falls n (length front) front back m k under refl (omega arith))
-Step-falls n s before later (top front k turn _ b l) long two =
-    let long_now = rw b at long in
-    let parts = length-append front (Rising ∷ []) in
-    let two_now = rw l at two in
-    rw (b, l) (top_falls n (length front) front k turn refl (omega arith) two_now)
-
--- ---- bounds of the total
-
--- each mark has at most 2n and n - 1, which is at most `each`
-energy-most : (n each b : ℕ) (marks : List Mark) → n + n + n ≤ each + 1 → b + length marks ≡ n → energy n b marks ≤ length marks * each
-energy-most n each b [] h e = omega arith
-energy-most n each b (Rising ∷ marks) h e =
-    let next = energy-most n each (b + 1) marks h (omega arith) in
-    let product = suc-mul (length marks) each in
+-- each free boundary adds at most 2 for each mark but the lowest
+worth-most : (near : Bool) (cells : List Cell) → worth near cells ≤ (count cells + count cells) * free cells
+worth-most near [] = omega arith
+worth-most near (Rise up ∷ cells) = let rest = worth-most (not up) cells in omega arith
+worth-most near (Fall ∷ cells) = let rest = worth-most true cells in omega arith
+worth-most near (Bare true ∷ cells) =
+    let rest = worth-most false cells in
+    let most = low-most cells in
     omega arith
-energy-most n each b (Falling ∷ marks) h e =
-    let next = energy-most n each (b + 1) marks h (omega arith) in
-    let product = suc-mul (length marks) each in
+worth-most true (Bare false ∷ cells) =
+    let rest = worth-most true cells in
+    let most = low-most cells in
     omega arith
-energy-most n each b (Still ∷ marks) h e =
-    let next = energy-most n each (b + 1) marks h (omega arith) in
-    let product = suc-mul (length marks) each in
+worth-most false (Bare false ∷ cells) =
+    let rest = worth-most false cells in
+    let most = low-most cells in
     omega arith
 
-pub total-most : (n each : ℕ) (marks : List Mark) → n + n + n ≤ each + 1 → length marks ≡ n → total n marks ≤ n * each + n + n
-total-most n each marks h e =
-    let energies = rw e at (energy-most n each 0 marks h (omega arith)) in
-    let first = first_extra-most n 0 marks (omega arith) in
-    let last = last_extra-most n 0 marks (omega arith) in
+whole-most : (cells : List Cell) (below j : ℕ) → count cells ≡ j + 1 → 1 ≤ j → whole below cells ≤ (j + j) * (below + free cells) + 1
+whole-most [] below j e two = absurd (omega arith)
+whole-most (Rise up ∷ cells) below j e two =
+    let marks : count cells ≡ j = omega arith in
+    let rest = rw marks at (worth-most false cells) in
+    let most = low-most cells in
+    let product = mul-le-mul_left {m = low cells + low cells} {n = j + j} below (omega arith) in
+    omega arith
+whole-most (Fall ∷ cells) below j e two =
+    let marks : count cells ≡ j = omega arith in
+    let rest = rw marks at (worth-most false cells) in
+    let most = low-most cells in
+    let one = some-least cells (omega arith) in
+    let product = mul-le-mul_left {m = low cells + low cells + 2} {n = j + j} below (omega arith) in
+    omega arith
+whole-most (Bare up ∷ cells) below j e two = let rest = whole-most cells (below + 1) j e two in omega arith
+
+-- with j + 1 marks and f free boundaries
+pub energy-most : (cells : List Cell) (j f : ℕ) → count cells ≡ j + 1 → 1 ≤ j → length cells ≡ j + 1 + f → energy cells ≤ (j + 1) * j + (j + j) * f + 2
+energy-most cells j f e two long =
+    let all = count-free cells in
+    let room : free cells ≡ f = omega arith in
+    let wholes = whole-most cells 0 j e two in
+    let lasting = last-most 0 cells (omega arith) in
+    let product : (j + j) * (0 + free cells) ≡ (j + j) * f = ap (λ k. (j + j) * k) (omega arith) in
+    let counted : pairs (count cells) ≡ (j + 1) * j = ap pairs e ∙ pairs-is j in
     omega arith
 
-energy-least : (n b : ℕ) (marks : List Mark) → 1 ≤ mark_count marks → n + n ≤ energy n b marks
-energy-least n b [] h = absurd (omega arith)
-energy-least n b (Rising ∷ marks) h = omega arith
-energy-least n b (Falling ∷ marks) h = omega arith
-energy-least n b (Still ∷ marks) h = energy-least n (b + 1) marks (omega arith)
+pub energy-least : (cells : List Cell) → 2 ≤ count cells → 2 ≤ energy cells
+energy-least cells two =
+    let j = count cells - 2 in
+    let e : count cells ≡ suc (suc j) = omega arith in
+    let counted : pairs (count cells) ≡ pairs (suc (suc j)) = ap pairs e in
+    omega arith
 
--- above the bottom, a mark has more than 2n, or is a rise at the end
-energy-above : (n b so_far : ℕ) (marks : List Mark) → 1 ≤ n → 1 ≤ b → 1 ≤ mark_count marks → n + n + 1 ≤ energy n b marks + last_extra n so_far marks
-energy-above n b so_far [] one above h = absurd (omega arith)
-energy-above n b so_far (Rising ∷ marks) one above h =
-    elim (cases_lt 0 (mark_count marks)) [
-      | inl some ↦ let next = energy-above n (b + 1) n marks one (omega arith) some in omega arith
-      | inr none ↦ let bare = last_extra-bare n n marks (omega arith) in omega arith
-    ]
-energy-above n b so_far (Falling ∷ marks) one above h = omega arith
-energy-above n b so_far (Still ∷ marks) one above h = energy-above n (b + 1) so_far marks one (omega arith) (omega arith)
+-- ---- rows end to end
 
-total_from-least : (n b so_far : ℕ) (marks : List Mark) → 1 ≤ n → 2 ≤ mark_count marks → n + n + n + n + 1 ≤ energy n b marks + first_extra n 0 marks + last_extra n so_far marks
-total_from-least n b so_far [] one h = absurd (omega arith)
-total_from-least n b so_far (Rising ∷ marks) one h =
-    let rest = energy-above n (b + 1) n marks one (omega arith) (omega arith) in omega arith
-total_from-least n b so_far (Falling ∷ marks) one h =
-    let rest = energy-least n (b + 1) marks (omega arith) in omega arith
-total_from-least n b so_far (Still ∷ marks) one h = total_from-least n (b + 1) so_far marks one (omega arith)
+pub count-append : (front back : List Cell) → count (front ++ back) ≡ count front + count back
+count-append [] back = omega arith
+count-append (Rise up ∷ front) back = let rest = count-append front back in omega arith
+count-append (Fall ∷ front) back = let rest = count-append front back in omega arith
+count-append (Bare up ∷ front) back = count-append front back
 
-pub total-least : (n : ℕ) (marks : List Mark) → 1 ≤ n → 2 ≤ mark_count marks → n + n + n + n + 1 ≤ total n marks
-total-least n marks one h = total_from-least n 0 0 marks one h
+pub last-append : (so_far : ℕ) (front back : List Cell) → last so_far (front ++ back) ≡ last (last so_far front) back
+last-append so_far [] back = refl
+last-append so_far (Rise up ∷ front) back = last-append 1 front back
+last-append so_far (Fall ∷ front) back = last-append 0 front back
+last-append so_far (Bare up ∷ front) back = last-append so_far front back
+
+-- the part without a mark below the lowest one
+pub whole-bare : (front back : List Cell) (below n : ℕ) → count front ≡ 0 → n ≡ below + length front → whole below (front ++ back) ≡ whole n back
+whole-bare [] back below n bare e = let here : below ≡ n = omega arith in ap (λ b. whole b back) here
+whole-bare (Rise up ∷ front) back below n bare e = absurd (omega arith)
+whole-bare (Fall ∷ front) back below n bare e = absurd (omega arith)
+whole-bare (Bare up ∷ front) back below n bare e = whole-bare front back (below + 1) n bare (omega arith)
+
+-- What a change of a part does to what depends on it: e boundaries more are free, and its own worth falls by p and
+-- rises by r.
+pub record Lowers (e p r : ℕ) (later before : List Cell) : Type 0 where
+  pub less_some : some later ≤ some before
+  pub less_low : low later ≤ low before
+  pub more_free : free later ≤ free before + e
+  pub less_worth : (near : Bool) → worth near later + p ≤ worth near before + r
+
+-- the same under what stands below the part
+bare_up : (e p r : ℕ) (later before : List Cell) → Lowers e p r later before → Lowers e p r (Bare true ∷ later) (Bare true ∷ before)
+bare_up e p r later before h =
+    let a = h.less_some in
+    let b = h.less_low in
+    let c = h.more_free in
+    record {
+      less_some = a;
+      less_low = b;
+      more_free = omega arith;
+      less_worth = λ near. let w = h.less_worth false in omega arith;
+    }
+
+bare_low_worth : (e p r : ℕ) (later before : List Cell) → Lowers e p r later before → (near : Bool) → worth near (Bare false ∷ later) + p ≤ worth near (Bare false ∷ before) + r
+bare_low_worth e p r later before h true =
+    let a = h.less_some in
+    let b = h.less_low in
+    let w = h.less_worth true in omega arith
+bare_low_worth e p r later before h false =
+    let a = h.less_some in
+    let b = h.less_low in
+    let w = h.less_worth false in omega arith
+
+bare_low : (e p r : ℕ) (later before : List Cell) → Lowers e p r later before → Lowers e p r (Bare false ∷ later) (Bare false ∷ before)
+bare_low e p r later before h =
+    let c = h.more_free in
+    record {
+      less_some = h.less_some;
+      less_low = h.less_low;
+      more_free = omega arith;
+      less_worth = bare_low_worth e p r later before h;
+    }
+
+fall_under : (e p r : ℕ) (later before : List Cell) → Lowers e p r later before → Lowers e p r (Fall ∷ later) (Fall ∷ before)
+fall_under e p r later before h =
+    let a = h.less_some in
+    let b = h.less_low in
+    record {
+      less_some = omega arith;
+      less_low = omega arith;
+      more_free = h.more_free;
+      less_worth = λ near. h.less_worth true;
+    }
+
+rise_under : (e p r : ℕ) (up : Bool) (later before : List Cell) → Lowers e p r later before → Lowers e p (r + e + e) (Rise up ∷ later) (Rise up ∷ before)
+rise_under e p r true later before h =
+    let c = h.more_free in
+    record {
+      less_some = omega arith;
+      less_low = h.less_low;
+      more_free = h.more_free;
+      less_worth = λ near. let w = h.less_worth false in omega arith;
+    }
+rise_under e p r false later before h =
+    let a = h.less_some in
+    let b = h.less_low in
+    let c = h.more_free in
+    record {
+      less_some = omega arith;
+      less_low = omega arith;
+      more_free = h.more_free;
+      less_worth = λ near. let w = h.less_worth true in omega arith;
+    }
+
+weaker : (e p r q : ℕ) (later before : List Cell) → r ≤ q → Lowers e p r later before → Lowers e p q later before
+weaker e p r q later before l h =
+    record {
+      less_some = h.less_some;
+      less_low = h.less_low;
+      more_free = h.more_free;
+      less_worth = λ near. let w = h.less_worth near in omega arith;
+    }
+
+pub Lowers-append : (e p r : ℕ) (front later before : List Cell) → Lowers e p r later before → Lowers e p (r + (e + e) * count front) (front ++ later) (front ++ before)
+Lowers-append e p r [] later before h = weaker e p r (r + (e + e) * 0) later before (omega arith) h
+Lowers-append e p r (Rise up ∷ front) later before h =
+    let more = (e + e) * count front in
+    weaker e p (r + more + e + e) (r + (e + e) * (count front + 1)) _ _ (omega arith)
+    (rise_under e p (r + more) up (front ++ later) (front ++ before) (Lowers-append e p r front later before h))
+Lowers-append e p r (Fall ∷ front) later before h =
+    let more = (e + e) * count front in
+    weaker e p (r + more) (r + (e + e) * (count front + 1)) _ _ (omega arith)
+    (fall_under e p (r + more) (front ++ later) (front ++ before) (Lowers-append e p r front later before h))
+Lowers-append e p r (Bare true ∷ front) later before h = bare_up e p _ (front ++ later) (front ++ before) (Lowers-append e p r front later before h)
+Lowers-append e p r (Bare false ∷ front) later before h = bare_low e p _ (front ++ later) (front ++ before) (Lowers-append e p r front later before h)
+
+-- the lowest mark stands below the part
+pub whole-falls : (e p r : ℕ) (later before : List Cell) → Lowers e p r later before → (front : List Cell) (below : ℕ) → 1 ≤ count front → whole below (front ++ later) + p + e + e ≤ whole below (front ++ before) + r + (e + e) * count front
+whole-falls e p r later before h [] below marked = absurd (omega arith)
+whole-falls e p r later before h (Rise up ∷ front) below marked =
+    let rest = Lowers-append e p r front later before h in
+    let lows = rest.less_low in
+    let w = rest.less_worth false in
+    let product = mul-le-mul_left {m = low (front ++ later) + low (front ++ later)} {n = low (front ++ before) + low (front ++ before)} below (omega arith) in
+    omega arith
+whole-falls e p r later before h (Fall ∷ front) below marked =
+    let rest = Lowers-append e p r front later before h in
+    let lows = rest.less_low in
+    let w = rest.less_worth false in
+    let product = mul-le-mul_left {m = low (front ++ later) + low (front ++ later)} {n = low (front ++ before) + low (front ++ before)} below (omega arith) in
+    omega arith
+whole-falls e p r later before h (Bare up ∷ front) below marked = whole-falls e p r later before h front (below + 1) marked

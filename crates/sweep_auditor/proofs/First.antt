@@ -1,13 +1,14 @@
 -- What the first legitimate configuration tells of the run.
-use Rattle.std.proofs.Common.{◌≡◌, ℕ, ◌-◌, ◌*◌, ◌^◌, ◌≤◌, List, length, take, Option, Some, None, IfSome, arith, inl, inr}
+use Rattle.std.proofs.Common.{◌≡◌, ℕ, ◌+◌, ◌-◌, ◌*◌, ◌^◌, ◌≤◌, List, length, take, Option, Some, None, IfSome, arith, inl, inr}
 use Rattle.std.specs.Prelude.{IsSomeAnd}
 use Rattle.std.proofs.lemmas.Bool.{cases_lt}
 use Rattle.std.proofs.lemmas.List.{take_all}
 use Rattle.four_state.specs.Configuration.{Configuration, IsConfiguration}
+use Rattle.four_state.specs.Privilege.{privileges_of}
 use Rattle.sweep_auditor.specs.Run.{IsRun, IsFirstLegitimate}
 use Rattle.sweep_auditor.specs.Stabilization.{top_of, ReachesLegitimate, Sweeps}
 use Rattle.sweep_auditor.specs.declared.moves.Move.{Move}
-use Rattle.sweep_auditor.proofs.Bound.{stabilizes, stabilizes_in_cube}
+use Rattle.sweep_auditor.proofs.Bound.{stabilizes, stabilizes_from_any, stabilizes_in_cube}
 use Rattle.sweep_auditor.proofs.Sweep.{sweeps}
 
 -- it comes no later than any
@@ -30,8 +31,11 @@ module _ (c : Configuration) (moves : List Move) (i : ℕ) (first : Option ℕ) 
   whole_found : IsFirstLegitimate c moves (length moves) first
   whole_found = let last : i ≡ length moves = omega arith in rw last at found
 
-  pub reached : 3 * top_of c * (top_of c - 1) ≤ length moves → IsSomeAnd first (λ k. k ≤ 3 * top_of c * (top_of c - 1))
+  pub reached : let n = top_of c in let k = length (privileges_of c) in (k - 1) * (2 * n - k) + 1 ≤ length moves → IsSomeAnd first (λ i. i ≤ (k - 1) * (2 * n - k) + 1)
   reached l = first_within c moves _ first whole_found l (stabilizes c moves is whole_run l)
+
+  pub reached_from_any : top_of c ^ 2 - top_of c + 1 ≤ length moves → IsSomeAnd first (λ k. k ≤ top_of c ^ 2 - top_of c + 1)
+  reached_from_any l = first_within c moves _ first whole_found l (stabilizes_from_any c moves is whole_run l)
 
   pub reached_in_cube : top_of c ^ 3 - 1 ≤ length moves → IsSomeAnd first (λ k. k ≤ top_of c ^ 3 - 1)
   reached_in_cube l = first_within c moves _ first whole_found l (stabilizes_in_cube c moves is whole_run l)

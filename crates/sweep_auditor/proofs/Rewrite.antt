@@ -1,7 +1,10 @@
 -- What a move does to the marks of the line: one of four rewrites, at the station's own boundaries.
-use Rattle.std.proofs.Common.{◌≡◌, ℕ, ◌+◌, ◌≤◌, List, [], ◌∷◌, ◌++◌, length, arith}
+use Rattle.std.proofs.Common.{◌≡◌, ℕ, ◌+◌, ◌≤◌, Bool, true, false, List, [], ◌∷◌, ◌++◌, map, length, sym, ap, ◌∙◌, arith}
+use Rattle.std.proofs.lemmas.List.{map-append, length-map}
 use Rattle.four_state.specs.Marks.{Mark, Rising, Falling, Still, mark_count}
 use Rattle.four_state.specs.PrivilegeLaws.{mark_count-append}
+use Rattle.sweep_auditor.proofs.Rows as Row
+use Rattle.sweep_auditor.proofs.Rows.{Cell, Rise, Fall, Bare, count, mark_of}
 
 -- a rise goes up onto a mark, and what it leaves there
 pub data Onto : Mark → Mark → Type 0 where
@@ -27,6 +30,39 @@ pub data Step (s : ℕ) (before later : List Mark) : Type 0 where
   raise : (front back : List Mark) (m k : Mark) → Onto m k → s ≡ length front + 1 → before ≡ front ++ Rising ∷ m ∷ back → later ≡ front ++ Still ∷ k ∷ back → Step s before later
   lower : (front back : List Mark) (m k : Mark) → Under m k → s ≡ length front + 1 → before ≡ front ++ m ∷ Falling ∷ back → later ≡ front ++ k ∷ Still ∷ back → Step s before later
   top : (front : List Mark) (k : Mark) → AtTop k → s ≡ length front + 1 → before ≡ front ++ Rising ∷ [] → later ≡ front ++ k ∷ [] → Step s before later
+
+-- ---- a change of the row
+
+onto_of : (up : Bool) (m k : Cell) → Row.Onto up m k → Onto (mark_of m) (mark_of k)
+onto_of up m k (Row.leaves_fall _) = leaves_fall
+onto_of up m k (Row.leaves_none _) = leaves_none
+onto_of up m k (Row.onto_up _) = onto_none
+onto_of up m k Row.onto_low = onto_none
+onto_of up m k Row.onto_fall = onto_fall
+
+under_of : (below : ℕ) (m k : Cell) → Row.Under below m k → Under (mark_of m) (mark_of k)
+under_of below m k Row.under_rise = under_rise
+under_of below m k Row.falls_on = falls_on
+under_of below m k (Row.vanishes some) = vanishes
+
+top_of : (k : Cell) → Row.AtTop k → AtTop (mark_of k)
+top_of k Row.turns = turns
+top_of k Row.ends = ends
+
+pub Step-of : (s : ℕ) (before later : List Cell) → Row.Change s before later → Step s (map mark_of before) (map mark_of later)
+Step-of s before later (Row.bottom back e b l) = bottom (map mark_of back) e (ap (map mark_of) b) (ap (map mark_of) l)
+Step-of s before later (Row.raise front back up m k onto e b l) =
+    raise (map mark_of front) (map mark_of back) (mark_of m) (mark_of k) (onto_of up m k onto) (e ∙ ap (λ n. n + 1) (sym (length-map front mark_of)))
+    (ap (map mark_of) b ∙ map-append mark_of front (Rise up ∷ m ∷ back))
+    (ap (map mark_of) l ∙ map-append mark_of front (Bare true ∷ k ∷ back))
+Step-of s before later (Row.lower front back m k under e b l) =
+    lower (map mark_of front) (map mark_of back) (mark_of m) (mark_of k) (under_of (count front) m k under) (e ∙ ap (λ n. n + 1) (sym (length-map front mark_of)))
+    (ap (map mark_of) b ∙ map-append mark_of front (m ∷ Fall ∷ back))
+    (ap (map mark_of) l ∙ map-append mark_of front (k ∷ Bare false ∷ back))
+Step-of s before later (Row.top front k turn e b l) =
+    top (map mark_of front) (mark_of k) (top_of k turn) (e ∙ ap (λ n. n + 1) (sym (length-map front mark_of)))
+    (ap (map mark_of) b ∙ map-append mark_of front (Rise false ∷ []))
+    (ap (map mark_of) l ∙ map-append mark_of front (k ∷ []))
 
 -- ---- no move adds a mark
 

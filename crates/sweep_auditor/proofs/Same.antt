@@ -7,7 +7,7 @@ use Rattle.four_state.specs.Configuration.{Configuration, IsConfiguration, stati
 use Rattle.four_state.specs.Privilege.{IsLegitimate}
 use Rattle.four_state.specs.Marks.{Mark, Rising, Falling, Still, rises, mark_at, marks_from, marks_of, mark_count}
 use Rattle.four_state.specs.PrivilegeLaws.{mark_count-append, length-privileges_of, up_above}
-use Rattle.sweep_auditor.proofs.Local.{marks_from-add}
+use Rattle.sweep_auditor.proofs.Rows.{map_range-add}
 use Rattle.sweep_auditor.proofs.Phases.{place, place-most, phase_of}
 
 -- ---- the same marks
@@ -85,7 +85,7 @@ up_is : (c : Configuration) (n i : ℕ) → IsConfiguration c → stations c ≡
 up_is c n i h e one l =
     let rest = n - i in
     let whole : i + rest ≡ n = omega arith in
-    let parts : marks_from c 0 n ≡ marks_from c 0 i ++ marks_from c (0 + i) rest = ap (marks_from c 0) (sym whole) ∙ marks_from-add c i rest 0 in
+    let parts : marks_from c 0 n ≡ marks_from c 0 i ++ marks_from c (0 + i) rest = ap (marks_from c 0) (sym whole) ∙ map_range-add (mark_at c) i rest 0 in
     let counts = ap mark_count parts ∙ mark_count-append (marks_from c 0 i) (marks_from c (0 + i) rest) in
     let here : 0 + i ≡ i = omega arith in
     elim (cases_lt 0 (mark_count (marks_from c 0 i))) [

@@ -1,8 +1,8 @@
 -- What every run of the line has, from whatever configuration, and whichever privilege moves each time.
-use Rattle.std.specs.Prelude.{◌≡◌, ◌↔◌, ℕ, ◌-◌, ◌*◌, ◌^◌, ◌%◌, ◌≤◌, List, length, map, drop, nat_le, if◌then◌else◌}
+use Rattle.std.specs.Prelude.{◌≡◌, ◌↔◌, ℕ, ◌+◌, ◌-◌, ◌*◌, ◌^◌, ◌%◌, ◌≤◌, List, length, map, drop, nat_le, if◌then◌else◌}
 use Rattle.std.specs.List.{range_with_len}
 use Rattle.four_state.specs.Configuration.{Configuration, IsConfiguration, stations}
-use Rattle.four_state.specs.Privilege.{IsLegitimate}
+use Rattle.four_state.specs.Privilege.{IsLegitimate, privileges_of}
 use Rattle.sweep_auditor.specs.Run.{IsRun, configuration_at}
 use Rattle.sweep_auditor.specs.declared.moves.Move.{Move}
 
@@ -16,10 +16,16 @@ pub record ReachesLegitimate (c : Configuration) (moves : List Move) (most : ℕ
   pub within : number ≤ most
   pub legitimate : IsLegitimate (configuration_at c moves number)
 
--- With N for the number of the top station: every run of 3·N·(N - 1) moves contains a legitimate configuration.
+-- With N for the number of the top station and k for the number of privileges at the start: every run of
+-- (k - 1)·(2·N - k) + 1 moves contains a legitimate configuration.
 abbrev pub Stabilizes : Type 0
 Stabilizes =
-    (c : Configuration) (moves : List Move) → IsConfiguration c → IsRun c moves → let n = top_of c in 3 * n * (n - 1) ≤ length moves → ReachesLegitimate c moves (3 * n * (n - 1))
+    (c : Configuration) (moves : List Move) → IsConfiguration c → IsRun c moves → let n = top_of c in let k = length (privileges_of c) in (k - 1) * (2 * n - k) + 1 ≤ length moves → ReachesLegitimate c moves ((k - 1) * (2 * n - k) + 1)
+
+-- From any start, every run of N² - N + 1 moves does.
+abbrev pub StabilizesFromAny : Type 0
+StabilizesFromAny =
+    (c : Configuration) (moves : List Move) → IsConfiguration c → IsRun c moves → let n = top_of c in n ^ 2 - n + 1 ≤ length moves → ReachesLegitimate c moves (n ^ 2 - n + 1)
 
 -- Every run of N³ - 1 moves does.
 abbrev pub StabilizesInCube : Type 0

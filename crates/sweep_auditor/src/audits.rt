@@ -1,8 +1,8 @@
 //! The audit of a list of moves.
 
-ghost use Rattle.std.specs.Prelude.{◌≡◌, ℕ, ◌-◌, ◌*◌, ◌^◌, ◌≤◌, ◌↔◌, length, drop, IsOk, IfOk, IfErr, IfSome, IsSomeAnd, Some, None};
+ghost use Rattle.std.specs.Prelude.{◌≡◌, ℕ, ◌+◌, ◌-◌, ◌*◌, ◌^◌, ◌≤◌, ◌↔◌, length, drop, IsOk, IfOk, IfErr, IfSome, IsSomeAnd, Some, None};
 ghost use Rattle.four_state.specs.Configuration.{IsLine};
-ghost use Rattle.four_state.specs.Privilege.{IsLegitimate};
+ghost use Rattle.four_state.specs.Privilege.{IsLegitimate, privileges_of};
 ghost use Rattle.sweep_auditor.specs.Run.{after, IsRun, IsFirstLegitimate, AuditRefuses};
 ghost use Rattle.sweep_auditor.specs.Stabilization.{top_of, LegitimateFrom, IsStretch, ComesRound};
 
@@ -19,12 +19,18 @@ pub fn audit(start: Line, moves: &[Move]) -> Result<Audit, AuditRefusal>
     ensures first { IfOk result
         (λ audit. IsFirstLegitimate start moves.now (length moves.now) audit.first_legitimate) }
 
-    // With n for the number of the top station, 3·n·(n - 1) moves are enough, whichever they are,
-    // and so are n³ - 1.
+    // With n for the number of the top station and k for the number of privileges at the start,
+    // (k - 1)·(2·n - k) + 1 moves are enough, whichever they are. From any start n² - n + 1 are
+    // enough, and so are n³ - 1.
     ensures stabilizes { IfOk result
         (λ audit. let n = top_of start in
-        3 * n * (n - 1) ≤ length moves.now
-        → IsSomeAnd audit.first_legitimate (λ i. i ≤ 3 * n * (n - 1))) }
+        let k = length (privileges_of start) in
+        (k - 1) * (2 * n - k) + 1 ≤ length moves.now
+        → IsSomeAnd audit.first_legitimate (λ i. i ≤ (k - 1) * (2 * n - k) + 1)) }
+    ensures stabilizes_from_any { IfOk result
+        (λ audit. let n = top_of start in
+        n ^ 2 - n + 1 ≤ length moves.now
+        → IsSomeAnd audit.first_legitimate (λ i. i ≤ n ^ 2 - n + 1)) }
     ensures stabilizes_in_cube { IfOk result
         (λ audit. let n = top_of start in
         n ^ 3 - 1 ≤ length moves.now

@@ -2,6 +2,8 @@ use super::{Audit, AuditRefusal, Move, audit};
 use four_state::{Line, Rule};
 use std::process::Abort;
 
+mod longest;
+
 const RULES: [Rule; 4] = [Rule::Bottom, Rule::Top, Rule::Raise, Rule::Lower];
 
 // The line with these bits, written station 0 first.

@@ -7,7 +7,7 @@ use Rattle.sweep_auditor.specs.declared.moves.Move.{Move}
 use Rattle.sweep_auditor.specs.Run.{next}
 use Rattle.sweep_auditor.specs.RunLaws.{configuration_at-more, IsRun-more}
 use Rattle.sweep_auditor.specs.Stabilization.{top_of, LegitimateFrom, IsStretch, ComesRound, Sweeps}
-use Rattle.sweep_auditor.proofs.First.{reached, reached_in_cube, first_sweeps, some_part}
+use Rattle.sweep_auditor.proofs.First.{reached, reached_from_any, reached_in_cube, first_sweeps, some_part}
 use Rattle.sweep_auditor.proofs.Runs.{first_more, privilege_at}
 use Rattle.sweep_auditor.proofs.audits.audit.Goals as goal
 
@@ -64,6 +64,11 @@ pub returns-clause-stabilizes : goal.returns-clause-stabilizes
 returns-clause-stabilizes c =
     let known = c.loop-index.invariant in
     reached c.args.start c.args.moves.now c.loop-index.index c.loop-index.first_legitimate (start_is c) known.run known.first c.loop-index-test.false c.loop-index.auto.index-end
+
+pub returns-clause-stabilizes_from_any : goal.returns-clause-stabilizes_from_any
+returns-clause-stabilizes_from_any c =
+    let known = c.loop-index.invariant in
+    reached_from_any c.args.start c.args.moves.now c.loop-index.index c.loop-index.first_legitimate (start_is c) known.run known.first c.loop-index-test.false c.loop-index.auto.index-end
 
 pub returns-clause-stabilizes_in_cube : goal.returns-clause-stabilizes_in_cube
 returns-clause-stabilizes_in_cube c =
