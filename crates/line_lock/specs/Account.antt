@@ -15,11 +15,12 @@ pub record WasDenied (opening : Configuration) (history : List Turn) (station he
   pub within : held ≤ length history
   pub no_privilege : ¬ HasPrivilege (line_after opening (take held history)) station
 
--- The history bears out what a seat holds: its turns are those of its station, in order, each once, and where it was
--- told that it isn't its turn, it wasn't.
+-- The history bears out what a seat holds: its turns are those of its station, in order, each once; where it was told
+-- that it isn't its turn, it wasn't; and the history holds as many turns as it was told.
 pub record IsBorneOut (opening : Configuration) (history : List Turn) (seat : SeatState) : Type 0 where
   pub turns : seat.turns ≡ turns_of seat.station history
   pub denied : IfSome seat.denied (WasDenied opening history seat.station)
+  pub reached : seat.reached ≤ length history
 
 -- how many of the seats are the station's
 abbrev pub seats_of : ℕ → List SeatState → ℕ

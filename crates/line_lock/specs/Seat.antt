@@ -11,10 +11,12 @@ pub record SeatState : Type 0 where
   pub turns : List Turn
   -- how many turns the history held when the station was last told that it isn't its turn
   pub denied : Option ℕ
+  -- the greatest number of turns that it was told the history holds, where it asked for fewer; 0 where it never was
+  pub reached : ℕ
 
 -- a seat as an opening hands it out
 abbrev pub new_seat : ℕ → SeatState
-new_seat station = record { station = station; turns = []; denied = None }
+new_seat station = record { station = station; turns = []; denied = None; reached = 0 }
 
 -- The turn is the last one of a legal history.
 pub record EndsLegalHistory (turn : Turn) : Type 0 where

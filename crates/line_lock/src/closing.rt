@@ -1,6 +1,7 @@
 //! What closing an office looks at, and what it answers.
-ghost use Rattle.std.specs.Prelude.{◌≡◌, ◌≢◌, ℕ, ◌-◌, ◌^◌, ◌<◌, ◌≤◌, ◌⊎◌, ◌↔◌, All, sum_by, length, take, drop, IfSome, IsSomeAnd, true, false, IsTrue, OnOk, Err, Some, slice_get};
+ghost use Rattle.std.specs.Prelude.{◌≡◌, ◌≢◌, ℕ, ◌+◌, ◌-◌, ◌*◌, ◌^◌, ◌<◌, ◌≤◌, ◌⊎◌, ◌↔◌, All, sum_by, length, take, drop, IfSome, IsSomeAnd, true, false, IsTrue, OnOk, Err, Some, slice_get};
 ghost use Rattle.four_state.specs.Configuration.{stations};
+ghost use Rattle.four_state.specs.Privilege.{privileges_of};
 ghost use Rattle.sweep_auditor.specs.Run.{IsFirstLegitimate};
 ghost use Rattle.sweep_auditor.specs.Stabilization.{top_of, LegitimateFrom, IsStretch, ComesRound};
 ghost use Rattle.turn_clerk.specs.History.{line_after, moves_of};
@@ -110,7 +111,7 @@ fn is_borne_out<D: Device, L: Ledger>(clerk: &Clerk<D>, seat: &Seat<L>) -> bool
         Some(held) => was_denied(clerk, seat.station(), held),
         None => true,
     };
-    denied && lists_all(seat, clerk.history())
+    denied && seat.reached() <= clerk.history().len() as u64 && lists_all(seat, clerk.history())
 }
 
 /// Whether an office with this clerk can be closed with these seats, or why not.
@@ -160,6 +161,13 @@ pub(crate) fn audited<D: Device>(clerk: &Clerk<D>) -> Audit
     ensures last { result.last ≡ line_after clerk.now.opening.line clerk.now.history }
     ensures first { let moves = moves_of clerk.now.history in
         IsFirstLegitimate clerk.now.opening.line moves (length moves) result.first_legitimate }
+    ensures stabilizes { let n = top_of clerk.now.opening.line in
+        let k = length (privileges_of clerk.now.opening.line) in
+        (k - 1) * (2 * n - k) + 1 ≤ length (moves_of clerk.now.history)
+        → IsSomeAnd result.first_legitimate (λ i. i ≤ (k - 1) * (2 * n - k) + 1) }
+    ensures stabilizes_from_any { let n = top_of clerk.now.opening.line in
+        n ^ 2 - n + 1 ≤ length (moves_of clerk.now.history)
+        → IsSomeAnd result.first_legitimate (λ i. i ≤ n ^ 2 - n + 1) }
     ensures stabilizes_in_cube { let n = top_of clerk.now.opening.line in
         n ^ 3 - 1 ≤ length (moves_of clerk.now.history) → IsSomeAnd result.first_legitimate (λ i. i ≤ n ^ 3 - 1) }
     ensures stays_legitimate { IfSome result.first_legitimate

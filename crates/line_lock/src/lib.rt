@@ -4,11 +4,13 @@
 mod closing;
 mod locked;
 mod office;
+mod refusals;
 mod seat;
 
 pub use closing::{CloseRefusal, Closing};
 pub use four_state::{Line, Rule};
 pub use office::Office;
+pub use refusals::WithinRefusal;
 pub use seat::Seat;
 pub use sector_device::Device;
 pub use std::sync::ledger::{Blank, Ledger};

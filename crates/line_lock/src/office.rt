@@ -1,9 +1,10 @@
 //! The office.
-ghost use Rattle.std.specs.Prelude.{◌≡◌, ◌≢◌, ℕ, ◌-◌, ◌^◌, ◌<◌, ◌≤◌, ◌↔◌, ◌∷◌, ◌++◌, [], length, map, drop, All, sum_by, IfOk, IfErr, OnOk, OnErr, IsErrAnd, IfSome, IsSomeAnd, Some, Err, vec_len, vec_capacity};
+ghost use Rattle.std.specs.Prelude.{◌≡◌, ◌≢◌, ℕ, ◌+◌, ◌-◌, ◌*◌, ◌^◌, ◌<◌, ◌≤◌, ◌↔◌, ◌∷◌, ◌++◌, [], length, map, drop, All, sum_by, IfOk, IfErr, OnOk, OnErr, IsErrAnd, IfSome, IsSomeAnd, Some, Err, vec_len, vec_capacity};
 ghost use Rattle.std.specs.List.{range_with_len};
 ghost use Rattle.sector_device.specs.Device.{AreCalls};
 ghost use Rattle.sector_device.specs.Crash.{OnlyLooks};
 ghost use Rattle.four_state.specs.Configuration.{stations};
+ghost use Rattle.four_state.specs.Privilege.{privileges_of};
 ghost use Rattle.sweep_auditor.specs.Run.{IsRun, IsFirstLegitimate};
 ghost use Rattle.sweep_auditor.specs.Stabilization.{top_of, LegitimateFrom, IsStretch, ComesRound};
 ghost use Rattle.turn_clerk.specs.Clerk.{KeepsHistory, LeavesAcknowledged, LeftPrefixEver};
@@ -15,6 +16,7 @@ ghost use Rattle.line_lock.specs.Seat.{new_seat, EndsLegalHistory};
 
 use crate::closing::{CloseRefusal, Closing, audited, gathered, look_at};
 use crate::locked::{Answer, Locked};
+use crate::refusals::WithinRefusal;
 use crate::seat::Seat;
 use four_state::Line;
 use sector_device::Device;
@@ -73,6 +75,7 @@ impl<D: Device, L: Ledger> Office<D, L> {
         entries: &[Entry],
     ) -> Result<Turn, TurnRefusal>
         ensures station { seat.new.station ≡ seat.old.station }
+        ensures reached { seat.new.reached ≡ seat.old.reached }
         ensures listed { IfOk result (λ turn. seat.new.turns ≡ seat.old.turns ++ turn ∷ []) }
         ensures by { IfOk result (λ turn. turn.station ≡ seat.old.station) }
         ensures asked { IfOk result (λ turn. turn.entries ≡ entries.now) }
@@ -88,6 +91,7 @@ impl<D: Device, L: Ledger> Office<D, L> {
             station,
             turns,
             denied,
+            reached: _,
             share,
         } = seat;
         if turns.reserve(1).is_err() {
@@ -95,6 +99,53 @@ impl<D: Device, L: Ledger> Office<D, L> {
         }
         let answer = self.locked.lock(rt).turn(*station, share, entries);
         noted(turns, denied, answer)
+    }
+
+    /// As `turn`, but for an office whose history is meant to hold so many turns and no more: under the lock it is looked
+    /// at first whether it holds them.
+    pub fn turn_within<R: Wait>(
+        &self,
+        rt: &R,
+        seat: &mut Seat<L>,
+        entries: &[Entry],
+        limit: u64,
+    ) -> Result<Turn, WithinRefusal>
+        ensures station { seat.new.station ≡ seat.old.station }
+        ensures reached { result ≡ Err WithinRefusal.Reached → limit ≤ seat.new.reached }
+        ensures not_reached { result ≢ Err WithinRefusal.Reached → seat.new.reached ≡ seat.old.reached }
+        ensures never_falls { seat.old.reached ≤ seat.new.reached }
+        ensures within { IfOk result (λ turn. turn.index < limit) }
+        ensures listed { IfOk result (λ turn. seat.new.turns ≡ seat.old.turns ++ turn ∷ []) }
+        ensures by { IfOk result (λ turn. turn.station ≡ seat.old.station) }
+        ensures asked { IfOk result (λ turn. turn.entries ≡ entries.now) }
+        ensures index { IfOk result (λ turn. length seat.old.turns ≤ turn.index) }
+        ensures last { IfOk result EndsLegalHistory }
+        ensures not_listed { OnErr result (seat.new.turns ≡ seat.old.turns) }
+        ensures denied { result ≡ Err (WithinRefusal.Turn TurnRefusal.NotPrivileged) → IsSomeAnd seat.new.denied (λ held. length seat.old.turns ≤ held) }
+        ensures not_denied { result ≢ Err (WithinRefusal.Turn TurnRefusal.NotPrivileged) → seat.new.denied ≡ seat.old.denied }
+        ensures too_many { result ≡ Err (WithinRefusal.Turn TurnRefusal.TooMany) → BATCH_LIMIT < length entries.now }
+        ensures there { result ≢ Err (WithinRefusal.Turn TurnRefusal.NoStation) }
+    {
+        let Seat {
+            station,
+            turns,
+            denied,
+            reached,
+            share,
+        } = seat;
+        if turns.reserve(1).is_err() {
+            return Err(WithinRefusal::Turn(TurnRefusal::Memory));
+        }
+        let mut locked = self.locked.lock(rt);
+        if locked.holds(limit) {
+            *reached = limit.max(*reached);
+            return Err(WithinRefusal::Reached);
+        }
+        let answer = locked.turn(*station, share, entries);
+        match noted(turns, denied, answer) {
+            Ok(turn) => Ok(turn),
+            Err(refusal) => Err(WithinRefusal::Turn(refusal)),
+        }
     }
 
     /// Closes the office, where the list has the seat of each station and the history bears out what each one holds:
@@ -128,6 +179,13 @@ impl<D: Device, L: Ledger> Office<D, L> {
         ensures last { IfOk result (λ closing. closing.audit.last ≡ closing.clerk.line) }
         ensures first { IfOk result (λ closing. let moves = moves_of closing.clerk.history in
             IsFirstLegitimate closing.clerk.opening.line moves (length moves) closing.audit.first_legitimate) }
+        ensures stabilizes { IfOk result (λ closing. let n = top_of closing.clerk.opening.line in
+            let k = length (privileges_of closing.clerk.opening.line) in
+            (k - 1) * (2 * n - k) + 1 ≤ length closing.clerk.history
+            → IsSomeAnd closing.audit.first_legitimate (λ i. i ≤ (k - 1) * (2 * n - k) + 1)) }
+        ensures stabilizes_from_any { IfOk result (λ closing. let n = top_of closing.clerk.opening.line in
+            n ^ 2 - n + 1 ≤ length closing.clerk.history
+            → IsSomeAnd closing.audit.first_legitimate (λ i. i ≤ n ^ 2 - n + 1)) }
         ensures stabilizes_in_cube { IfOk result (λ closing. let n = top_of closing.clerk.opening.line in
             n ^ 3 - 1 ≤ length closing.clerk.history
             → IsSomeAnd closing.audit.first_legitimate (λ i. i ≤ n ^ 3 - 1)) }

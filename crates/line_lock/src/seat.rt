@@ -14,6 +14,7 @@ pub struct Seat<L: Ledger> {
     pub(crate) station: u8,
     pub(crate) turns: Vec<Turn>,
     pub(crate) denied: Option<u64>,
+    pub(crate) reached: u64,
     pub(crate) share: Share<L>,
 }
 
@@ -23,7 +24,7 @@ impl<L: Ledger> Model for Seat<L> {
 
     ghost Value = { SeatState };
 
-    ghost view = { λ s. record { station = s.station; turns = s.turns.items; denied = s.denied } };
+    ghost view = { λ s. record { station = s.station; turns = s.turns.items; denied = s.denied; reached = s.reached } };
 
     ghost invariant = { λ s. (s.station < L.parts) × (s.share.parts ≡ 1) × (s.share.amount ≡ length s.turns.items) };
 }
@@ -39,6 +40,7 @@ impl<L: Ledger> Seat<L> {
             station,
             turns: Vec::new(alloc),
             denied: None,
+            reached: 0,
             share,
         }
     }
@@ -63,5 +65,13 @@ impl<L: Ledger> Seat<L> {
         ensures { result ≡ self.now.denied }
     {
         self.denied
+    }
+
+    /// The greatest limit that the seat was answered [`crate::WithinRefusal::Reached`] for: the office's history held as
+    /// many turns then; 0 where it never was.
+    pub fn reached(&self) -> u64
+        ensures { result ≡ self.now.reached }
+    {
+        self.reached
     }
 }

@@ -167,6 +167,7 @@ impl Scene for AnotherTurnInTheList {
             station,
             mut turns,
             denied,
+            reached,
             share,
         } = bottom;
         assert!(rt; turns.pop() == Some(turn));
@@ -175,6 +176,7 @@ impl Scene for AnotherTurnInTheList {
             station,
             turns,
             denied,
+            reached,
             share,
         })?;
         seats.push(top)?;

@@ -1,7 +1,7 @@
 //! What a seat is answered.
 
 use super::{Scene, act, deposit, formatted, line};
-use crate::{Closing, Ledger, Office, Rule, Seat, TurnRefusal};
+use crate::{Closing, Ledger, Office, Rule, Seat, TurnRefusal, WithinRefusal};
 use sector_device::MemoryDevice;
 use std::process::Abort;
 use std::sync::Wait;
@@ -36,7 +36,18 @@ impl Scene for OneTurnAfterTheOther {
             Err(TurnRefusal::NotPrivileged)
         );
         assert_eq!(rt; bottom.denied(), Some(1));
-        let second = office.turn(rt, &mut top, &[])?;
+        let stopped = office.turn_within(rt, &mut top, &[], 1);
+        assert_eq!(rt; (stopped, top.reached()), (Err(WithinRefusal::Reached), 1));
+        let second = office.turn_within(rt, &mut top, &[], 2)?;
+        let refused = office.turn_within(rt, &mut top, &[], 3);
+        assert_eq!(rt;
+            refused,
+            Err(WithinRefusal::Turn(TurnRefusal::NotPrivileged))
+        );
+        assert_eq!(rt;
+            (top.denied(), top.reached(), bottom.reached()),
+            (Some(2), 1, 0)
+        );
         assert_eq!(rt;
             (second.index, second.rule, second.posted),
             (1, Rule::Top, None)
