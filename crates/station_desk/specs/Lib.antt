@@ -1,0 +1,5 @@
+pub mod Messages
+pub mod MessageLaws
+pub mod Rings
+pub mod Outcomes
+pub mod OutcomeLaws
