@@ -3,3 +3,5 @@ pub mod MessageLaws
 pub mod Rings
 pub mod Outcomes
 pub mod OutcomeLaws
+pub mod Served
+pub mod ServedLaws

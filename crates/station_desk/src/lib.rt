@@ -16,7 +16,7 @@ mod rings;
 pub use desk_end::Desk;
 pub use feed::Feed;
 pub use messages::{Answer, Ask, Outcome};
-pub use reconciling::Reconciled;
+pub use reconciling::{Reconciled, reconcile};
 pub use rings::desk;
 pub use turn_clerk::Turn;
 pub use turn_ledger::{Entry, EntryRefusal};
