@@ -21,7 +21,7 @@ pub given-next : (first now after : List Answer) (asks : List Ask) (outcomes : L
     → after ≡ first ++ answers_to (take (place + 1) asks) outcomes
 given-next first now after asks outcomes place ask outcome before added here there =
     rw add-one (
-      added ∙ ap (λ (answers : List Answer). answers ++ answer_to ask outcome ∷ []) before
-      ∙ append_assoc first (answers_to (take place asks) outcomes) (answer_to ask outcome ∷ [])
-      ∙ ap (λ (answers : List Answer). first ++ answers) (sym (answers_to-next asks outcomes place ask outcome here there))
+    added ∙ ap (λ (answers : List Answer). answers ++ answer_to ask outcome ∷ []) before
+    ∙ append_assoc first (answers_to (take place asks) outcomes) (answer_to ask outcome ∷ [])
+    ∙ ap (λ (answers : List Answer). first ++ answers) (sym (answers_to-next asks outcomes place ask outcome here there))
     )

@@ -59,6 +59,10 @@ pub record DeskState : Type 0 where
   -- the requests that it has seen in their ring
   pub waiting : List Ask
 
+-- The feed stands at the same rings as before.
+abbrev pub StandsAt : FeedState → FeedState → Type 0
+StandsAt old new = (new.asks ≡ old.asks) × (new.answers ≡ old.answers) × (new.capacity ≡ old.capacity)
+
 -- A feed and a desk at the two ends of the same two rings.
 pub record AreTogether (feed : FeedState) (desk : DeskState) : Type 0 where
   pub asks : feed.asks ≡ desk.asks

@@ -35,9 +35,13 @@ impl Model for Desk {
     ghost Value = { DeskState };
 
     ghost view = { λ desk. record {
-        asks = ring_popped desk.asks; answers = ring_pushed desk.answers;
-        taken = received desk.asks; given = sent desk.answers; held = desk.held;
-        free = known_free desk.answers; waiting = known_items desk.asks
+      asks = ring_popped desk.asks;
+      answers = ring_pushed desk.answers;
+      taken = received desk.asks;
+      given = sent desk.answers;
+      held = desk.held;
+      free = known_free desk.answers;
+      waiting = known_items desk.asks;
     } };
 
     ghost invariant = { λ desk. (received desk.asks ≡ asks_of (sent desk.answers) ++ desk.held)
@@ -51,8 +55,13 @@ impl Desk {
     pub(crate) fn new(asks: Consumer<Ask>, answers: Producer<Answer>, held: HeldAsks) -> Desk
         requires { (received asks ≡ []) × (sent answers ≡ []) × (held ≡ []) }
         ensures { result ≡ record {
-            asks = ring_popped asks; answers = ring_pushed answers;
-            taken = []; given = []; held = []; free = known_free answers; waiting = known_items asks
+          asks = ring_popped asks;
+          answers = ring_pushed answers;
+          taken = [];
+          given = [];
+          held = [];
+          free = known_free answers;
+          waiting = known_items asks;
         } }
     {
         Desk {
@@ -85,8 +94,10 @@ impl Desk {
     pub fn settle(&mut self, turn: &Turn)
         requires { turn.now.entries ≡ entries_of self.old.held }
         ensures answered { self.new ≡ record self.old {
-            given = self.old.given ++ answers_to self.old.held (outcomes_of turn.now);
-            held = []; free = self.old.free - length self.old.held } }
+          given = self.old.given ++ answers_to self.old.held (outcomes_of turn.now);
+          held = [];
+          free = self.old.free - length self.old.held;
+        } }
         ensures decided { All IsDecided (outcomes_of turn.now) }
     {
         give(&mut self.answers, self.held.asks(), turn);
@@ -96,8 +107,10 @@ impl Desk {
     /// Answers each request that is held, in order, that it is undecided. Nothing is held afterwards.
     pub fn give_up(&mut self)
         ensures { self.new ≡ record self.old {
-            given = self.old.given ++ answers_to self.old.held (undecided self.old.held);
-            held = []; free = self.old.free - length self.old.held } }
+          given = self.old.given ++ answers_to self.old.held (undecided self.old.held);
+          held = [];
+          free = self.old.free - length self.old.held;
+        } }
     {
         give_undecided(&mut self.answers, self.held.asks());
         self.held.clear();

@@ -21,5 +21,5 @@ pub use rings::desk;
 pub use turn_clerk::Turn;
 pub use turn_ledger::{Entry, EntryRefusal};
 
-
-
+#[cfg(test)]
+mod tests;

@@ -74,11 +74,7 @@ pub fn reconcile(
 }
 
 // Places for all that a ring of answers, and for all that a desk and a ring of requests can hold.
-fn places(
-    alloc: Global,
-    answers: usize,
-    asks: usize,
-) -> Result<(Vec<Answer>, Vec<Ask>), AllocError>
+fn places(alloc: Global, answers: usize, asks: usize) -> Result<(Vec<Answer>, Vec<Ask>), AllocError>
     requires { asks < 2 ^ 63 }
     ensures answers { IfOk result (λ lists. (lists.0.items ≡ []) × (answers ≤ vec_capacity lists.0)) }
     ensures asks { IfOk result (λ lists. (lists.1.items ≡ []) × (asks + BATCH_LIMIT ≤ vec_capacity lists.1)) }

@@ -15,12 +15,25 @@ pub fn desk(alloc: Global, capacity: usize) -> Result<(Feed, Desk), AllocError>
     requires few { capacity ≤ 4096 }
     ensures together { IfOk result (λ ends. AreTogether ends.0 ends.1) }
     ensures feed { IfOk result (λ ends. ends.0 ≡ record ends.0 {
-        capacity = capacity; asked = []; collected = []; free = capacity; arrived = [] }) }
+      capacity = capacity;
+      asked = [];
+      collected = [];
+      free = capacity;
+      arrived = [];
+    }) }
     ensures desk { IfOk result (λ ends. ends.1 ≡ record ends.1 {
-        taken = []; given = []; held = []; free = capacity; waiting = [] }) }
+      taken = [];
+      given = [];
+      held = [];
+      free = capacity;
+      waiting = [];
+    }) }
 {
     let (asked, gathered) = RingBuffer::new(alloc, capacity)?;
     let (given, collected) = RingBuffer::new(alloc, capacity)?;
     let held = HeldAsks::new(alloc)?;
-    Ok((Feed::new(asked, collected), Desk::new(gathered, given, held)))
+    Ok((
+        Feed::new(asked, collected),
+        Desk::new(gathered, given, held),
+    ))
 }
