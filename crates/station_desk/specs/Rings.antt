@@ -3,7 +3,6 @@ use Rattle.std.specs.Prelude.{◌≡◌, ◌⊎◌, ◌+◌, ◌≤◌, ℕ, Lis
 use Rattle.std.specs.declared.alloc.Global.{Global}
 use denote.RawPtr.{Ptr}
 use Rattle.rtrb.specs.Shared.{Names}
-use Rattle.rtrb.specs.Ring.{received, known_items, SameConsumer}
 use Rattle.rtrb.specs.declared.producer.Producer.{Producer}
 use Rattle.rtrb.specs.declared.consumer.Consumer.{Consumer}
 use Rattle.rtrb.specs.declared.AnyItems.{AnyItems}
@@ -93,13 +92,3 @@ pub record HasGathered (old new : DeskState) : Type 0 where
   pub took_all : (length new.held ≡ BATCH_LIMIT) ⊎ (length new.held ≡ new.free) ⊎ (new.waiting ≡ [])
   -- all else stays
   pub same : new ≡ record old { taken = new.taken; held = new.held; free = new.free; waiting = new.waiting }
-
--- What a taking of requests, until `room` of them are held, makes of their ring and of what is held.
-pub record HasTaken (old new : Consumer Ask Global AnyItems) (held_before held_after : List Ask) (room : ℕ) : Type 0 where
-  -- the requests that were taken
-  pub more : List Ask
-  pub ring : SameConsumer old new
-  pub taken : received new ≡ received old ++ more
-  pub held : held_after ≡ held_before ++ more
-  pub few : length held_after ≤ room
-  pub took_all : (length held_after ≡ room) ⊎ (known_items new ≡ [])

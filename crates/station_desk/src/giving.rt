@@ -2,7 +2,7 @@
 ghost use Rattle.std.specs.Prelude.{◌≡◌, ◌⊎◌, ◌+◌, ◌≤◌, ◌<◌, [], ◌++◌, length, slice_get, Some};
 ghost use Rattle.rtrb.specs.Ring.{sent, known_free, SameProducer};
 ghost use Rattle.station_desk.specs.Messages.{entries_of, answers_to, answer_to};
-ghost use Rattle.station_desk.specs.Rings.{HasTaken};
+ghost use Rattle.station_desk.specs.Taking.{HasTaken};
 ghost use Rattle.station_desk.specs.Outcomes.{outcomes_of, outcome_of, undecided};
 
 use crate::held::HeldAsks;
