@@ -151,8 +151,10 @@ impl<D: Device> Device for Held<D> {
         ensures durable { (D.state self.old.inner).honest
             → OnOk result (IsDurable (held_state D.state self.new)) }
         ensures counted { HasCountedSync self.old self.new }
-        ensures others { self.old.syncs ≢ self.old.at → IsPassedOn D.state self.old self.new (IsErr result) }
-        ensures held { IsPassedOn D.state self.old self.new (IsErr result) ⊎ IsHeldBack self.old self.new (IsErr result) }
+        ensures others { self.old.syncs ≢ self.old.at
+            → IsPassedOn D.state self.old self.new (IsErr result) }
+        ensures held { IsPassedOn D.state self.old self.new (IsErr result)
+            ⊎ IsHeldBack self.old self.new (IsErr result) }
     {
         if !self.passes() {
             return Err(DeviceFault);

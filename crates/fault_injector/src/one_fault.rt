@@ -85,7 +85,8 @@ impl<D: Device> Device for OneFault<D> {
         ensures counted { HasCountedOne self.old self.new Op.Read }
         ensures fails { FailsThis self.old Op.Read → IsErr result }
         ensures unreached { FailsThis self.old Op.Read → self.new.inner ≡ self.old.inner }
-        ensures passed_on { (FailsThis self.old Op.Read → ⊥) → AreCalls (D.state self.old.inner) (D.state self.new.inner) (IsErr result) }
+        ensures passed_on { (FailsThis self.old Op.Read → ⊥)
+            → AreCalls (D.state self.old.inner) (D.state self.new.inner) (IsErr result) }
     {
         if self.fails(Op::Read) {
             return Err(DeviceFault);
@@ -103,7 +104,8 @@ impl<D: Device> Device for OneFault<D> {
         ensures counted { HasCountedOne self.old self.new Op.Write }
         ensures fails { FailsThis self.old Op.Write → IsErr result }
         ensures unreached { FailsThis self.old Op.Write → self.new.inner ≡ self.old.inner }
-        ensures passed_on { (FailsThis self.old Op.Write → ⊥) → AreCalls (D.state self.old.inner) (D.state self.new.inner) (IsErr result) }
+        ensures passed_on { (FailsThis self.old Op.Write → ⊥)
+            → AreCalls (D.state self.old.inner) (D.state self.new.inner) (IsErr result) }
     {
         if self.fails(Op::Write) {
             return Err(DeviceFault);
@@ -120,7 +122,8 @@ impl<D: Device> Device for OneFault<D> {
         ensures counted { HasCountedOne self.old self.new Op.Sync }
         ensures fails { FailsThis self.old Op.Sync → IsErr result }
         ensures unreached { FailsThis self.old Op.Sync → self.new.inner ≡ self.old.inner }
-        ensures passed_on { (FailsThis self.old Op.Sync → ⊥) → AreCalls (D.state self.old.inner) (D.state self.new.inner) (IsErr result) }
+        ensures passed_on { (FailsThis self.old Op.Sync → ⊥)
+            → AreCalls (D.state self.old.inner) (D.state self.new.inner) (IsErr result) }
     {
         if self.fails(Op::Sync) {
             return Err(DeviceFault);

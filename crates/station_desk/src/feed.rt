@@ -99,7 +99,8 @@ impl Feed {
           collected = self.old.collected ++ answer ∷ [];
           arrived = self.new.arrived;
         }) }
-        ensures oldest { IfSome result (λ answer. IsPrefix self.old.arrived (answer ∷ self.new.arrived)) }
+        ensures oldest { IfSome result (λ answer.
+            IsPrefix self.old.arrived (answer ∷ self.new.arrived)) }
         ensures none { IsNone result → (self.new ≡ self.old) × (self.old.arrived ≡ []) }
         ensures succeeds { 0 < length self.old.arrived → IsSome result }
     {

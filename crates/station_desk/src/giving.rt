@@ -30,7 +30,8 @@ pub(crate) fn give(answers: &mut Producer<Answer>, asks: &[Ask], turn: &Turn)
     requires entries { turn.now.entries ≡ entries_of asks.now }
     requires free { length asks.now ≤ known_free answers.old }
     ensures ring { SameProducer answers.old answers.new }
-    ensures given { sent answers.new ≡ sent answers.old ++ answers_to asks.now (outcomes_of turn.now) }
+    ensures given { sent answers.new
+        ≡ sent answers.old ++ answers_to asks.now (outcomes_of turn.now) }
     ensures free { known_free answers.old ≡ known_free answers.new + length asks.now }
 {
     for (place, ask) in asks.iter().enumerate() {
@@ -42,7 +43,8 @@ pub(crate) fn give(answers: &mut Producer<Answer>, asks: &[Ask], turn: &Turn)
 pub(crate) fn give_undecided(answers: &mut Producer<Answer>, asks: &[Ask])
     requires { length asks.now ≤ known_free answers.old }
     ensures ring { SameProducer answers.old answers.new }
-    ensures given { sent answers.new ≡ sent answers.old ++ answers_to asks.now (undecided asks.now) }
+    ensures given { sent answers.new
+        ≡ sent answers.old ++ answers_to asks.now (undecided asks.now) }
     ensures free { known_free answers.old ≡ known_free answers.new + length asks.now }
 {
     for ask in asks {

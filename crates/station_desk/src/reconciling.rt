@@ -42,7 +42,8 @@ pub fn reconcile(
     ensures in_order { IfOk result (λ all.
         feed.asked ≡ asks_of feed.collected ++ asks_of all.answers.items ++ all.unanswered.items) }
     ensures given { IfOk result (λ all. desk.given ≡ feed.collected ++ all.answers.items) }
-    ensures held_first { IfOk result (λ all. take (length desk.held) all.unanswered.items ≡ desk.held) }
+    ensures held_first { IfOk result (λ all.
+        take (length desk.held) all.unanswered.items ≡ desk.held) }
     ensures tickets { AreNumberedFrom 0 feed.asked }
     ensures back { IfErr result (λ back. (back.0 ≡ feed) × (back.1 ≡ desk)) }
 {
@@ -76,8 +77,10 @@ pub fn reconcile(
 // Places for all that a ring of answers, and for all that a desk and a ring of requests can hold.
 fn places(alloc: Global, answers: usize, asks: usize) -> Result<(Vec<Answer>, Vec<Ask>), AllocError>
     requires { asks < 2 ^ 63 }
-    ensures answers { IfOk result (λ lists. (lists.0.items ≡ []) × (answers ≤ vec_capacity lists.0)) }
-    ensures asks { IfOk result (λ lists. (lists.1.items ≡ []) × (asks + BATCH_LIMIT ≤ vec_capacity lists.1)) }
+    ensures answers { IfOk result (λ lists.
+        (lists.0.items ≡ []) × (answers ≤ vec_capacity lists.0)) }
+    ensures asks { IfOk result (λ lists.
+        (lists.1.items ≡ []) × (asks + BATCH_LIMIT ≤ vec_capacity lists.1)) }
 {
     let unanswered = Vec::with_capacity(alloc, asks + BATCH_LIMIT)?;
     Ok((Vec::with_capacity(alloc, answers)?, unanswered))
