@@ -6,7 +6,9 @@
 #![tactic(auto)]
 
 mod desk_end;
+mod end;
 mod feed;
+mod gate;
 mod giving;
 mod held;
 mod messages;
@@ -14,11 +16,13 @@ mod reconciling;
 mod rings;
 
 pub use desk_end::Desk;
+pub use end::End;
 pub use feed::Feed;
+pub use gate::Gate;
 pub use messages::{Answer, Ask, Outcome};
 pub use reconciling::{Reconciled, reconcile};
 pub use rings::desk;
-pub use turn_clerk::Turn;
+pub use turn_clerk::{Turn, TurnRefusal};
 pub use turn_ledger::{Entry, EntryRefusal};
 
 #[cfg(test)]
