@@ -1,1 +1,3 @@
 pub mod Fuse
+pub mod Held
+pub mod OneFault

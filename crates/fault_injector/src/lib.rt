@@ -2,9 +2,13 @@
 #![tactic(auto)]
 
 mod fuse;
+mod held;
+mod one_fault;
 mod op;
 
 pub use fuse::Fuse;
+pub use held::{Held, HeldFlags};
+pub use one_fault::OneFault;
 pub use op::Op;
 pub use sector_device::{Device, DeviceFault, Sector};
 

@@ -1,0 +1,27 @@
+-- Answering what is held, one request after another, and all of it.
+use Rattle.std.specs.Prelude.{◌≡◌, ◌+◌, suc, ℕ, List, [], ◌∷◌, ◌++◌, length, slice_get, Some}
+use Rattle.std.proofs.Common.{sym, ◌∙◌, ap, take, arith, add-one, append_assoc}
+use Rattle.std.proofs.lemmas.List.{append-nil}
+use Rattle.station_desk.specs.declared.messages.Ask.{Ask}
+use Rattle.station_desk.specs.declared.messages.Answer.{Answer}
+use Rattle.station_desk.specs.declared.messages.Outcome.{Outcome}
+use Rattle.station_desk.specs.Messages.{asks_of, answer_to, answers_to}
+use Rattle.station_desk.specs.MessageLaws.{asks_of-given, answers_to-next}
+
+-- what was taken then has its answers
+pub all_answered : (taken : List Ask) (given : List Answer) (held : List Ask) (outcomes : List Outcome) → length held ≡ length outcomes
+    → taken ≡ asks_of given ++ held → taken ≡ asks_of (given ++ answers_to held outcomes) ++ []
+all_answered taken given held outcomes same before =
+    before ∙ sym (asks_of-given given held outcomes same) ∙ sym (append-nil (asks_of (given ++ answers_to held outcomes)))
+
+-- one request more has its answer
+pub given-next : (first now after : List Answer) (asks : List Ask) (outcomes : List Outcome) (place : ℕ) (ask : Ask) (outcome : Outcome)
+    → now ≡ first ++ answers_to (take place asks) outcomes → after ≡ now ++ answer_to ask outcome ∷ []
+    → slice_get asks place ≡ Some ask → slice_get outcomes place ≡ Some outcome
+    → after ≡ first ++ answers_to (take (place + 1) asks) outcomes
+given-next first now after asks outcomes place ask outcome before added here there =
+    rw add-one (
+    added ∙ ap (λ (answers : List Answer). answers ++ answer_to ask outcome ∷ []) before
+    ∙ append_assoc first (answers_to (take place asks) outcomes) (answer_to ask outcome ∷ [])
+    ∙ ap (λ (answers : List Answer). first ++ answers) (sym (answers_to-next asks outcomes place ask outcome here there))
+    )

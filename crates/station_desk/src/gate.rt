@@ -1,0 +1,11 @@
+//! Who is told how far a station is.
+
+/// Is told by each station, in the station's own thread, how far it is. Nothing is claimed of what it does; a station
+/// goes on when the call returns.
+pub trait Gate {
+    /// The station has gathered, and asks for its turn next.
+    fn gathered(&self, station: u8);
+
+    /// The station has answered all that it held.
+    fn answered(&self, station: u8);
+}

@@ -1,0 +1,29 @@
+//! The two rings between a client and its station: requests go one way and answers come back, in order, and neither
+//! side waits for the other.
+//!
+//! A client has a [`Feed`]: it submits entries, each under a ticket, and collects the answers. A station has a [`Desk`]:
+//! it gathers requests, takes a turn with their entries, and answers each of them, once.
+#![tactic(auto)]
+
+mod desk_end;
+mod end;
+mod feed;
+mod gate;
+mod giving;
+mod held;
+mod messages;
+mod reconciling;
+mod rings;
+
+pub use desk_end::Desk;
+pub use end::End;
+pub use feed::Feed;
+pub use gate::Gate;
+pub use messages::{Answer, Ask, Outcome};
+pub use reconciling::{Reconciled, reconcile};
+pub use rings::desk;
+pub use turn_clerk::{Turn, TurnRefusal};
+pub use turn_ledger::{Entry, EntryRefusal};
+
+#[cfg(test)]
+mod tests;
