@@ -6,3 +6,6 @@ pub mod Outcomes
 pub mod OutcomeLaws
 pub mod Served
 pub mod ServedLaws
+pub mod Worked
+pub mod WorkedLaws
+pub mod Run

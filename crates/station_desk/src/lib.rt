@@ -14,6 +14,7 @@ mod held;
 mod messages;
 mod reconciling;
 mod rings;
+mod stations;
 
 pub use desk_end::Desk;
 pub use end::End;
@@ -22,6 +23,7 @@ pub use gate::Gate;
 pub use messages::{Answer, Ask, Outcome};
 pub use reconciling::{Reconciled, reconcile};
 pub use rings::desk;
+pub use stations::{Station, run_stations};
 pub use turn_clerk::{Turn, TurnRefusal};
 pub use turn_ledger::{Entry, EntryRefusal};
 

@@ -1,0 +1,72 @@
+use Rattle.std.proofs.Common.{rules, ◌≡◌, ◌≢◌, ◌∙◌, [], ◌∷◌, Err, refl, sym, ap}
+use Rattle.std.proofs.lemmas.List.{append-nil}
+use Rattle.turn_clerk.specs.declared.refusals.TurnRefusal.TheVariants.{Device}
+use Rattle.line_lock.specs.declared.refusals.WithinRefusal.TheVariants.{Turn}
+use Rattle.station_desk.specs.Rings.{DeskState}
+use Rattle.station_desk.specs.Served.{HasServed}
+use Rattle.station_desk.specs.ServedLaws.{served-nothing, served-gathered, served-settled, served-given_up}
+use Rattle.station_desk.proofs.stations.round.Goals as goal
+
+pub returns-in-Ok-clause-worked : goal.returns-in-Ok-clause-worked
+returns-in-Ok-clause-worked g c =
+    let old = c.args.desk.now in
+    let mid = c.gather-entries.follows.lender-at-none in
+    let gathered = c.gather-entries.follows.holds-at-none in
+    let turn = c.in-Ok.turn in
+    let far : HasServed old mid [] [] = served-gathered old old mid [] [] (served-nothing old) gathered.0 in
+    record {
+      turns = turn ∷ [];
+      given_up = [];
+      station = c.turn_within.ensures.station;
+      listed = c.in-Ok.ensures.listed;
+      served = served-settled old mid c.settle.new.self [] turn far (c.in-Ok.ensures.asked ∙ gathered.1) c.settle.ensures.answered;
+      undecided = λ not. refl;
+      nothing_held = λ failed. absurd (cc);
+    }
+
+pub returns-in-Err-Reached-clause-worked : goal.returns-in-Err-Reached-clause-worked
+returns-in-Err-Reached-clause-worked g c =
+    let old = c.args.desk.now in
+    let mid = c.gather-entries.follows.lender-at-none in
+    let gathered = c.gather-entries.follows.holds-at-none in
+    record {
+      turns = [];
+      given_up = [];
+      station = c.turn_within.ensures.station;
+      listed = c.in-Err-Reached.ensures.not_listed ∙ sym (append-nil c.args.seat.now.turns);
+      served = served-gathered old old mid [] [] (served-nothing old) gathered.0;
+      undecided = λ not. refl;
+      nothing_held = λ failed. absurd (cc);
+    }
+
+pub returns-then-ne-clause-worked : goal.returns-then-ne-clause-worked
+returns-then-ne-clause-worked g c =
+    let old = c.args.desk.now in
+    let mid = c.gather-entries.follows.lender-at-none in
+    let gathered = c.gather-entries.follows.holds-at-none in
+    let another : c.in-Err-Turn.refusal ≢ Device = search rules in
+    record {
+      turns = [];
+      given_up = [];
+      station = c.turn_within.ensures.station;
+      listed = c.in-Err-Turn.ensures.not_listed ∙ sym (append-nil c.args.seat.now.turns);
+      served = served-gathered old old mid [] [] (served-nothing old) gathered.0;
+      undecided = λ not. refl;
+      nothing_held = λ failed. absurd (another cc);
+    }
+
+pub returns-else-ne-clause-worked : goal.returns-else-ne-clause-worked
+returns-else-ne-clause-worked g c =
+    let old = c.args.desk.now in
+    let mid = c.gather-entries.follows.lender-at-none in
+    let gathered = c.gather-entries.follows.holds-at-none in
+    let device : c.in-Err-Turn.refusal ≡ Device = search rules in
+    record {
+      turns = [];
+      given_up = mid.held;
+      station = c.turn_within.ensures.station;
+      listed = c.in-Err-Turn.ensures.not_listed ∙ sym (append-nil c.args.seat.now.turns);
+      served = served-given_up old mid c.give_up.new.self [] (served-gathered old old mid [] [] (served-nothing old) gathered.0) c.give_up.ensures;
+      undecided = λ not. absurd (not (λ i. Err (Turn (device i))));
+      nothing_held = λ failed. ap (λ (desk : DeskState). desk.held) c.give_up.ensures;
+    }

@@ -1,0 +1,22 @@
+-- What a run makes of its stations.
+use Rattle.std.specs.Prelude.{◌≡◌, ◌≢◌, ◌<◌, ◌≤◌, ℕ, List, length}
+use Rattle.std.specs.List.{slice_index_or}
+use Rattle.line_lock.specs.Seat.{SeatState}
+use Rattle.turn_clerk.specs.declared.refusals.TurnRefusal.TheVariants.{Device}
+use Rattle.station_desk.specs.declared.end.End.{End}
+use Rattle.station_desk.specs.declared.end.End.TheVariants.{NotStarted, Reached, Refused}
+use Rattle.station_desk.specs.declared.stations.Station.{Station}
+use Rattle.station_desk.specs.Rings.{DeskState}
+use Rattle.station_desk.specs.Worked.{HasWorked}
+
+-- A station has worked, and ended: as Reached only where its seat was told that the history holds so many turns.
+pub record HasRun (old new : SeatState) (before after : DeskState) (end : End) (moves : ℕ) : Type 0 where
+  pub worked : HasWorked old new before after (end ≡ Refused Device)
+  pub reached : end ≡ Reached → moves ≤ new.reached
+  pub started : end ≢ NotStarted
+
+-- Each of the stations has run; there are as many, in the same order.
+pub record HaveRun {X : Type 0} (old new : List (Station X)) (moves : ℕ) : Type 0 where
+  pub as_many : length new ≡ length old
+  pub each : (i : ℕ) (d : Station X) → i < length old
+      → HasRun (slice_index_or old i d).seat (slice_index_or new i d).seat (slice_index_or old i d).desk (slice_index_or new i d).desk (slice_index_or new i d).end moves

@@ -1,0 +1,71 @@
+-- Work at a desk, one piece after another.
+use Rattle.std.specs.Prelude.{◌≡◌, List, [], ◌++◌, refl}
+use Rattle.std.proofs.Common.{sym, ◌∙◌, ap, subst, append_assoc}
+use Rattle.std.proofs.lemmas.List.{append-nil}
+use Rattle.std.proofs.lemmas.Grind.{flat_map-append}
+use Rattle.turn_ledger.specs.declared.entry.Entry.{Entry}
+use Rattle.turn_clerk.specs.declared.turns.Turn.{Turn}
+use Rattle.line_lock.specs.Seat.{SeatState}
+use Rattle.station_desk.specs.declared.messages.Ask.{Ask}
+use Rattle.station_desk.specs.declared.messages.Answer.{Answer}
+use Rattle.station_desk.specs.declared.messages.Outcome.{Outcome}
+use Rattle.station_desk.specs.Messages.{entries_of, asks_of, outcomes_in}
+use Rattle.station_desk.specs.Rings.{DeskState}
+use Rattle.station_desk.specs.Outcomes.{outcomes_of, undecided}
+use Rattle.station_desk.specs.Served.{HasServed, entries_of_turns, outcomes_of_turns}
+use Rattle.station_desk.specs.ServedLaws.{entries_in-append, outcomes_in-append, served-nothing}
+use Rattle.station_desk.specs.Worked.{HasWorked}
+
+pub served-joined : (old mid new : DeskState) (turns more : List Turn) (given_up : List Ask) → HasServed old mid turns [] → HasServed mid new more given_up → HasServed old new (turns ++ more) given_up
+served-joined old mid new turns more given_up far next = record {
+  more = far.more ++ next.more;
+  given = next.given ∙ ap (λ (answers : List Answer). answers ++ next.more) far.given ∙ append_assoc old.given far.more next.more;
+  entries = entries_in-append far.more next.more
+      ∙ (λ i. (far.entries ∙ append-nil (entries_of_turns turns)) i ++ next.entries i)
+      ∙ sym (append_assoc (entries_of_turns turns) (entries_of_turns more) (entries_of given_up))
+      ∙ ap (λ (entries : List Entry). entries ++ entries_of given_up) (sym (flat_map-append (λ (turn : Turn). turn.entries) turns more));
+  outcomes = outcomes_in-append far.more next.more
+      ∙ (λ i. (far.outcomes ∙ append-nil (outcomes_of_turns turns)) i ++ next.outcomes i)
+      ∙ sym (append_assoc (outcomes_of_turns turns) (outcomes_of_turns more) (undecided given_up))
+      ∙ ap (λ (outcomes : List Outcome). outcomes ++ undecided given_up) (sym (flat_map-append outcomes_of turns more));
+  asks = next.asks ∙ far.asks;
+  answers = next.answers ∙ far.answers;
+}
+
+pub worked-nothing : (seat : SeatState) (desk : DeskState) (failed : Type 0) → ¬ failed → HasWorked seat seat desk desk failed
+worked-nothing seat desk failed not = record {
+  turns = [];
+  given_up = [];
+  station = refl;
+  listed = sym (append-nil seat.turns);
+  served = served-nothing desk;
+  undecided = λ _. refl;
+  nothing_held = λ is. absurd (not is);
+}
+
+-- work in which nothing failed, and more of it
+pub worked-joined : (old mid new : SeatState) (before between after : DeskState) (failed : Type 0) → HasWorked old mid before between ⊥ → HasWorked mid new between after failed → HasWorked old new before after failed
+worked-joined old mid new before between after failed far next =
+    let none : far.given_up ≡ [] = far.undecided (λ never. never) in
+    record {
+      turns = far.turns ++ next.turns;
+      given_up = next.given_up;
+      station = next.station ∙ far.station;
+      listed = next.listed ∙ ap (λ (turns : List Turn). turns ++ next.turns) far.listed ∙ append_assoc old.turns far.turns next.turns;
+      served = served-joined before between after far.turns next.turns next.given_up
+          (subst (λ (asks : List Ask). HasServed before between far.turns asks) none far.served) next.served;
+      undecided = next.undecided;
+      nothing_held = next.nothing_held;
+    }
+
+-- that something else failed, or that it is said in other words
+pub worked-where : (old new : SeatState) (before after : DeskState) (failed other : Type 0) → (failed → other) → (other → failed) → HasWorked old new before after failed → HasWorked old new before after other
+worked-where old new before after failed other there back worked = record {
+  turns = worked.turns;
+  given_up = worked.given_up;
+  station = worked.station;
+  listed = worked.listed;
+  served = worked.served;
+  undecided = λ not. worked.undecided (λ is. not (there is));
+  nothing_held = λ is. worked.nothing_held (back is);
+}

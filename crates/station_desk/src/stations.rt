@@ -1,0 +1,154 @@
+//! Stations that take turns, each in a thread of its own.
+ghost use Rattle.std.specs.Prelude.{◌≡◌, ◌≢◌, ◌≤◌, ◌↔◌, Err, Some, None};
+ghost use Rattle.station_desk.specs.Worked.{HasWorked};
+ghost use Rattle.station_desk.specs.Run.{HasRun, HaveRun};
+
+use crate::desk_end::Desk;
+use crate::end::End;
+use crate::gate::Gate;
+use line_lock::{Ledger, Office, Seat, WithinRefusal};
+use sector_device::Device;
+use std::sync::Wait;
+use std::sync::atomic::{AtomicBool, Ordering};
+use std::thread::{Threads, for_each_mut, yield_now};
+use turn_clerk::TurnRefusal;
+
+/// A station: its seat in the office, its desk, and how its last run ended.
+#[derive(Drop)]
+pub struct Station<L: Ledger> {
+    pub seat: Seat<L>,
+    pub desk: Desk,
+    /// [`End::NotStarted`] until a run sets it.
+    pub end: End,
+}
+
+// One round: a turn with all that is gathered, and an answer for each.
+fn round<D: Device, L: Ledger, G: Gate, R: Wait>(
+    rt: &R,
+    office: &Office<D, L>,
+    seat: &mut Seat<L>,
+    desk: &mut Desk,
+    gate: &G,
+    moves: u64,
+) -> Result<(), WithinRefusal>
+    ensures worked { HasWorked seat.old seat.new desk.old desk.new (result ≡ Err (WithinRefusal.Turn TurnRefusal.Device)) }
+    ensures reached { result ≡ Err WithinRefusal.Reached → moves ≤ seat.new.reached }
+{
+    let entries = desk.gather();
+    gate.gathered(seat.station());
+    match office.turn_within(rt, seat, entries, moves) {
+        Ok(turn) => {
+            desk.settle(&turn);
+            gate.answered(seat.station());
+            Ok(())
+        }
+        Err(WithinRefusal::Reached) => Err(WithinRefusal::Reached),
+        Err(WithinRefusal::Turn(refusal)) => {
+            if refusal != TurnRefusal::Device {
+                return Err(WithinRefusal::Turn(refusal));
+            }
+            desk.give_up();
+            Err(WithinRefusal::Turn(refusal))
+        }
+    }
+}
+
+// How a station's run ends by a refusal, where it ends by it: one whose turn it isn't tries again.
+fn end_of(refusal: WithinRefusal) -> Option<End>
+    ensures reached { result ≡ Some End.Reached → refusal ≡ WithinRefusal.Reached }
+    ensures device { (result ≡ Some (End.Refused TurnRefusal.Device)) ↔ (refusal ≡ WithinRefusal.Turn TurnRefusal.Device) }
+    ensures started { result ≢ Some End.NotStarted }
+    ensures none { result ≡ None → refusal ≡ WithinRefusal.Turn TurnRefusal.NotPrivileged }
+{
+    match refusal {
+        WithinRefusal::Reached => Some(End::Reached),
+        WithinRefusal::Turn(refusal) => {
+            if refusal == TurnRefusal::NotPrivileged {
+                None
+            } else {
+                Some(End::Refused(refusal))
+            }
+        }
+    }
+}
+
+// Rounds of a station until it ends, and how it ends.
+fn work<D: Device, L: Ledger, G: Gate, R: Wait>(
+    rt: &R,
+    office: &Office<D, L>,
+    seat: &mut Seat<L>,
+    desk: &mut Desk,
+    gate: &G,
+    stop: &AtomicBool,
+    moves: u64,
+    tries: u64,
+) -> End
+    ensures worked { HasWorked seat.old seat.new desk.old desk.new (result ≡ End.Refused TurnRefusal.Device) }
+    ensures reached { result ≡ End.Reached → moves ≤ seat.new.reached }
+    ensures started { result ≢ End.NotStarted }
+{
+    let mut refused = 0;
+    for _ in rt.forever() {
+        if stop.load(Ordering::SeqCst) {
+            return End::Stopped;
+        }
+        let Err(refusal) = round(rt, office, seat, desk, gate, moves) else {
+            refused = 0;
+            continue;
+        };
+        if let Some(end) = end_of(refusal) {
+            return end;
+        }
+        if refused >= tries {
+            return End::Tries;
+        }
+        refused += 1;
+        yield_now();
+    }
+    unreachable!()
+}
+
+// The run of one station; one that ends otherwise than as Reached stops the others.
+fn run_station<D: Device, L: Ledger, G: Gate, R: Wait>(
+    rt: &R,
+    office: &Office<D, L>,
+    station: &mut Station<L>,
+    gate: &G,
+    stop: &AtomicBool,
+    moves: u64,
+    tries: u64,
+)
+    ensures { HasRun station.old.seat station.new.seat station.old.desk station.new.desk station.new.end moves }
+{
+    let Station { seat, desk, end } = station;
+    *end = work(rt, office, seat, desk, gate, stop, moves, tries);
+    if *end != End::Reached {
+        stop.store(true, Ordering::SeqCst);
+    }
+}
+
+/// Runs the stations of an office, one thread for each, until the history holds so many turns. A station repeats: it
+/// gathers, asks for its turn within `moves`, and answers. Where it isn't its turn it lets other threads go on and asks
+/// again, at most `tries` times in a row. Where the device fails it answers what it holds that it is undecided; after
+/// any other refusal what it holds stays held, for it was never written. A station that ends otherwise than as
+/// [`End::Reached`] makes the others end as [`End::Stopped`] at their next round. Where the system refuses a thread,
+/// stations run one after another. The call may wait.
+pub fn run_stations<D: Device + Send, L: Ledger + Send + Sync, G: Gate + Sync, R: Threads + Wait + Sync>(
+    rt: &R,
+    office: &Office<D, L>,
+    stations: &mut [Station<L>],
+    gate: &G,
+    moves: u64,
+    tries: u64,
+)
+    ensures { HaveRun stations.old stations.new moves }
+{
+    if stations.is_empty() {
+        return;
+    }
+    let stop = AtomicBool::new(false);
+    let threads = stations.len();
+    for_each_mut(rt, stations, threads, &|_, station| {
+        run_station(rt, office, station, gate, &stop, moves, tries)
+    });
+}
