@@ -14,4 +14,6 @@ mod power_losses;
 #[cfg(test)]
 mod refusals;
 #[cfg(test)]
+mod stations;
+#[cfg(test)]
 mod turns;
