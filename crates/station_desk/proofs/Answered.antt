@@ -1,6 +1,6 @@
 -- Answering what is held, one request after another, and all of it.
-use Rattle.std.specs.Prelude.{◌≡◌, ◌+◌, suc, ℕ, List, [], ◌∷◌, ◌++◌, length, slice_get, Some}
-use Rattle.std.proofs.Common.{sym, ◌∙◌, ap, take, arith, add-one, append_assoc}
+use Rattle.std.specs.Prelude.{◌≡◌, ◌+◌, ℕ, List, [], ◌∷◌, ◌++◌, length, slice_get, Some}
+use Rattle.std.proofs.Common.{sym, ◌∙◌, ap, take, add-one, append_assoc}
 use Rattle.std.proofs.lemmas.List.{append-nil}
 use Rattle.station_desk.specs.declared.messages.Ask.{Ask}
 use Rattle.station_desk.specs.declared.messages.Answer.{Answer}

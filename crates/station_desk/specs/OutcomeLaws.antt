@@ -1,14 +1,12 @@
 -- Laws of what turns answer.
-use Rattle.std.specs.Prelude.{◌≡◌, ℕ, zero, suc, ◌+◌, ◌<◌, ◌==◌, true, false, Bool, List, [], ◌∷◌, ◌++◌, length, map, count_by, is_ok, is_none, slice_get, Option, Some, None, Ok, Err, refl}
-use Rattle.std.specs.List.{All, flat_map}
+use Rattle.std.specs.Prelude.{◌≡◌, ℕ, zero, suc, ◌+◌, ◌==◌, List, [], ◌∷◌, length, map, count_by, is_ok, is_none, slice_get, Option, Some, None, Ok, Err}
+use Rattle.std.specs.List.{All}
 use Rattle.std.proofs.Common.{◌∙◌, ap, arith, cond}
 use Rattle.std.proofs.lemmas.List.Sums.{sum_by-cons}
-use Rattle.std.proofs.lemmas.List.{map-append, length-map}
+use Rattle.std.proofs.lemmas.List.{length-map}
 use Rattle.std.proofs.lemmas.Bool.Decides.{nat_tests}
 use Rattle.turn_ledger.specs.Entry.{Verdict}
 use Rattle.turn_clerk.specs.declared.turns.Turn.{Turn}
-use Rattle.station_desk.specs.declared.messages.Outcome.{Outcome}
-use Rattle.station_desk.specs.declared.messages.Outcome.TheVariants.{Posted, Refused, Undecided}
 use Rattle.station_desk.specs.Outcomes.{outcome_of, outcomes_of, IsDecided}
 
 -- a number is there exactly where a verdict is a yes

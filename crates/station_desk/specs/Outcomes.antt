@@ -1,14 +1,10 @@
 -- What a turn answers to the requests whose entries it took.
-use Rattle.std.specs.Prelude.{◌≡◌, ℕ, List, [], ◌∷◌, ◌++◌, map, Option, Some, None, Ok, Err}
-use Rattle.std.specs.List.{flat_map}
-use Rattle.turn_ledger.specs.declared.entry.Entry.{Entry}
+use Rattle.std.specs.Prelude.{ℕ, List, map, Option, Some, None, Ok, Err}
 use Rattle.turn_ledger.specs.Entry.{Verdict}
 use Rattle.turn_clerk.specs.declared.turns.Turn.{Turn}
 use Rattle.station_desk.specs.declared.messages.Ask.{Ask}
-use Rattle.station_desk.specs.declared.messages.Answer.{Answer}
 use Rattle.station_desk.specs.declared.messages.Outcome.{Outcome}
 use Rattle.station_desk.specs.declared.messages.Outcome.TheVariants.{Posted, Refused, Undecided}
-use Rattle.station_desk.specs.Messages.{entries_of, outcomes_in, asks_of}
 
 -- What became of an entry with this verdict in a turn that posted under this number: a refused one is told its refusal,
 -- an accepted one the number. A turn that accepts an entry has a number, by its type; so the last case never comes.

@@ -9,7 +9,7 @@ use Rattle.line_lock.specs.Seat.{SeatState}
 use Rattle.station_desk.specs.declared.messages.Ask.{Ask}
 use Rattle.station_desk.specs.declared.messages.Answer.{Answer}
 use Rattle.station_desk.specs.declared.messages.Outcome.{Outcome}
-use Rattle.station_desk.specs.Messages.{entries_of, asks_of, outcomes_in}
+use Rattle.station_desk.specs.Messages.{entries_of}
 use Rattle.station_desk.specs.Rings.{DeskState}
 use Rattle.station_desk.specs.Outcomes.{outcomes_of, undecided}
 use Rattle.station_desk.specs.Served.{HasServed, entries_of_turns, outcomes_of_turns}

@@ -1,5 +1,5 @@
 //! Stations that take turns, each in a thread of its own.
-ghost use Rattle.std.specs.Prelude.{◌≡◌, ◌≢◌, ◌≤◌, ◌↔◌, Err, Some, None};
+ghost use Rattle.std.specs.Prelude.{◌≡◌, ◌≢◌, ◌+◌, ◌≤◌, ◌↔◌, length, OnOk, OnErr, Err, Some, None};
 ghost use Rattle.station_desk.specs.Worked.{HasWorked};
 ghost use Rattle.station_desk.specs.Run.{HasRun, HaveRun};
 
@@ -32,6 +32,8 @@ fn round<D: Device, L: Ledger, G: Gate, R: Wait>(
     moves: u64,
 ) -> Result<(), WithinRefusal>
     ensures worked { HasWorked seat.old seat.new desk.old desk.new (result ≡ Err (WithinRefusal.Turn TurnRefusal.Device)) }
+    ensures one_turn { OnOk result (length seat.new.turns ≡ length seat.old.turns + 1) }
+    ensures no_turn { OnErr result (seat.new.turns ≡ seat.old.turns) }
     ensures reached { result ≡ Err WithinRefusal.Reached → moves ≤ seat.new.reached }
 {
     let entries = desk.gather();
@@ -133,14 +135,12 @@ fn run_station<D: Device, L: Ledger, G: Gate, R: Wait>(
 /// any other refusal what it holds stays held, for it was never written. A station that ends otherwise than as
 /// [`End::Reached`] makes the others end as [`End::Stopped`] at their next round. Where the system refuses a thread,
 /// stations run one after another. The call may wait.
-pub fn run_stations<D: Device + Send, L: Ledger + Send + Sync, G: Gate + Sync, R: Threads + Wait + Sync>(
-    rt: &R,
-    office: &Office<D, L>,
-    stations: &mut [Station<L>],
-    gate: &G,
-    moves: u64,
-    tries: u64,
-)
+pub fn run_stations<
+    D: Device + Send,
+    L: Ledger + Send + Sync,
+    G: Gate + Sync,
+    R: Threads + Wait + Sync,
+>(rt: &R, office: &Office<D, L>, stations: &mut [Station<L>], gate: &G, moves: u64, tries: u64)
     ensures { HaveRun stations.old stations.new moves }
 {
     if stations.is_empty() {
@@ -148,7 +148,10 @@ pub fn run_stations<D: Device + Send, L: Ledger + Send + Sync, G: Gate + Sync, R
     }
     let stop = AtomicBool::new(false);
     let threads = stations.len();
-    for_each_mut(rt, stations, threads, &|_, station| {
-        run_station(rt, office, station, gate, &stop, moves, tries)
-    });
+    for_each_mut(
+        rt,
+        stations,
+        threads,
+        &|_, station| { run_station(rt, office, station, gate, &stop, moves, tries) },
+    );
 }

@@ -1,8 +1,7 @@
-use Rattle.std.proofs.Common.{◌≡◌, ap, sym, ◌∙◌, refl}
+use Rattle.std.proofs.Common.{ap, sym, ◌∙◌, refl}
 use Rattle.std.proofs.lemmas.Option.{slice_get-map}
 use Rattle.std.specs.Option.{option_map}
-use Rattle.station_desk.specs.declared.messages.Outcome.{Outcome}
-use Rattle.station_desk.specs.Outcomes.{outcome_of, outcomes_of}
+use Rattle.station_desk.specs.Outcomes.{outcome_of}
 use Rattle.station_desk.specs.OutcomeLaws.{never_without}
 use Rattle.station_desk.proofs.giving.outcome_at.Goals as goal
 

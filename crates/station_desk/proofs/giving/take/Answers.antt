@@ -1,4 +1,4 @@
-use Rattle.std.proofs.Common.{◌≡◌, ◌∷◌, [], length, arith, sym, ap, ◌∙◌, inl, inr}
+use Rattle.std.proofs.Common.{◌≡◌, length, arith, sym, ap, inl, inr}
 use Rattle.std.proofs.lemmas.List.{length_push}
 use Rattle.station_desk.specs.declared.messages.Ask.{Ask}
 use Rattle.station_desk.proofs.Taking.{Taking, none_taken, one_more_taken, still_taken}

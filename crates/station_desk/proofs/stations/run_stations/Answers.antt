@@ -1,5 +1,5 @@
 use denote.Param.{param}
-use denote.Param.Send.{IsSend, IsSync, sendable}
+use denote.Param.Send.{IsSync, sendable}
 use Rattle.std.proofs.Crossing.{crosses}
 use Rattle.line_lock.specs.contracts.office.Office as office
 use Rattle.line_lock.proofs.Sharing.{office_sync}

@@ -1,10 +1,9 @@
-use Rattle.std.proofs.Common.{rules, ◌≡◌, ◌∙◌, Err, Some, sym, ap}
+use Rattle.std.proofs.Common.{◌≡◌, ◌∙◌, Err, Some, ap}
 use Rattle.turn_clerk.specs.declared.refusals.TurnRefusal.TheVariants.{Device}
 use Rattle.line_lock.specs.declared.refusals.WithinRefusal.{WithinRefusal}
 use Rattle.line_lock.specs.declared.refusals.WithinRefusal.TheVariants.{Turn}
 use Rattle.station_desk.specs.declared.end.End.{End}
 use Rattle.station_desk.specs.declared.end.End.TheVariants.{Refused}
-use Rattle.station_desk.specs.Worked.{HasWorked}
 use Rattle.station_desk.specs.WorkedLaws.{worked-nothing, worked-joined, worked-where}
 use Rattle.station_desk.proofs.stations.work.Goals as goal
 

@@ -1,5 +1,5 @@
-use Rattle.std.proofs.Common.{◌≡◌, ◌≤◌, ◌++◌, [], length, arith, ap, sym, ◌∙◌}
-use Rattle.rtrb.specs.Ring.{sent, received, known_free}
+use Rattle.std.proofs.Common.{◌≡◌, ◌++◌, [], length, arith, ap, sym, ◌∙◌}
+use Rattle.rtrb.specs.Ring.{sent, received}
 use Rattle.station_desk.specs.Messages.{entries_of, asks_of, answers_to}
 use Rattle.station_desk.specs.MessageLaws.{length-entries_of}
 use Rattle.station_desk.specs.Rings.{DeskState}

@@ -1,4 +1,4 @@
-use Rattle.std.proofs.Common.{◌≡◌, ◌+◌, ◌∷◌, ◌++◌, [], length, arith, subst, sym}
+use Rattle.std.proofs.Common.{◌≡◌, ◌+◌, ◌∷◌, ◌++◌, [], length, arith}
 use Rattle.std.proofs.lemmas.List.{length_push}
 use Rattle.rtrb.specs.Ring.{sent}
 use Rattle.station_desk.specs.declared.messages.Ask.{Ask}
