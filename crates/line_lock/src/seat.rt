@@ -8,7 +8,8 @@ use std::sync::ledger::{Ledger, Share};
 use turn_clerk::Turn;
 
 /// A station's right to take turns, and an account of those that it took. Each turn that its station takes is counted
-/// in the office's book by the seat's share, which no one else has. `L` names the book: a seat fits its own office alone.
+/// in the office's book by the seat's share, which no one else has. `L` names the book: a seat of another
+/// office has another type, and a list with it is refused by the compiler (`mismatched-types`).
 #[derive(Drop)]
 pub struct Seat<L: Ledger> {
     pub(crate) station: u8,
