@@ -3,6 +3,7 @@ ghost use Rattle.std.specs.Prelude.{◌≡◌, ◌<◌, ◌≤◌};
 ghost use Rattle.four_state.specs.Configuration.{stations};
 
 mod beside;
+mod clients;
 mod days;
 
 use line_lock::{Ledger, Line, Office, Seat};
