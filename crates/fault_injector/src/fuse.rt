@@ -107,7 +107,8 @@ impl<D: Device> Device for Fuse<D> {
         ensures counted { HasCounted self.old self.new Op.Write }
         ensures fails { Fails self.old Op.Write → IsErr result }
         ensures unreached { Fails self.old Op.Write → self.new.inner ≡ self.old.inner }
-        ensures passed_on { (Fails self.old Op.Write → ⊥) → AreCalls (D.state self.old.inner) (D.state self.new.inner) (IsErr result) }
+        ensures passed_on { (Fails self.old Op.Write → ⊥)
+            → AreCalls (D.state self.old.inner) (D.state self.new.inner) (IsErr result) }
     {
         if self.fails(Op::Write) {
             return Err(DeviceFault);

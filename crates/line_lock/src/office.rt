@@ -82,7 +82,8 @@ impl<D: Device, L: Ledger> Office<D, L> {
         ensures index { IfOk result (λ turn. length seat.old.turns ≤ turn.index) }
         ensures last { IfOk result EndsLegalHistory }
         ensures not_listed { OnErr result (seat.new.turns ≡ seat.old.turns) }
-        ensures denied { result ≡ Err TurnRefusal.NotPrivileged → IsSomeAnd seat.new.denied (λ held. length seat.old.turns ≤ held) }
+        ensures denied { result ≡ Err TurnRefusal.NotPrivileged
+            → IsSomeAnd seat.new.denied (λ held. length seat.old.turns ≤ held) }
         ensures not_denied { result ≢ Err TurnRefusal.NotPrivileged → seat.new.denied ≡ seat.old.denied }
         ensures too_many { result ≡ Err TurnRefusal.TooMany → BATCH_LIMIT < length entries.now }
         ensures there { result ≢ Err TurnRefusal.NoStation }
@@ -121,9 +122,12 @@ impl<D: Device, L: Ledger> Office<D, L> {
         ensures index { IfOk result (λ turn. length seat.old.turns ≤ turn.index) }
         ensures last { IfOk result EndsLegalHistory }
         ensures not_listed { OnErr result (seat.new.turns ≡ seat.old.turns) }
-        ensures denied { result ≡ Err (WithinRefusal.Turn TurnRefusal.NotPrivileged) → IsSomeAnd seat.new.denied (λ held. length seat.old.turns ≤ held) }
-        ensures not_denied { result ≢ Err (WithinRefusal.Turn TurnRefusal.NotPrivileged) → seat.new.denied ≡ seat.old.denied }
-        ensures too_many { result ≡ Err (WithinRefusal.Turn TurnRefusal.TooMany) → BATCH_LIMIT < length entries.now }
+        ensures denied { result ≡ Err (WithinRefusal.Turn TurnRefusal.NotPrivileged)
+            → IsSomeAnd seat.new.denied (λ held. length seat.old.turns ≤ held) }
+        ensures not_denied { result ≢ Err (WithinRefusal.Turn TurnRefusal.NotPrivileged)
+            → seat.new.denied ≡ seat.old.denied }
+        ensures too_many { result ≡ Err (WithinRefusal.Turn TurnRefusal.TooMany)
+            → BATCH_LIMIT < length entries.now }
         ensures there { result ≢ Err (WithinRefusal.Turn TurnRefusal.NoStation) }
     {
         let Seat {
