@@ -1,0 +1,14 @@
+use denote.Param.{param}
+use denote.Param.Send.{IsSend, IsSync, sendable}
+use Rattle.line_lock.specs.contracts.office.Office as office
+use Rattle.line_lock.proofs.Sharing.{office_sync}
+use Rattle.office_bench.specs.contracts.Load as load
+use Rattle.office_bench.proofs.by_three.Goals as goal
+
+pub for_each_mut-requires-sync-F : goal.for_each_mut-requires-sync-F
+for_each_mut-requires-sync-F g c κs within =
+    let shared : IsSync (office.the_row (param 0 g.row.D) (param 1 g.row.L) g.D.Device g.L.Ledger) =
+    office_sync (param 0 g.row.D) g.D.Device c.type_bounds.send-D (param 1 g.row.L) g.L.Ledger c.type_bounds.send-L in
+    let runtime = c.type_bounds.sync-R in
+    let sized : IsSync load.the_row = search sendable depth 20 fits 20000 in
+    search sendable depth 20 fits 20000
