@@ -1,8 +1,7 @@
 #!/usr/bin/env bash
 # Turns per second through an office, by one thread and by three, with 15 entries a turn, 1 and none: the proved office
-# beside the same in plain Rust (rustc -O, standard library alone), in runs that take turns. Both print how many turns
-# the history holds, the next sequence number, the total and a number of all balances, which must agree. The proved
-# program is proved and built as a crate of its own in a temporary folder. Words: how many rounds, 7 without.
+# beside the same in plain Rust (rustc -O, standard library alone), in runs that take turns; what they leave must agree.
+# The timed program is proved and built as a crate of its own in a temporary folder. Words: how many rounds, 7 without.
 set -euo pipefail
 cd "$(dirname "$0")/.."
 work=$(mktemp -d)
@@ -23,11 +22,7 @@ mkdir -p "$program/src" "$program/proofs/timed" "$program/proofs/by_three"
 cp bench/office/main.rt.txt "$program/src/main.rt"
 cp bench/office/ghosts.antt.txt "$program/proofs/timed/Invariants.antt"
 cp bench/office/sharing.antt.txt "$program/proofs/by_three/Answers.antt"
-(cd "$program" && rt run > "$work/build.log" 2>&1) || { tail "$work/build.log"; exit 1; }
+(cd "$program" && rt run -- 1 0 1 > "$work/build.log" 2>&1) || { tail "$work/build.log"; exit 1; }
 rustc -O --edition 2021 -o "$work/plain" bench/baseline/office.rs
 
-for _ in $(seq "${1:-7}"); do
-    "$work/plain" | sed 's/^/plain /'
-    "$program/out/office_bench" | sed 's/^/proved /'
-done > "$work/runs"
-python3 bench/office/table.py < "$work/runs"
+python3 bench/office/measure.py "$work/plain" "$program/out/office_bench" "${1:-7}"

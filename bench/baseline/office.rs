@@ -1,4 +1,5 @@
-//! Turns through an office in plain Rust, standard library alone: a clerk behind one `Mutex`, by one thread and by three.
+//! Turns through an office in plain Rust, standard library alone: a clerk behind one `Mutex`, by one thread or by three.
+//! Words: how many threads, how many entries a turn has, and how many sweeps of four turns are taken.
 #![allow(dead_code)]
 
 #[path = "office/clerk.rs"]
@@ -23,21 +24,16 @@ use journal::format;
 use ledger::BATCH_LIMIT;
 use line::Line;
 use seats::{Office, Seat};
+use std::env;
 use std::thread;
 use std::time::Instant;
 
-/// How many sweeps are timed, each of four turns, and how many entries a turn has.
+/// How many sweeps of four turns are taken, and how many entries a turn has.
 #[derive(Clone, Copy)]
 struct Load {
     sweeps: u32,
     entries: usize,
 }
-
-const LOADS: [Load; 3] = [
-    Load { sweeps: 10_000, entries: 15 },
-    Load { sweeps: 20_000, entries: 1 },
-    Load { sweeps: 40_000, entries: 0 },
-];
 
 const PLACES: [u32; BATCH_LIMIT] = [0, 1, 2, 3, 4, 5, 6, 7, 8, 9, 10, 11, 12, 13, 14];
 
@@ -115,7 +111,7 @@ fn mixed<D: Device>(clerk: &Clerk<D>) -> u64 {
     balances.fold(0, |mixed: u64, balance| mixed.wrapping_mul(31).wrapping_add(*balance))
 }
 
-fn timed(threads: u8, load: Load) {
+fn timed(threads: u32, load: Load) {
     let slots = 4 * u64::from(load.sweeps) + 1;
     let mut device = MemoryDevice::new(2 * slots + 1);
     format(&mut device, slots).expect("room for the slots");
@@ -132,12 +128,17 @@ fn timed(threads: u8, load: Load) {
     let time = start.elapsed().as_nanos();
     let clerk = office.close(&seats).expect("seats that the history bears out");
     let (turns, next, total) = (clerk.history().len(), clerk.next(), clerk.ledger().total());
-    println!("{threads}/{} {turns} {next} {total} {} {time}", load.entries, mixed(&clerk));
+    println!("{turns} {next} {total} {} {time}", mixed(&clerk));
+}
+
+fn number(word: &str) -> u32 {
+    word.parse().expect("a number")
 }
 
 fn main() {
-    for load in LOADS {
-        timed(1, load);
-        timed(3, load);
-    }
+    let words: Vec<String> = env::args().collect();
+    let [_, threads, entries, sweeps] = words.as_slice() else {
+        panic!("three words");
+    };
+    timed(number(threads), Load { sweeps: number(sweeps), entries: number(entries) as usize });
 }
