@@ -21,7 +21,7 @@ use clerk::{Clerk, TurnRefusal};
 use device::{Device, MemoryDevice};
 use entry::Entry;
 use journal::format;
-use ledger::BATCH_LIMIT;
+use ledger::{ACCOUNTS, BATCH_LIMIT};
 use line::Line;
 use seats::{Office, Seat};
 use std::env;
@@ -107,8 +107,11 @@ fn by_one<D: Device>(office: &Office<D>, seats: &mut [Seat], load: Load) {
 
 // A number that depends on each balance.
 fn mixed<D: Device>(clerk: &Clerk<D>) -> u64 {
-    let balances = clerk.ledger().balances().iter();
-    balances.fold(0, |mixed: u64, balance| mixed.wrapping_mul(31).wrapping_add(*balance))
+    let mut balances = [0; ACCOUNTS as usize];
+    for (account, balance) in clerk.ledger().holding() {
+        balances[account as usize - 1] = balance;
+    }
+    balances.iter().fold(0, |mixed: u64, balance| mixed.wrapping_mul(31).wrapping_add(*balance))
 }
 
 fn timed(threads: u32, load: Load) {

@@ -75,11 +75,6 @@ impl Ledger {
         self.total
     }
 
-    /// What each account holds, from account 1 on.
-    pub fn balances(&self) -> &[u64] {
-        &self.balances
-    }
-
     /// The accounts that hold something, in ascending order, with what they hold.
     pub fn holding(&self) -> impl Iterator<Item = (u32, u64)> + '_ {
         (1..).zip(self.balances.iter().copied()).filter(|&(_, balance)| balance > 0)
