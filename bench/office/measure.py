@@ -15,11 +15,14 @@ WORK = (
     (3, 15, 10_000), (3, 1, 10_000), (3, 0, 20_000),
 )
 
+# Three threads that one core runs in turn: then no thread waits for another core.
+ON_ONE_CORE = ("taskset", "--cpu-list", "0")
 
-def run(program, work):
+
+def run(command, work):
     """What a program left, and its turns a second."""
     words = [str(number) for number in work]
-    told = subprocess.run([program, *words], capture_output=True, check=True, text=True)
+    told = subprocess.run([*command, *words], capture_output=True, check=True, text=True)
     *left, nanoseconds = map(int, told.stdout.split())
     return left, left[0] * 1e9 / nanoseconds
 
@@ -35,22 +38,25 @@ def measure(plain, proved, work, rounds):
     return rates
 
 
-def row(work, rates):
+def row(cores, work, rates):
     """The medians of runs, and the median and the quartiles of the ratios of runs beside each other."""
     proved, plain = (statistics.median(column) for column in zip(*rates))
     ratios = [a / b for a, b in rates]
     low, ratio, high = statistics.quantiles(ratios, n=4, method="inclusive")
     met = "met" if ratio >= AIM else "missed"
-    return (f"| {work[0]} | {work[1]} | {proved:,.0f} | {plain:,.0f} | {ratio:.2f} | {low:.2f} to {high:.2f} "
+    return (f"| {work[0]} | {cores} | {work[1]} | {proved:,.0f} | {plain:,.0f} | {ratio:.2f} | {low:.2f} to {high:.2f} "
             f"| at least {AIM:.2f} | {met} |")
 
 
 def main():
     plain, proved, rounds = sys.argv[1], sys.argv[2], int(sys.argv[3])
-    print("| Threads | Entries a turn | Proved, turns a second | Plain Rust | Ratio | Its quartiles | Aim | |")
-    print("|---|---|---|---|---|---|---|---|")
+    print("| Threads | Cores | Entries a turn | Proved, turns a second | Plain Rust | Ratio | Its quartiles | Aim | |")
+    print("|---|---|---|---|---|---|---|---|---|")
     for work in WORK:
-        print(row(work, measure(plain, proved, work, rounds)), flush=True)
+        print(row("all", work, measure([plain], [proved], work, rounds)), flush=True)
+    for work in WORK[3:]:
+        rates = measure([*ON_ONE_CORE, plain], [*ON_ONE_CORE, proved], work, rounds)
+        print(row("one", work, rates), flush=True)
 
 
 main()
