@@ -116,6 +116,7 @@ impl Accounts for Ledger {
     }
 }
 
+#[derive(Clone, Copy)]
 pub struct Verdicts {
     verdicts: [Verdict; BATCH_LIMIT],
     count: usize,
