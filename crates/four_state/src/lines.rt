@@ -89,7 +89,8 @@ impl Line {
     pub fn words(&self) -> &[u64; 2]
         ensures x { (s : ℕ) → IsBitSet (slice_index_or result.now 0 0) s ↔ IsTrue (x_at self.now s) }
         ensures up { (s : ℕ) → IsBitSet (slice_index_or result.now 1 0) s ↔ IsTrue (up_at self.now s) }
-        ensures others { (word : ℕ) → Contains result.now word → (s : ℕ) → stations self.now ≤ s → ¬ IsBitSet word s }
+        ensures others { (word : ℕ) → Contains result.now word
+            → (s : ℕ) → stations self.now ≤ s → ¬ IsBitSet word s }
     {
         &self.words
     }
@@ -228,7 +229,8 @@ impl Line {
 
     // The boundaries where `rises`, as a word: bit b is that of stations b and b + 1.
     fn rising(&self) -> u64
-        ensures marks { result ≡ word_of (map (rises self.now) (range_with_len 0 (stations self.now - 1))) }
+        ensures marks { result
+            ≡ word_of (map (rises self.now) (range_with_len 0 (stations self.now - 1))) }
         ensures line { IsLine self.now }
     {
         let [x, _] = self.words;
@@ -237,7 +239,8 @@ impl Line {
 
     // The boundaries where `falls`, as a word.
     fn falling(&self) -> u64
-        ensures marks { result ≡ word_of (map (falls self.now) (range_with_len 0 (stations self.now - 1))) }
+        ensures marks { result
+            ≡ word_of (map (falls self.now) (range_with_len 0 (stations self.now - 1))) }
         ensures line { IsLine self.now }
     {
         let [x, up] = self.words;
