@@ -1,1 +1,6 @@
-pub mod Written
+pub mod Boundaries
+pub mod Changes
+pub mod Ends
+pub mod Packing
+pub mod Says
+pub mod Words

@@ -5,7 +5,7 @@ pub mod Laws
 pub mod Marks
 pub mod Motion
 pub mod MotionLaws
-pub mod Padding
+pub mod Words
 pub mod Privilege
 pub mod PrivilegeLaws
 pub mod PrivilegeList

@@ -6,6 +6,7 @@
 //! each from the bottom station to the top one.
 #![tactic(auto)]
 
+mod bits;
 pub mod laws;
 mod lines;
 mod refusals;

@@ -1,28 +1,32 @@
 //! The line itself.
 
-ghost use Rattle.std.specs.Prelude.{◌≡◌, ℕ, ◌+◌, ◌-◌, ◌<◌, ◌≤◌, ◌⊎◌, ◌↔◌, ◌≢◌, length, true, false, IsTrue, IsOk, IfOk, IsNone, IfSome, slice_set};
+ghost use Rattle.std.specs.Prelude.{◌≡◌, ℕ, ◌+◌, ◌-◌, ◌<◌, ◌≤◌, ◌⊎◌, ◌↔◌, ◌≢◌, length, true, false, IsTrue, IsOk, IfOk, IsNone, IfSome, IsBitSet, slice_set, slice_index_or, map, ◌^◌};
+ghost use Rattle.std.specs.List.{Contains, range_with_len};
 ghost use Rattle.four_state.specs.Configuration.{stations, x_at, up_at, IsLine};
 ghost use Rattle.four_state.specs.Privilege.{IsPrivilege, IsLegitimate, privileges_of, choice};
 ghost use Rattle.four_state.specs.Marks.{rises, falls};
 ghost use Rattle.four_state.specs.Motion.{moved, x_flipped, IsMove};
-ghost use Rattle.four_state.specs.Padding.{padded};
+ghost use Rattle.four_state.specs.Words.{word_of};
 ghost use Rattle.four_state.specs.declared.rules.Rule.{Rule};
 
+use crate::bits::{is_set, packed, with_bit};
 use crate::refusals::LineRefusal;
 use crate::rules::Rule;
 use std::marker::Model;
 
-// The most stations that a line has.
-const MOST_STATIONS: usize = 64;
+// The places of the two words.
+const X: usize = 0;
+
+const UP: usize = 1;
 
 /// A line of 2 to 64 stations, each with two bits. The bottom station's up is always true, and the
 /// top one's always false.
 #[derive(Clone, Copy, Debug, PartialEq, Eq)]
 pub struct Line {
     stations: u8,
-    // place s belongs to station s; past the last station all are false
-    x: [bool; MOST_STATIONS],
-    up: [bool; MOST_STATIONS],
+    // the bits x in one word and the bits up in another: bit s is that of station s, all other bits
+    // are zero
+    words: [u64; 2],
 }
 
 impl Model for Line {
@@ -30,12 +34,12 @@ impl Model for Line {
 
     ghost Value = { Configuration };
 
-    ghost use Rattle.four_state.specs.Padding.{shown, IsKept};
+    ghost use Rattle.four_state.specs.Words.{shown, IsKept};
     ghost use Rattle.four_state.specs.Kept.{kept, kept-shown};
 
-    ghost view = { λ a. shown a.stations a.x a.up };
+    ghost view = { λ a. shown a.stations a.words };
 
-    ghost invariant = { λ a. IsKept a.stations a.x a.up };
+    ghost invariant = { λ a. IsKept a.stations a.words };
 
     ghost inverse = { kept };
 
@@ -73,14 +77,22 @@ impl Line {
         ensures line { IsLine result }
     {
         let n = x.len();
-        let mut line = Line {
+        let bottom_set = with_bit(packed(up), 0, true);
+        Line {
             stations: n as u8,
-            x: copied(x),
-            up: copied(up),
-        };
-        line.up[0] = true;
-        line.up[n - 1] = false;
-        line
+            words: [packed(x), with_bit(bottom_set, n - 1, false)],
+        }
+    }
+
+    /// The bits as two words: those of x, then those of up. Bit s is that of station s, and all
+    /// other bits are zero.
+    pub fn words(&self) -> &[u64; 2]
+        ensures x { (s : ℕ) → IsBitSet (slice_index_or result.now 0 0) s ↔ IsTrue (x_at self.now s) }
+        ensures up { (s : ℕ) → IsBitSet (slice_index_or result.now 1 0) s ↔ IsTrue (up_at self.now s) }
+        ensures others { (word : ℕ) → Contains result.now word
+            → (s : ℕ) → stations self.now ≤ s → ¬ IsBitSet word s }
+    {
+        &self.words
     }
 
     /// How many stations stand in the line.
@@ -96,7 +108,7 @@ impl Line {
         requires { station < stations self.now }
         ensures { result ≡ x_at self.now station }
     {
-        self.x[station as usize]
+        is_set(self.words[X], station as usize)
     }
 
     /// The bit up of a station.
@@ -104,7 +116,7 @@ impl Line {
         requires { station < stations self.now }
         ensures { result ≡ up_at self.now station }
     {
-        self.up[station as usize]
+        is_set(self.words[UP], station as usize)
     }
 
     /// Whether the station has a privilege by this rule; false of a station past the top one.
@@ -148,13 +160,7 @@ impl Line {
         ensures at_least_one { 1 ≤ result }
         ensures line { IsLine self.now }
     {
-        let mut count = 0;
-        for b in 0..self.stations as usize - 1 {
-            if self.rises(b) || self.falls(b) {
-                count += 1;
-            }
-        }
-        count
+        (self.rising().count_ones() + self.falling().count_ones()) as u8
     }
 
     /// Whether exactly one privilege is present.
@@ -190,7 +196,8 @@ impl Line {
         ensures flipped { self.new ≡ record { x = x_flipped self.old s; up = self.old.up } }
         ensures line { IsLine self.new }
     {
-        self.x[s] = !self.x[s];
+        let x = self.words[X];
+        self.words[X] = x ^ (1 << s);
     }
 
     // Sets the bit up of a station between the ends.
@@ -200,7 +207,7 @@ impl Line {
         ensures set { self.new ≡ record { x = self.old.x; up = slice_set self.old.up s up } }
         ensures line { IsLine self.new }
     {
-        self.up[s] = up;
+        self.words[UP] = with_bit(self.words[UP], s, up);
     }
 
     // Whether the bits x of neighbors differ, the lower of which is `below`: a privilege of the
@@ -209,7 +216,7 @@ impl Line {
         requires { below + 1 < stations self.now }
         ensures { result ≡ rises self.now below }
     {
-        self.x[below] != self.x[below + 1]
+        is_set(self.rising(), below)
     }
 
     // Whether they are equal, and only the lower one is up: a privilege of the lower one.
@@ -217,16 +224,33 @@ impl Line {
         requires { below + 1 < stations self.now }
         ensures { result ≡ falls self.now below }
     {
-        !self.rises(below) && self.up[below] && !self.up[below + 1]
+        is_set(self.falling(), below)
     }
-}
 
-// The bits, and false past them.
-fn copied(bits: &[bool]) -> [bool; MOST_STATIONS]
-    requires { length bits.now ≤ 64 }
-    ensures { result ≡ padded bits.now }
-{
-    let mut all = [false; MOST_STATIONS];
-    all[..bits.len()].copy_from_slice(bits);
-    all
+    // The boundaries where `rises`, as a word: bit b is that of stations b and b + 1.
+    fn rising(&self) -> u64
+        ensures marks { result
+            ≡ word_of (map (rises self.now) (range_with_len 0 (stations self.now - 1))) }
+        ensures line { IsLine self.now }
+    {
+        let [x, _] = self.words;
+        (x ^ (x >> 1)) & self.boundaries()
+    }
+
+    // The boundaries where `falls`, as a word.
+    fn falling(&self) -> u64
+        ensures marks { result
+            ≡ word_of (map (falls self.now) (range_with_len 0 (stations self.now - 1))) }
+        ensures line { IsLine self.now }
+    {
+        let [x, up] = self.words;
+        !(x ^ (x >> 1)) & up & !(up >> 1) & self.boundaries()
+    }
+
+    // One bit for each boundary between neighbors, from the bottom.
+    fn boundaries(&self) -> u64
+        ensures { result ≡ 2 ^ (stations self.now - 1) - 1 }
+    {
+        (1 << (self.stations - 1)) - 1
+    }
 }

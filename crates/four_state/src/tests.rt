@@ -128,6 +128,30 @@ fn three_stations_sweep_up_and_down(rt: HostRuntime) {
     }
 }
 
+#[test]
+fn sixty_four_stations_fill_two_words(rt: HostRuntime) {
+    let mut bottom_up = [b'0'; 64];
+    bottom_up[0] = b'1';
+    let resting = line(&rt, &[b'0'; 64], &bottom_up);
+    assert_eq!(rt; *resting.words(), [0, 1]);
+    assert_eq!(rt; resting.privileges(), 1);
+    assert_eq!(rt; resting.privilege(0), Some(Rule::Bottom));
+
+    let mut alternating = [b'0'; 64];
+    for s in 0..32 {
+        alternating[2 * s + 1] = b'1';
+    }
+    let busy = line(&rt, &alternating, &alternating);
+    assert_eq!(rt;
+        *busy.words(),
+        [0xaaaa_aaaa_aaaa_aaaa, 0x2aaa_aaaa_aaaa_aaab]
+    );
+    assert_eq!(rt; busy.privileges(), 63);
+    assert!(rt; !busy.enabled(0, Rule::Bottom));
+    assert!(rt; 63 < busy.stations());
+    assert_eq!(rt; busy.privilege(63), Some(Rule::Top));
+}
+
 // The bits of a line as the digits of two numbers, station 0 the lowest: the plain table, to compare
 // with.
 #[derive(Clone, Copy, Debug, PartialEq, Eq)]
@@ -220,6 +244,7 @@ fn compare(rt: &impl Abort, d: Digits) {
     }
     assert_eq!(rt; line.privileges(), count);
     assert_eq!(rt; line.is_legitimate(), count == 1);
+    assert_eq!(rt; *line.words(), [d.x as u64, d.up as u64]);
 }
 
 #[test]

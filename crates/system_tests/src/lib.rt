@@ -8,6 +8,8 @@ mod images;
 #[cfg(test)]
 mod limits;
 #[cfg(test)]
+mod lines;
+#[cfg(test)]
 mod lives;
 #[cfg(test)]
 mod power_losses;
