@@ -16,6 +16,7 @@ use std::test::Fail;
 use std::thread::{Threads, for_each_mut, yield_now};
 
 const REQUESTS: u64 = 200;
+
 const MOVES: u64 = 20_000;
 
 // A client's feed, and how many answers it collected: those that were posted, and others.

@@ -64,9 +64,15 @@ fn eight_moves<L: Ledger + Send + Sync, R: Abort + Wait + Threads + Sync>(
     let (ends, seats) = left(alloc, stations)?;
     assert!(rt; ends.as_slice() == [End::Reached; 3].as_slice());
     let Closing { clerk, audit } = closed(rt, office, seats);
-    assert_eq!(rt; (clerk.history().len(), audit.first_legitimate), (8, Some(0)));
+    assert_eq!(rt;
+        (clerk.history().len(), audit.first_legitimate),
+        (8, Some(0))
+    );
     let ledger = clerk.ledger();
-    assert_eq!(rt; (ledger.balance(1), ledger.balance(2)), (Some(70), Some(80)));
+    assert_eq!(rt;
+        (ledger.balance(1), ledger.balance(2)),
+        (Some(70), Some(80))
+    );
     Ok(())
 }
 
