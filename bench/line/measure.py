@@ -72,7 +72,7 @@ def main():
     print("|---|---|---|---|---|---|---|")
     print(*beside, sep="\n")
     print()
-    print("| Moves | Proved, in arrays | In words, times as many | Plain Rust, in arrays | In words, times as many |")
+    print("| Moves | Proved, in arrays | Times as many in words | Plain Rust, in arrays | Times as many in words |")
     print("|---|---|---|---|---|")
     print(*earlier, sep="\n")
 
