@@ -67,6 +67,7 @@ pub fn run_day<D: Device + Send, L: Ledger + Send + Sync, R: Threads + Wait + Sy
     ensures days { IfOk result (λ day. HadTheirDay day.clerk.history moves held.now day.stations.items) }
 
     // The clerk, over its whole life.
+    ensures stations { IfOk result (λ day. stations day.clerk.line ≡ stations line) }
     ensures legal { IfOk result (λ day. KeepsHistory day.clerk) }
     ensures run { IfOk result (λ day. IsRun day.clerk.opening.line (moves_of day.clerk.history)) }
     ensures acknowledged { IfOk result (λ day.

@@ -5,6 +5,8 @@ use Rattle.std.proofs.lemmas.List.FromFn.{length-range_with_len}
 use Rattle.std.proofs.lemmas.Slice.Zip.{AllZip-long}
 use Rattle.turn_ledger.specs.declared.entry.Entry.{Entry}
 use Rattle.four_state.specs.Configuration.{stations}
+use Rattle.sweep_auditor.specs.RunLaws.{stations-after}
+use Rattle.turn_clerk.specs.History.{moves_of}
 use Rattle.line_lock.specs.Seat.{SeatState, new_seat}
 use Rattle.station_desk.specs.Rings.{FeedState, DeskState, AreTogether}
 use Rattle.office_day.specs.Counters.{HasHandedIn}
@@ -45,3 +47,8 @@ returns-in-Ok-all_reconciled-clause-days g c =
     c.in-Ok-served.left.items c.in-Ok-all_reconciled.stations.items clerk.opening.line clerk.history c.args.moves
     c.requires.held c.in-Ok-open.ensures.seats c.in-Ok.ensures.handed_in (AllZip-long AreTogether c.in-Ok.feeds.items c.in-Ok.desks.items c.in-Ok.ensures.together)
     c.in-Ok.ensures.fresh c.in-Ok-served.ensures c.in-Ok-close.ensures.borne_out c.in-Ok-all_reconciled.ensures
+
+pub returns-in-Ok-all_reconciled-clause-stations : goal.returns-in-Ok-all_reconciled-clause-stations
+returns-in-Ok-all_reconciled-clause-stations g c =
+    let clerk = c.in-Ok-close.field-0.clerk in
+    ap stations c.in-Ok-close.ensures.legal.line ∙ stations-after (moves_of clerk.history) clerk.opening.line ∙ c.in-Ok-close.ensures.stations ∙ c.requires.one_each

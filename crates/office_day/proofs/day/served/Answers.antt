@@ -1,5 +1,4 @@
-use Rattle.std.proofs.Common.{◌≡◌, ◌∙◌, List, length, map, sym, ap, subst}
-use Rattle.station_desk.specs.declared.stations.Station.{Station}
+use Rattle.std.proofs.Common.{◌≡◌, ◌∙◌, length, map, sym, ap, subst}
 use Rattle.station_desk.specs.Run.{HaveRun}
 use Rattle.office_day.specs.Day.{HaveServed}
 use Rattle.office_day.proofs.Served.{have_served, lent_back, of_both}
