@@ -154,7 +154,8 @@ fn read_withdraw(station: &[u8], words: Words<'_>, reference: u64) -> Result<Com
 // The station, account and amount of an entry with one account.
 fn with_one_account(station: &[u8], words: Words<'_>) -> Result<(u64, u32, u64), LineFault>
     ensures fault { IfErr result (λ fault. told_of_one (Number ∷ Account ∷ Number ∷ []) (station.now ∷ words.entry) ≡ Some fault) }
-    ensures ok { IfOk result (λ three. Fills (station.now ∷ words.entry) (Number ∷ Account ∷ Number ∷ []) (NumberIs three.0 ∷ NumberIs three.1 ∷ NumberIs three.2 ∷ [])) }
+    ensures ok { IfOk result (λ three. Fills (station.now ∷ words.entry) (Number ∷ Account ∷ Number ∷ [])
+        (NumberIs three.0 ∷ NumberIs three.1 ∷ NumberIs three.2 ∷ [])) }
 {
     let (one, amount) = two_words(words)?;
     Ok((number(station)?, account(one)?, number(amount)?))
