@@ -139,9 +139,9 @@ no_name text word name same plain other =
 pub unnamed : (name : Word) (rest : List Word) → (slice_index name 0 == 35) ≡ false
     → bytes_eq name (codes "format") ≡ false → bytes_eq name (codes "open") ≡ false → bytes_eq name (codes "post") ≡ false
     → bytes_eq name (codes "turn") ≡ false → bytes_eq name (codes "bits") ≡ false → bytes_eq name (codes "balances") ≡ false
-    → bytes_eq name (codes "crash") ≡ false → line_fault (name ∷ rest) ≡ Some UnknownCommand
+    → bytes_eq name (codes "crash") ≡ false → bytes_eq name (codes "day") ≡ false → line_fault (name ∷ rest) ≡ Some UnknownCommand
 unfolding line_fault first_wrong takes
-unnamed name rest no_comment f o p t b l c = rw (no_comment, f, o, p, t, b, l, c) refl
+unnamed name rest no_comment f o p t b l c d = rw (no_comment, f, o, p, t, b, l, c, d) refl
 
 pub no_words : (words : List Word) → words ≡ [] → line_fault words ≡ None
 unfolding line_fault

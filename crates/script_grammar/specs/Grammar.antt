@@ -5,18 +5,20 @@ use Rattle.std.specs.Int.NonZero.{non_zero_u64_get}
 use Rattle.script_grammar.specs.Bits.{bits_of}
 use Rattle.script_grammar.specs.Script.{bits_written, is_bit_text, is_number}
 use Rattle.script_grammar.specs.declared.commands.Command.{Command}
-use Rattle.script_grammar.specs.declared.commands.Command.TheVariants.{Format, Open, Post, Turn, Bits, Balances, Crash}
+use Rattle.script_grammar.specs.declared.commands.Command.TheVariants.{Format, Open, Post, Turn, Bits, Balances, Crash, Day}
 use Rattle.script_grammar.specs.declared.faults.LineFault.{LineFault}
 use Rattle.script_grammar.specs.declared.faults.LineFault.TheVariants.{UnknownCommand, WrongNumberOfWords, BadNumber, BadBits}
 use Rattle.turn_ledger.specs.declared.entry.Entry.TheVariants.{Deposit, Withdraw, Transfer}
 
--- what stands at one place of a line: a name, a number above zero, a number, a number below 2^32, or bits
+-- what stands at one place of a line: a name, a number above zero, a number, a number below 2^32, bits, or a number
+-- from 1 to 100,000
 pub data Field : Type 0 where
   Name : List ℕ → Field
   Slots : Field
   Number : Field
   Account : Field
   BitText : Field
+  Moves : Field
 
 -- the form of each command, and of each kind of entry
 abbrev pub format_form : List Field
@@ -46,11 +48,14 @@ balances_form = Name (codes "balances") ∷ []
 abbrev pub crash_form : List Field
 crash_form = Name (codes "crash") ∷ []
 
+abbrev pub day_form : List Field
+day_form = Name (codes "day") ∷ Moves ∷ []
+
 -- the forms of lines
 abbrev pub forms : List (List Field)
 forms =
     format_form ∷ open_form ∷ deposit_form ∷ withdraw_form ∷ transfer_form
-    ∷ turn_form ∷ bits_form ∷ balances_form ∷ crash_form ∷ []
+    ∷ turn_form ∷ bits_form ∷ balances_form ∷ crash_form ∷ day_form ∷ []
 
 -- whether the word may stand at the place
 unfoldable pub takes : Field → List ℕ → Bool
@@ -59,6 +64,7 @@ takes Slots word = is_number word && nat_lt 0 (digits_value 10 word)
 takes Number word = is_number word
 takes Account word = is_number word && nat_lt (digits_value 10 word) (2 ^ 32)
 takes BitText word = is_bit_text word
+takes Moves word = is_number word && nat_lt 0 (digits_value 10 word) && nat_lt (digits_value 10 word) 100001
 
 -- what a wrong word at the place is told as
 abbrev pub told_as : Field → LineFault
@@ -67,6 +73,7 @@ told_as Slots = BadNumber
 told_as Number = BadNumber
 told_as Account = BadNumber
 told_as BitText = BadBits
+told_as Moves = BadNumber
 
 -- whether the words have the names of the form, as far as they go
 abbrev pub has_names : List Field → List (List ℕ) → Bool
@@ -131,6 +138,7 @@ Spells words line (Turn station) = Fills words turn_form (NumberIs station ∷ [
 Spells words line Bits = Fills words bits_form []
 Spells words line Balances = Fills words balances_form []
 Spells words line Crash = Fills words crash_form []
+Spells words line (Day moves) = Fills words day_form (NumberIs moves ∷ [])
 
 -- what reading a line of these words answers: what is wrong with it, or else the command that it spells
 unfoldable pub IsRead : List (List ℕ) → ℕ → Result Command LineFault → Type 0

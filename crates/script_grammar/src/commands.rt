@@ -4,7 +4,7 @@ ghost use Rattle.std.specs.Int.NonZero.{non_zero_u64_get};
 ghost use Rattle.std.specs.Str.Parse.{digits_value};
 ghost use Rattle.script_grammar.specs.Bits.{bits_of};
 ghost use Rattle.script_grammar.specs.Grammar.{Fills, IsRead, Spells, is_skipped, line_fault, takes, told_of_one};
-ghost use Rattle.script_grammar.specs.Grammar.{Account, BitText, Number, NumberIs, Slots};
+ghost use Rattle.script_grammar.specs.Grammar.{Account, BitText, Moves, Number, NumberIs, Slots};
 ghost use Rattle.script_grammar.specs.Script.{bits_written, words_of};
 ghost use Rattle.script_grammar.specs.declared.faults.LineFault.TheVariants.{BadBits, BadNumber, WrongNumberOfWords};
 
@@ -13,6 +13,9 @@ use crate::numbers::{Bits, read_number};
 use crate::words::Words;
 use std::num::NonZeroU64;
 use turn_ledger::Entry;
+
+/// The most turns that a line `day` may ask for.
+pub const DAY_LIMIT: u64 = 100_000;
 
 /// What a line of a script asks for.
 #[derive(Clone, Copy)]
@@ -31,6 +34,8 @@ pub enum Command {
     Balances,
     /// `crash`: lose the power.
     Crash,
+    /// `day M`: the stations take M turns, each in a thread of its own; 1 to [`DAY_LIMIT`].
+    Day { moves: u64 },
 }
 
 /// The command of a line, or None where the line has no words or is a comment. An entry's reference is the number of
@@ -76,6 +81,7 @@ fn read_named(name: &[u8], words: Words<'_>, line: u64) -> Result<Command, LineF
         "bits" => alone(Command::Bits, words),
         "balances" => alone(Command::Balances, words),
         "crash" => alone(Command::Crash, words),
+        "day" => read_day(words),
         _ => Err(LineFault::UnknownCommand),
     }
 }
@@ -153,7 +159,8 @@ fn read_withdraw(station: &[u8], words: Words<'_>, reference: u64) -> Result<Com
 
 // The station, account and amount of an entry with one account.
 fn with_one_account(station: &[u8], words: Words<'_>) -> Result<(u64, u32, u64), LineFault>
-    ensures fault { IfErr result (λ fault. told_of_one (Number ∷ Account ∷ Number ∷ []) (station.now ∷ words.entry) ≡ Some fault) }
+    ensures fault { IfErr result (λ fault.
+        told_of_one (Number ∷ Account ∷ Number ∷ []) (station.now ∷ words.entry) ≡ Some fault) }
     ensures ok { IfOk result (λ three. Fills (station.now ∷ words.entry) (Number ∷ Account ∷ Number ∷ [])
         (NumberIs three.0 ∷ NumberIs three.1 ∷ NumberIs three.2 ∷ [])) }
 {
@@ -182,6 +189,15 @@ fn read_turn(words: Words<'_>) -> Result<Command, LineFault>
     let station = one_word(words)?;
     Ok(Command::Turn {
         station: number(station)?,
+    })
+}
+
+fn read_day(words: Words<'_>) -> Result<Command, LineFault>
+    ensures { (line : ℕ) → IsRead (codes "day" ∷ words.entry) line result }
+{
+    let moves = one_word(words)?;
+    Ok(Command::Day {
+        moves: moves_of_a_day(moves)?,
     })
 }
 
@@ -267,6 +283,20 @@ fn above_zero(word: &[u8]) -> Result<NonZeroU64, LineFault>
         Some(slots) => Ok(slots),
         None => Err(LineFault::BadNumber),
     }
+}
+
+fn moves_of_a_day(word: &[u8]) -> Result<u64, LineFault>
+    ensures ok { IfOk result (λ moves. (takes Moves word.now ≡ true) × (moves ≡ digits_value 10 word.now)) }
+    ensures err { IfErr result (λ fault. (takes Moves word.now ≡ false) × (fault ≡ BadNumber)) }
+{
+    let moves = number(word)?;
+    if moves == 0 {
+        return Err(LineFault::BadNumber);
+    }
+    if moves > DAY_LIMIT {
+        return Err(LineFault::BadNumber);
+    }
+    Ok(moves)
 }
 
 fn account(word: &[u8]) -> Result<u32, LineFault>

@@ -11,7 +11,7 @@ mod numbers;
 mod tests;
 mod words;
 
-pub use commands::{Command, read_command};
+pub use commands::{Command, DAY_LIMIT, read_command};
 pub use faults::LineFault;
 pub use numbers::Bits;
 pub use words::Lines;

@@ -27,6 +27,13 @@ fn each_command_is_read(rt: HostRuntime) {
     assert!(rt; matches!(command(b"bits"), Some(Command::Bits)));
     assert!(rt; matches!(command(b"balances"), Some(Command::Balances)));
     assert!(rt; matches!(command(b"crash"), Some(Command::Crash)));
+    assert!(rt; matches!(command(b"day 1"), Some(Command::Day { moves: 1 })));
+    assert!(rt;
+        matches!(
+            command(b"day 0100000"),
+            Some(Command::Day { moves: 100_000 })
+        )
+    );
 }
 
 #[test]
@@ -89,10 +96,10 @@ fn lines_that_say_nothing_are_passed_over(rt: HostRuntime) {
 
 #[test]
 fn line_faults_come_in_their_order(rt: HostRuntime) {
-    let table: [(&[u8], LineFault); 27] = [
+    let table: [(&[u8], LineFault); 32] = [
         (b"frob", UnknownCommand),
         (b"Format 4", UnknownCommand),
-        (b"day 8", UnknownCommand),
+        (b"days 8", UnknownCommand),
         (b"\xff", UnknownCommand),
         (b"\tcrash", UnknownCommand),
         (b"post 0 seal 1", UnknownCommand),
@@ -105,6 +112,8 @@ fn line_faults_come_in_their_order(rt: HostRuntime) {
         (b"post x deposit 1", WrongNumberOfWords),
         (b"post 0 transfer 1 2", WrongNumberOfWords),
         (b"open 2 00", WrongNumberOfWords),
+        (b"day", WrongNumberOfWords),
+        (b"day 1 2", WrongNumberOfWords),
         (b"format 0", BadNumber),
         (b"format 18446744073709551616", BadNumber),
         (b"format +1", BadNumber),
@@ -115,6 +124,9 @@ fn line_faults_come_in_their_order(rt: HostRuntime) {
         (b"post 0 deposit 4294967296 1", BadNumber),
         (b"post 0 deposit 1 18446744073709551616", BadNumber),
         (b"open x 2 2", BadNumber),
+        (b"day 0", BadNumber),
+        (b"day 100001", BadNumber),
+        (b"day x", BadNumber),
         (b"open 2 02 10", BadBits),
         (b"open 2 00 1\xff", BadBits),
     ];

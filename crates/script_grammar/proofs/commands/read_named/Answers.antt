@@ -47,6 +47,9 @@ unfolding Spells line_fault
 returns-in-crash c = same_words _ _ _ _ (named _ _ (codes "crash") c.args.words c.text_of.ensures refl c.in-crash.is)
     (alone_read (codes "crash") Crash _ _ _ refl (λ full. full) c.alone-in-crash.ensures.fault c.alone-in-crash.ensures.ok)
 
+pub returns-in-day : goal.returns-in-day
+returns-in-day c = same_words _ _ _ _ (named _ _ (codes "day") c.args.words c.text_of.ensures refl c.in-day.is) (c.read_day.ensures _)
+
 pub returns-in_default : goal.returns-in_default
 unfolding IsRead
-returns-in_default c = unnamed _ _ c.requires (no_name _ _ (codes "format") c.text_of.ensures refl c.in_default.not-format) (no_name _ _ (codes "open") c.text_of.ensures refl c.in_default.not-open) (no_name _ _ (codes "post") c.text_of.ensures refl c.in_default.not-post) (no_name _ _ (codes "turn") c.text_of.ensures refl c.in_default.not-turn) (no_name _ _ (codes "bits") c.text_of.ensures refl c.in_default.not-bits) (no_name _ _ (codes "balances") c.text_of.ensures refl c.in_default.not-balances) (no_name _ _ (codes "crash") c.text_of.ensures refl c.in_default.not-crash)
+returns-in_default c = unnamed _ _ c.requires (no_name _ _ (codes "format") c.text_of.ensures refl c.in_default.not-format) (no_name _ _ (codes "open") c.text_of.ensures refl c.in_default.not-open) (no_name _ _ (codes "post") c.text_of.ensures refl c.in_default.not-post) (no_name _ _ (codes "turn") c.text_of.ensures refl c.in_default.not-turn) (no_name _ _ (codes "bits") c.text_of.ensures refl c.in_default.not-bits) (no_name _ _ (codes "balances") c.text_of.ensures refl c.in_default.not-balances) (no_name _ _ (codes "crash") c.text_of.ensures refl c.in_default.not-crash) (no_name _ _ (codes "day") c.text_of.ensures refl c.in_default.not-day)
