@@ -228,11 +228,11 @@ impl<D: Device, L: Ledger> Office<D, L> {
     {
         let Office { locked } = self;
         let locked = locked.into_inner();
-        let Locked { clerk, .. } = locked;
+        let Locked { clerk: kept, .. } = locked;
         // for the contract alone: what every clerk keeps
-        clerk.legal_history();
-        clerk.durable_prefix();
-        clerk
+        kept.legal_history();
+        kept.durable_prefix();
+        kept
     }
 }
 
