@@ -87,9 +87,7 @@ fn a_day_takes_what_one_turn_refuses(rt: HostRuntime) -> Result<(), Fail> {
 }
 
 fn has(output: &[u8], part: &str) -> bool {
-    output
-        .windows(part.len())
-        .any(|bytes| bytes == part.as_bytes())
+    std::str::from_utf8(output).is_ok_and(|text| text.contains(part))
 }
 
 // What a script prints on a formatted device whose sync of this number fails.
@@ -153,8 +151,10 @@ fn legitimate_at(output: &[u8]) -> Option<u64> {
 // Bits of a line of so many stations, taken from a number.
 fn bits_from(alloc: Global, stations: u64, number: u64) -> Result<String, Fail> {
     let mut bits = String::new(alloc);
-    for station in 0..stations {
-        bits.push(if number >> station & 1 == 1 { '1' } else { '0' })?;
+    let mut rest = number;
+    for _ in 0..stations {
+        bits.push(if rest % 2 == 1 { '1' } else { '0' })?;
+        rest /= 2;
     }
     Ok(bits)
 }
