@@ -24,7 +24,8 @@ impl ReadRun for MemoryDevice {
         requires { at + length into.old ≤ length (memory_device_state self.old).reads }
         ensures call { AreCalls (memory_device_state self.old) (memory_device_state self.new) ⊥ }
         ensures same { (memory_device_state self.old).honest → IsLook (memory_device_state self.old) (memory_device_state self.new) }
-        ensures bytes { (memory_device_state self.old).honest → OnOk result (Shows into.new (length into.new) (memory_device_state self.old).reads at) }
+        ensures bytes { (memory_device_state self.old).honest
+            → OnOk result (Shows into.new (length into.new) (memory_device_state self.old).reads at) }
         ensures never_fails { IsOk result }
     {
         // That the places fit their type.

@@ -218,6 +218,22 @@ impl<D: Device, L: Ledger> Office<D, L> {
         let audit = audited(&clerk);
         Ok(Closing { clerk, audit })
     }
+
+    /// The clerk of an office that nobody closes, without an account of the seats. It waits for nobody.
+    pub fn into_clerk(self) -> Clerk<D>
+        ensures stations { stations result.opening.line ≡ L.parts }
+        ensures legal { KeepsHistory result }
+        ensures acknowledged { (D.state result.journal.device).honest → LeavesAcknowledged D.state result }
+        ensures at_any_moment { (D.state result.journal.device).honest → LeftPrefixEver D.state result }
+    {
+        let Office { locked } = self;
+        let locked = locked.into_inner();
+        let Locked { clerk: kept, .. } = locked;
+        // for the contract alone: what every clerk keeps
+        kept.legal_history();
+        kept.durable_prefix();
+        kept
+    }
 }
 
 // Notes in a seat's list what its station was answered; there is a place for a turn.

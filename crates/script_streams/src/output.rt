@@ -83,7 +83,8 @@ impl<'a, W: Write> Output<'a, W> {
 
     /// Adds a line.
     pub fn line<L: fmt::Display + Drop>(&mut self, line: L) -> Result<(), StreamFault>
-        ensures { OnOk result (IfSome (L.output line) (λ bytes. Appends (given_to W.contents self.old) (given_to W.contents self.new) (bytes ++ 10 ∷ []))) }
+        ensures { OnOk result (IfSome (L.output line) (λ bytes.
+            Appends (given_to W.contents self.old) (given_to W.contents self.new) (bytes ++ 10 ∷ []))) }
     {
         writeln!(self.text, "{line}")?;
         if self.text.len() >= FULL {
@@ -97,7 +98,8 @@ impl<'a, W: Write> Output<'a, W> {
         ensures given { OnOk result (Keeps (given_to W.contents self.old) (given_to W.contents self.new)) }
         ensures handed { OnOk result (Keeps (given_to W.contents self.old) (W.contents self.new.writer.now)) }
         // after a fault it has a first part of it, and not all
-        ensures err { OnErr result (IfSome (given_to W.contents self.old) (λ all. (n : ℕ) × (n < length all) × (W.contents self.new.writer.now ≡ Some (take n all)))) }
+        ensures err { OnErr result (IfSome (given_to W.contents self.old)
+            (λ all. (n : ℕ) × (n < length all) × (W.contents self.new.writer.now ≡ Some (take n all)))) }
     {
         write_all(self.writer, self.text.as_bytes())?;
         self.text.clear();

@@ -61,7 +61,8 @@ fn read_piece<R: Read>(
         × Consumes (R.remaining reader.old) (R.remaining reader.new) bytes
         × (script.new.items ≡ script.old.items ++ bytes)) }
     ensures end { IfOk result (λ ended. ended ≡ true → IsAtEnd (R.remaining reader.new)) }
-    ensures too_long { IfErr result (λ fault. fault ≡ TooLong → IfSome (R.remaining reader.old) (λ bytes. 16777216 < vec_len script.old + length bytes)) }
+    ensures too_long { IfErr result (λ fault. fault ≡ TooLong
+        → IfSome (R.remaining reader.old) (λ bytes. 16777216 < vec_len script.old + length bytes)) }
 {
     let count = match reader.read(chunk) {
         Ok(0) => return Ok(true),

@@ -106,7 +106,8 @@ impl MemoryDevice {
 
     // Puts the bytes of the pick where its sector is pending.
     fn take_pick(&mut self, pick: &(u64, Sector))
-        ensures picked { TakesPicks (memory_device_state self.old).reads (pick.now ∷ []) (IsPendingIn self.old) (memory_device_state self.new).reads }
+        ensures picked { TakesPicks (memory_device_state self.old).reads (pick.now ∷ [])
+            (IsPendingIn self.old) (memory_device_state self.new).reads }
         ensures calls { calls_of self.new ≡ calls_of self.old }
         ensures faults { self.new.faults ≡ self.old.faults }
     {

@@ -10,3 +10,4 @@ pub mod Worked
 pub mod WorkedLaws
 pub mod Run
 pub mod Pairs
+pub mod PairLaws

@@ -11,6 +11,8 @@ use four_state::Line;
 
 /// Goes through the moves from the start. The start has index 0, and the configuration after i moves
 /// has index i.
+// A call of its own, so that the loop has all registers wherever it is called from.
+#[inline(never)]
 pub fn audit(start: Line, moves: &[Move]) -> Result<Audit, AuditRefusal>
     ensures ok { IsOk result ↔ IsRun start moves.now }
     ensures refused { IfErr result (AuditRefuses start moves.now) }

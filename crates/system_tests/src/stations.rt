@@ -1,6 +1,8 @@
 //! Stations in threads. But for the last two, each test holds whatever thread runs when.
-ghost use Rattle.std.specs.Prelude.{◌≡◌, ◌<◌, ◌≤◌};
+ghost use Rattle.std.specs.Prelude.{◌≡◌, ◌<◌, ◌≤◌, length, IfOk};
 ghost use Rattle.four_state.specs.Configuration.{stations};
+ghost use Rattle.station_desk.specs.Pairs.{ArePaired};
+ghost use Rattle.station_desk.specs.PairLaws.{AllStandAt};
 
 mod beside;
 mod clients;
@@ -8,7 +10,7 @@ mod days;
 
 use line_lock::{Ledger, Line, Office, Seat};
 use sector_device::Device;
-use station_desk::{End, Entry, Feed, Gate, Station, desk};
+use station_desk::{Answer, End, Entry, Feed, Gate, Reconciled, Station, desk, reconcile};
 use std::alloc::Global;
 use std::process::Abort;
 use std::test::Fail;
@@ -44,7 +46,9 @@ fn line<const N: usize>(rt: &impl Abort, x: [u8; N], up: [u8; N]) -> Line {
 fn seated<L: Ledger>(
     alloc: Global,
     seats: Vec<Seat<L>>,
-) -> Result<(Vec<Feed>, Vec<Station<L>>), Fail> {
+) -> Result<(Vec<Feed>, Vec<Station<L>>), Fail>
+    ensures { IfOk result (λ made. ArePaired made.0.items made.1.items) }
+{
     let mut feeds = Vec::new(alloc);
     let mut stations = Vec::new(alloc);
     for seat in seats {
@@ -59,19 +63,54 @@ fn seated<L: Ledger>(
     Ok((feeds, stations))
 }
 
-// How the stations ended, and their seats.
-fn left<L: Ledger>(
+// What a run leaves: what became of each feed's requests, how each station ended, and its seat.
+#[derive(Drop)]
+struct Remains<L: Ledger> {
+    accounts: Vec<Reconciled>,
+    ends: Vec<End>,
+    seats: Vec<Seat<L>>,
+}
+
+fn reconciled<L: Ledger>(
     alloc: Global,
+    feeds: Vec<Feed>,
     stations: Vec<Station<L>>,
-) -> Result<(Vec<End>, Vec<Seat<L>>), Fail> {
+) -> Result<Remains<L>, Fail>
+    requires { ArePaired feeds.items stations.items }
+{
+    let mut accounts = Vec::new(alloc);
     let mut ends = Vec::new(alloc);
     let mut seats = Vec::new(alloc);
-    for station in stations {
-        let Station { seat, end, .. } = station;
+    for (feed, station) in feeds.into_iter().zip(stations) {
+        let Station { seat, desk, end } = station;
+        match reconcile(alloc, feed, desk) {
+            Ok(account) => accounts.push(account)?,
+            Err((_, _, error)) => return Err(error.into()),
+        }
         ends.push(end)?;
         seats.push(seat)?;
     }
-    Ok((ends, seats))
+    Ok(Remains {
+        accounts,
+        ends,
+        seats,
+    })
+}
+
+// Submits an entry to the feed of a station.
+fn submit(feeds: &mut [Feed], station: usize, entry: Entry) -> Result<u64, Entry>
+    requires { station < length feeds.old }
+    ensures { AllStandAt feeds.old feeds.new }
+{
+    feeds[station].submit(entry)
+}
+
+// Collects an answer from the feed of a station.
+fn collect(feeds: &mut [Feed], station: usize) -> Option<Answer>
+    requires { station < length feeds.old }
+    ensures { AllStandAt feeds.old feeds.new }
+{
+    feeds[station].answer()
 }
 
 // Closes the office, or fails the test.

@@ -9,7 +9,7 @@ use clap::{Arg, ArgAction, Command, Error, value_parser};
 use std::alloc::Global;
 
 const HELP: &str = "\
-The script comes on standard input, one command a line:
+The script comes on standard input, one command a line, and is read to its end before its first line runs:
   format K                    make the device an empty journal of K slots, which takes 2K + 1 sectors;
                               what is there is erased
   open J XBITS UPBITS         recover the ledger, with a line of J stations
@@ -17,9 +17,12 @@ The script comes on standard input, one command a line:
   post S withdraw A M         the same: M units from account A
   post S transfer A B M       the same: M units from account A to account B
   turn S                      station S takes its turn with what it holds
-  bits                        show the line, and how many privileges it has
+  day M                       the stations take M turns, 1 to 100000, each in a thread of its own, and each entry
+                              that is held is answered
+  bits                        show the line, from which it follows whose turn it is, and how many privileges it has
   balances                    show the accounts and their total
   crash                       cut the power
+What is refused, as a turn of a station that has no privilege, is told on a line of its own, and the script goes on.
 Stations are numbered from 0, accounts from 1 to 64. Lines that begin with # are comments.
 
 An example script, which shows that a deposit survives a power loss:

@@ -1,7 +1,9 @@
 //! Runs the commands of a script, one after another.
+use crate::faults::ScriptFault;
 use crate::power::PowerLoss;
-use crate::printing::{print_balances, print_line, print_refusal, print_turn};
+use crate::printing::{print_balances, print_day, print_line, print_refusal, print_turn};
 use crate::refusals::Refusal;
+use crate::script_day::NoDay;
 use crate::scripted_clerk::ScriptedClerk;
 use gate_journal::format;
 use script_grammar::{Bits, Command};
@@ -10,6 +12,9 @@ use sector_device::Device;
 use std::alloc::Global;
 use std::io::Write;
 use std::num::NonZeroU64;
+use std::sync::Wait;
+use std::thread::Threads;
+use turn_clerk::TurnRefusal;
 use turn_ledger::Entry;
 
 /// The console where a script has come to: with its device alone, or with an office open on it.
@@ -20,23 +25,25 @@ pub enum Console<D: Device> {
 }
 
 impl<D: PowerLoss + Drop> Console<D> {
-    /// Runs a command and prints what it answers. A fault is that of the output.
-    pub fn run<W: Write>(
+    /// Runs a command and prints what it answers. A fault is that of the output, or want of memory in a day.
+    pub fn run<W: Write, R: Threads + Wait + Sync>(
         mut self,
+        rt: &R,
         alloc: Global,
         command: Command,
         output: &mut Output<'_, W>,
-    ) -> Result<Console<D>, StreamFault> {
+    ) -> Result<Console<D>, ScriptFault> {
         match command {
             Command::Format { slots } => self.format(slots, output)?,
             Command::Open { stations, x, up } => {
-                return self.open(alloc, stations, &x, &up, output);
+                return Ok(self.open(alloc, stations, &x, &up, output)?);
             }
             Command::Post { station, entry } => self.post(station, entry, output)?,
             Command::Turn { station } => self.turn(station, output)?,
             Command::Bits => self.bits(output)?,
             Command::Balances => self.balances(output)?,
-            Command::Crash => return self.crash(alloc, output),
+            Command::Crash => return Ok(self.crash(alloc, output)?),
+            Command::Day { moves } => return self.day(rt, alloc, moves, output),
         }
         Ok(self)
     }
@@ -126,6 +133,38 @@ impl<D: PowerLoss + Drop> Console<D> {
         match self {
             Console::Open(clerk) => print_balances(clerk.ledger(), output),
             Console::Closed(_) => print_refusal(Refusal::NoOffice, output),
+        }
+    }
+
+    fn day<W: Write, R: Threads + Wait + Sync>(
+        self,
+        rt: &R,
+        alloc: Global,
+        moves: u64,
+        output: &mut Output<'_, W>,
+    ) -> Result<Console<D>, ScriptFault> {
+        let clerk = match self {
+            Console::Open(clerk) => clerk,
+            closed => {
+                print_refusal(Refusal::NoOffice, output)?;
+                return Ok(closed);
+            }
+        };
+        if clerk.is_faulted() {
+            print_refusal(Refusal::Turn(TurnRefusal::Faulted), output)?;
+            return Ok(Console::Open(clerk));
+        }
+        match clerk.day(rt, alloc, moves) {
+            Ok((clerk, report)) => {
+                print_day(clerk.history(), &report, output)?;
+                output.flush()?;
+                Ok(Console::Open(clerk))
+            }
+            Err(NoDay::Refused(device, refusal)) => {
+                print_refusal(refusal, output)?;
+                Ok(Console::Closed(device))
+            }
+            Err(NoDay::Memory) => Err(ScriptFault::Memory),
         }
     }
 

@@ -6,10 +6,13 @@ use script_grammar::{Lines, read_command};
 use script_streams::{Output, read_script};
 use std::alloc::Global;
 use std::io::{Read, Write};
+use std::sync::Wait;
+use std::thread::Threads;
 
 /// Reads a script whole and runs its lines on the device. A line that is none of the grammar ends it; what earlier
-/// lines printed stands.
-pub fn run_script<R: Read, W: Write, D: PowerLoss + Drop>(
+/// lines printed stands. It may wait where the script has a day.
+pub fn run_script<H: Threads + Wait + Sync, R: Read, W: Write, D: PowerLoss + Drop>(
+    rt: &H,
     alloc: Global,
     reader: &mut R,
     writer: &mut W,
@@ -17,7 +20,7 @@ pub fn run_script<R: Read, W: Write, D: PowerLoss + Drop>(
 ) -> Result<(), ScriptFault> {
     let script = read_script(alloc, reader)?;
     let mut output = Output::new(alloc, writer)?;
-    match run_lines(alloc, script.as_slice(), device, &mut output) {
+    match run_lines(rt, alloc, script.as_slice(), device, &mut output) {
         Err(ScriptFault::Write) => Err(ScriptFault::Write),
         outcome => {
             output.flush()?;
@@ -26,7 +29,8 @@ pub fn run_script<R: Read, W: Write, D: PowerLoss + Drop>(
     }
 }
 
-fn run_lines<W: Write, D: PowerLoss + Drop>(
+fn run_lines<H: Threads + Wait + Sync, W: Write, D: PowerLoss + Drop>(
+    rt: &H,
     alloc: Global,
     script: &[u8],
     device: D,
@@ -41,7 +45,7 @@ fn run_lines<W: Write, D: PowerLoss + Drop>(
             Err(cause) => return Err(ScriptFault::Line { line, cause }),
         };
         if let Some(command) = command {
-            console = console.run(alloc, command, output)?;
+            console = console.run(rt, alloc, command, output)?;
         }
     }
     Ok(())

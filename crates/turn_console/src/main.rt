@@ -9,12 +9,12 @@ mod command_line;
 mod console;
 mod engine;
 mod faults;
-mod held_entries;
 mod names;
 mod power;
 mod printing;
 mod program;
 mod refusals;
+mod script_day;
 mod scripted_clerk;
 mod settings;
 #[cfg(test)]
@@ -28,12 +28,23 @@ use std::process::ExitCode;
 use std::{env, io};
 
 fn main(rt: HostRuntime) -> ExitCode {
+    let alloc = rt.alloc();
     let status = match words_given(&rt) {
-        Ok(words) => run_words(&rt, &words),
+        Ok(words) => match as_texts(alloc, &words) {
+            Ok(texts) => run_program(
+                &rt,
+                alloc,
+                texts.as_slice(),
+                &mut rt.stdin(),
+                &mut rt.stdout(),
+                &mut rt.stderr(),
+            ),
+            Err(_) => tell(alloc, ProgramFault::MEMORY, &mut rt.stderr()),
+        },
         Err(error) if error.kind() == ErrorKind::OutOfMemory => {
-            tell(rt.alloc(), ProgramFault::MEMORY, &mut rt.stderr())
+            tell(alloc, ProgramFault::MEMORY, &mut rt.stderr())
         }
-        Err(_) => tell_not_text(rt.alloc(), &mut rt.stdout(), &mut rt.stderr()),
+        Err(_) => tell_not_text(alloc, &mut rt.stdout(), &mut rt.stderr()),
     };
     ExitCode::from(status)
 }
@@ -42,21 +53,6 @@ fn main(rt: HostRuntime) -> ExitCode {
 fn words_given(rt: &HostRuntime) -> io::Result<Vec<String>> {
     let words = env::args(rt)?.collect(rt.alloc())?;
     Ok(words)
-}
-
-fn run_words(rt: &HostRuntime, words: &[String]) -> u8 {
-    let alloc = rt.alloc();
-    match as_texts(alloc, words) {
-        Ok(texts) => run_program(
-            rt,
-            alloc,
-            texts.as_slice(),
-            &mut rt.stdin(),
-            &mut rt.stdout(),
-            &mut rt.stderr(),
-        ),
-        Err(_) => tell(alloc, ProgramFault::MEMORY, &mut rt.stderr()),
-    }
 }
 
 fn as_texts<'a>(alloc: Global, words: &'a [String]) -> Result<Vec<&'a str>, AllocError> {

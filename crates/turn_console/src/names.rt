@@ -2,6 +2,7 @@
 use four_state::{LineRefusal, Rule};
 use gate_journal::FormatRefusal;
 use journal_recovery::{Cause, OpenRefusal};
+use office_day::{CloseRefusal, End};
 use std::fmt;
 use turn_clerk::TurnRefusal;
 use turn_ledger::EntryRefusal;
@@ -49,6 +50,23 @@ pub fn name_of_turn(refusal: TurnRefusal) -> &'static str {
         TurnRefusal::Memory => "Memory",
         TurnRefusal::Full => "Full",
         TurnRefusal::Device => "Device",
+    }
+}
+
+pub fn name_of_close(refusal: CloseRefusal) -> &'static str {
+    match refusal {
+        CloseRefusal::SeatMissing => "SeatMissing",
+        CloseRefusal::ForeignSeat => "ForeignSeat",
+    }
+}
+
+pub fn name_of_end(end: End) -> &'static str {
+    match end {
+        End::NotStarted => "NotStarted",
+        End::Reached => "Reached",
+        End::Stopped => "Stopped",
+        End::Tries => "Tries",
+        End::Refused(refusal) => name_of_turn(refusal),
     }
 }
 

@@ -1,7 +1,9 @@
 //! What commands print.
-use crate::names::{name_of_entry, name_of_rule};
+use crate::names::{name_of_end, name_of_entry, name_of_rule};
 use crate::refusals::Refusal;
+use crate::script_day::DayReport;
 use four_state::Line;
+use office_day::{Answer, Outcome};
 use script_streams::{Output, StreamFault};
 use std::fmt;
 use std::io::Write;
@@ -39,6 +41,53 @@ pub fn print_turn<W: Write>(turn: &Turn, output: &mut Output<'_, W>) -> Result<(
                 output.line(format_args!("entry {place} {}", name_of_entry(refusal)))?;
             }
             _ => output.line(format_args!("entry {place} ok"))?,
+        }
+    }
+    Ok(())
+}
+
+/// The lines of a day: its turns, what the audit found, how each station ended, and each answer.
+pub fn print_day<W: Write>(
+    turns: &[Turn],
+    day: &DayReport,
+    output: &mut Output<'_, W>,
+) -> Result<(), StreamFault> {
+    for turn in turns {
+        print_turn(turn, output)?;
+    }
+    let count = turns.len();
+    match day.audit.first_legitimate {
+        Some(index) => output.line(format_args!("day {count} legitimate at {index}"))?,
+        None => output.line(format_args!("day {count} legitimate never"))?,
+    }
+    for (station, told) in day.stations.iter().enumerate() {
+        let end = name_of_end(told.end);
+        output.line(format_args!("station {station} {end}"))?;
+    }
+    for (station, told) in day.stations.iter().enumerate() {
+        print_answers(station, told.answers.as_slice(), output)?;
+    }
+    Ok(())
+}
+
+fn print_answers<W: Write>(
+    station: usize,
+    answers: &[Answer],
+    output: &mut Output<'_, W>,
+) -> Result<(), StreamFault> {
+    for answer in answers {
+        let ticket = answer.ticket;
+        match answer.outcome {
+            Outcome::Posted(sequence) => {
+                output.line(format_args!("answer {station} {ticket} posted {sequence}"))?;
+            }
+            Outcome::Refused(refusal) => {
+                let name = name_of_entry(refusal);
+                output.line(format_args!("answer {station} {ticket} {name}"))?;
+            }
+            Outcome::Undecided => {
+                output.line(format_args!("answer {station} {ticket} undecided"))?;
+            }
         }
     }
     Ok(())

@@ -11,6 +11,8 @@ use sector_device::MemoryDevice;
 use std::alloc::Global;
 use std::fs::{File, Files};
 use std::io::{Read, Write};
+use std::sync::Wait;
+use std::thread::Threads;
 
 /// The status of a program that ran its script to the end.
 const DONE: u8 = 0;
@@ -23,7 +25,7 @@ const WRONG_WORDS: u8 = 2;
 
 /// Runs the program and gives its status. A file that is the device is opened, made and grown before the script is
 /// read. A fault of `errors` is ignored.
-pub fn run_program<F: Files<File = File>, R: Read, W: Write, E: Write>(
+pub fn run_program<F: Files<File = File> + Threads + Wait + Sync, R: Read, W: Write, E: Write>(
     rt: &F,
     alloc: Global,
     words: &[&str],
@@ -40,7 +42,7 @@ pub fn run_program<F: Files<File = File>, R: Read, W: Write, E: Write>(
     }
 }
 
-fn run_options<F: Files<File = File>, R: Read, W: Write>(
+fn run_options<F: Files<File = File> + Threads + Wait + Sync, R: Read, W: Write>(
     rt: &F,
     alloc: Global,
     options: Options<'_>,
@@ -50,11 +52,11 @@ fn run_options<F: Files<File = File>, R: Read, W: Write>(
     match options.device {
         Some(path) => {
             let device = FileDevice::open(rt, alloc, path, options.sectors)?;
-            run_script(alloc, reader, writer, device)?;
+            run_script(rt, alloc, reader, writer, device)?;
         }
         None => {
             let device = MemoryDevice::new(alloc, options.sectors).map_err(ScriptFault::from)?;
-            run_script(alloc, reader, writer, device)?;
+            run_script(rt, alloc, reader, writer, device)?;
         }
     }
     Ok(())

@@ -1,8 +1,9 @@
 //! Why a line of a script was refused, and how that is printed.
-use crate::names::{name_of_format, name_of_line, name_of_turn, write_open};
+use crate::names::{name_of_close, name_of_format, name_of_line, name_of_turn, write_open};
 use four_state::LineRefusal;
 use gate_journal::FormatRefusal;
 use journal_recovery::OpenRefusal;
+use office_day::CloseRefusal;
 use std::fmt;
 use turn_clerk::TurnRefusal;
 
@@ -21,6 +22,7 @@ pub enum Refusal {
     Line(LineRefusal),
     Open(OpenRefusal),
     Turn(TurnRefusal),
+    Close(CloseRefusal),
 }
 
 impl fmt::Display for Refusal {
@@ -34,6 +36,7 @@ impl fmt::Display for Refusal {
             Refusal::Line(refusal) => f.write_str(name_of_line(*refusal)),
             Refusal::Open(refusal) => write_open(*refusal, f),
             Refusal::Turn(refusal) => f.write_str(name_of_turn(*refusal)),
+            Refusal::Close(refusal) => f.write_str(name_of_close(*refusal)),
         }
     }
 }

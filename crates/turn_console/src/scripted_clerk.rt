@@ -1,13 +1,14 @@
 //! A clerk that a script drives.
-ghost use Rattle.std.specs.Prelude.{◌≡◌, min};
+ghost use Rattle.std.specs.Prelude.{◌≡◌, IfOk, length, min};
 
-use crate::held_entries::HeldEntries;
 use crate::refusals::Refusal;
 use four_state::Line;
 use journal_recovery::OpenRefusal;
+use office_day::HeldEntries;
 use script_grammar::Bits;
 use sector_device::Device;
 use std::alloc::{AllocError, Global};
+use std::marker::Model;
 use turn_clerk::{Clerk, Turn, TurnRefusal};
 use turn_ledger::{Entry, Ledger};
 
@@ -15,8 +16,21 @@ use turn_ledger::{Entry, Ledger};
 /// heap, since a console is handed on from command to command.
 #[derive(Drop)]
 pub struct ScriptedClerk<D: Device> {
-    clerk: Box<Clerk<D>>,
-    held: Vec<HeldEntries>,
+    pub(crate) clerk: Box<Clerk<D>>,
+    pub(crate) held: Vec<HeldEntries>,
+}
+
+impl<D: Device> Model for ScriptedClerk<D> {
+    ghost use Rattle.std.specs.Prelude.{◌≡◌, length};
+    ghost use Rattle.std.specs.Box.{box_value};
+    ghost use Rattle.four_state.specs.Configuration.{stations};
+    ghost use Rattle.turn_console.specs.Clerk.{ScriptedState};
+
+    ghost Value = { ScriptedState D };
+
+    ghost view = { λ s. record { clerk = box_value s.clerk; held = s.held.items } };
+
+    ghost invariant = { λ s. length s.held.items ≡ stations (box_value s.clerk).line };
 }
 
 impl<D: Device> ScriptedClerk<D> {
@@ -67,6 +81,16 @@ impl<D: Device> ScriptedClerk<D> {
         Ok(turn)
     }
 
+    /// Whether the device has failed.
+    pub fn is_faulted(&self) -> bool {
+        self.clerk.is_faulted()
+    }
+
+    /// The turns since the opening, or since the last day began.
+    pub fn history(&self) -> &[Turn] {
+        self.clerk.history()
+    }
+
     /// The line as it stands.
     pub fn line(&self) -> Line {
         self.clerk.line()
@@ -98,7 +122,9 @@ fn station_number(number: u64) -> u8
 }
 
 // Nothing held, for each of so many stations.
-fn nothing_held(alloc: Global, stations: u8) -> Result<Vec<HeldEntries>, AllocError> {
+fn nothing_held(alloc: Global, stations: u8) -> Result<Vec<HeldEntries>, AllocError>
+    ensures { IfOk result (λ held. length held.items ≡ stations) }
+{
     let mut held = Vec::with_capacity(alloc, stations as usize)?;
     for _ in 0..stations {
         held.push(HeldEntries::new(alloc)?)?;

@@ -8,33 +8,37 @@ use std::alloc::Global;
 use std::fs::{File, Files};
 use std::io::{Read, Write};
 use std::process::Abort;
+use std::sync::Wait;
 use std::test::Fail;
+use std::thread::Threads;
 
 mod damage;
+mod day;
 mod fakes;
 mod files;
 mod names;
 mod words;
 
 // What a script prints on a device of 64 sectors, and how it ends.
-fn told(alloc: Global, script: &str) -> Result<(Vec<u8>, Result<(), ScriptFault>), Fail> {
-    told_on(alloc, 64, script.as_bytes())
-}
-
-fn told_on(
+fn told<R: Threads + Wait + Sync>(
+    rt: &R,
     alloc: Global,
-    sectors: u64,
-    script: &[u8],
+    script: &str,
 ) -> Result<(Vec<u8>, Result<(), ScriptFault>), Fail> {
-    let device = MemoryDevice::new(alloc, sectors)?;
+    let device = MemoryDevice::new(alloc, 64)?;
     let mut output = Vec::new(alloc);
-    let mut reader = script;
-    let end = run_script(alloc, &mut reader, &mut output, device);
+    let mut reader = script.as_bytes();
+    let end = run_script(rt, alloc, &mut reader, &mut output, device);
     Ok((output, end))
 }
 
-fn prints(rt: &impl Abort, alloc: Global, script: &str, wanted: &str) -> Result<(), Fail> {
-    let (output, end) = told(alloc, script)?;
+fn prints<R: Abort + Threads + Wait + Sync>(
+    rt: &R,
+    alloc: Global,
+    script: &str,
+    wanted: &str,
+) -> Result<(), Fail> {
+    let (output, end) = told(rt, alloc, script)?;
     assert_eq!(rt; end, Ok(()), "{script}");
     assert_eq!(rt; output.as_slice(), wanted.as_bytes(), "{script}");
     Ok(())
@@ -130,7 +134,7 @@ fn refusals_come_in_their_order(rt: HostRuntime) -> Result<(), Fail> {
         ),
     ];
     for (script, wanted) in table {
-        let (output, end) = told(rt.alloc(), script)?;
+        let (output, end) = told(&rt, rt.alloc(), script)?;
         assert_eq!(rt; end, Ok(()), "{script}");
         let opened = "formatted 1\nopened 2 next 0 total 0\n";
         let output = output.as_slice();
@@ -158,7 +162,7 @@ fn a_station_holds_sixteen_entries(rt: HostRuntime) -> Result<(), Fail> {
         script.push_str("post 0 deposit 1 1\n")?;
     }
     script.push_str("turn 0\npost 1 deposit 1 1\n")?;
-    let (output, end) = told(alloc, script.as_str())?;
+    let (output, end) = told(&rt, alloc, script.as_str())?;
     assert_eq!(rt; end, Ok(()));
     let wanted = b"held 0 16\nrefused HeldFull\nrefused TooMany\nheld 1 1\n";
     assert!(rt; output.as_slice().ends_with(wanted));
@@ -183,7 +187,7 @@ fn an_empty_script_prints_nothing(rt: HostRuntime) -> Result<(), Fail> {
 
 #[test]
 fn a_wrong_line_ends_the_script(rt: HostRuntime) -> Result<(), Fail> {
-    let (output, end) = told(rt.alloc(), "\n# x\nformat 4\n  \nfrob\nformat 2\n")?;
+    let (output, end) = told(&rt, rt.alloc(), "\n# x\nformat 4\n  \nfrob\nformat 2\n")?;
     let (line, cause) = (5, LineFault::UnknownCommand);
     assert_eq!(rt; end, Err(ScriptFault::Line { line, cause }));
     assert_eq!(rt; output.as_slice(), b"formatted 4\n".as_slice());
@@ -206,7 +210,7 @@ fn readers_and_writers_of_one_byte(rt: HostRuntime) -> Result<(), Fail> {
     let device = MemoryDevice::new(alloc, 64)?;
     let mut reader = OneByte::over(alloc, DEPOSIT.as_bytes());
     let mut writer = OneByte::over(alloc, &[]);
-    let end = run_script(alloc, &mut reader, &mut writer, device);
+    let end = run_script(&rt, alloc, &mut reader, &mut writer, device);
     assert_eq!(rt; end, Ok(()));
     assert_eq!(rt; writer.taken(), DEPOSIT_PRINTS.as_bytes());
     Ok(())
@@ -219,7 +223,7 @@ fn a_reader_that_fails_at_each_call(rt: HostRuntime) -> Result<(), Fail> {
         let device = MemoryDevice::new(alloc, 64)?;
         let mut reader = Failing::over(alloc, DEPOSIT.as_bytes(), calls);
         let mut output = Vec::new(alloc);
-        let end = run_script(alloc, &mut reader, &mut output, device);
+        let end = run_script(&rt, alloc, &mut reader, &mut output, device);
         assert_eq!(rt; end, Err(ScriptFault::Read));
         assert_eq!(rt; output.len(), 0);
     }
@@ -233,7 +237,7 @@ fn a_writer_that_fails_at_each_call(rt: HostRuntime) -> Result<(), Fail> {
         let device = MemoryDevice::new(alloc, 64)?;
         let mut reader = DEPOSIT.as_bytes();
         let mut writer = Refusing::after(alloc, calls);
-        let end = run_script(alloc, &mut reader, &mut writer, device);
+        let end = run_script(&rt, alloc, &mut reader, &mut writer, device);
         assert_eq!(rt; end, Err(ScriptFault::Write));
         assert!(rt; DEPOSIT_PRINTS.as_bytes().starts_with(writer.taken()));
     }
@@ -247,7 +251,7 @@ fn a_turn_is_acknowledged_at_once(rt: HostRuntime) -> Result<(), Fail> {
     let device = MemoryDevice::new(alloc, 64)?;
     let mut reader = DEPOSIT.as_bytes();
     let mut writer = Refusing::after(alloc, 1);
-    let end = run_script(alloc, &mut reader, &mut writer, device);
+    let end = run_script(&rt, alloc, &mut reader, &mut writer, device);
     assert_eq!(rt; end, Err(ScriptFault::Write));
     assert!(rt; writer.taken().ends_with(b"posted 0\nentry 0 ok\n"));
     Ok(())
@@ -258,7 +262,7 @@ fn interrupted_for_ever(rt: HostRuntime) -> Result<(), Fail> {
     let alloc = rt.alloc();
     let mut script = DEPOSIT.as_bytes();
     let device = MemoryDevice::new(alloc, 64)?;
-    let end = run_script(alloc, &mut script, &mut Interrupted, device);
+    let end = run_script(&rt, alloc, &mut script, &mut Interrupted, device);
     assert_eq!(rt; end, Err(ScriptFault::Write));
     Ok(())
 }
@@ -268,7 +272,7 @@ fn a_script_that_never_ends_is_too_long(rt: HostRuntime) -> Result<(), Fail> {
     let alloc = rt.alloc();
     let device = MemoryDevice::new(alloc, 64)?;
     let mut output = Vec::new(alloc);
-    let end = run_script(alloc, &mut Endless, &mut output, device);
+    let end = run_script(&rt, alloc, &mut Endless, &mut output, device);
     assert_eq!(rt; end, Err(ScriptFault::TooLong));
     Ok(())
 }
@@ -333,7 +337,7 @@ fn the_program_tells_how_it_ended(rt: HostRuntime) -> Result<(), Fail> {
 }
 
 // How the program ends over a reader and a writer: its status, and what it tells on its errors.
-fn fails_with<S: Abort + Files<File = File>, R: Read, W: Write>(
+fn fails_with<S: Abort + Files<File = File> + Threads + Wait + Sync, R: Read, W: Write>(
     rt: &S,
     alloc: Global,
     words: &[&str],

@@ -9,6 +9,7 @@ use std::alloc::Global;
 use std::marker::Brand;
 use std::process::Abort;
 use std::sync::Wait;
+use std::sync::atomic::{AtomicBool, Ordering};
 use std::test::Fail;
 use std::thread::{Threads, for_each_mut, yield_now};
 
@@ -16,16 +17,22 @@ const TURNS: usize = 50;
 
 const MOST_REFUSALS: u32 = 10_000_000;
 
-// Takes turns until the seat has all of them; a station whose turn it isn't lets others go on.
-fn take_turns<D: Device, L: Ledger, R: Wait>(rt: &R, office: &Office<D, L>, seat: &mut Seat<L>) {
+// Takes turns until the seat has all of them; a station whose turn it isn't lets others go on, and one that is refused
+// for another reason stops them.
+fn take_turns<D: Device, L: Ledger, R: Wait>(
+    rt: &R,
+    office: &Office<D, L>,
+    seat: &mut Seat<L>,
+    stop: &AtomicBool,
+) {
     for _ in 0..MOST_REFUSALS {
-        if seat.turns().len() >= TURNS {
+        if seat.turns().len() >= TURNS || stop.load(Ordering::SeqCst) {
             return;
         }
         match office.turn(rt, seat, &[]) {
             Ok(_) => {}
             Err(TurnRefusal::NotPrivileged) => yield_now(),
-            Err(_) => return,
+            Err(_) => stop.store(true, Ordering::SeqCst),
         }
     }
 }
@@ -38,8 +45,14 @@ fn take_all_turns<D: Device + Send, L: Ledger + Send + Sync, R: Wait + Threads +
 )
     requires { 0 < length seats.old }
 {
+    let stop = AtomicBool::new(false);
     let threads = seats.len();
-    for_each_mut(rt, seats, threads, &|_, seat| take_turns(rt, office, seat));
+    for_each_mut(
+        rt,
+        seats,
+        threads,
+        &|_, seat| { take_turns(rt, office, seat, &stop) },
+    );
 }
 
 fn two_callers_in<L: Ledger + Send + Sync, R: Abort + Wait + Threads + Sync>(

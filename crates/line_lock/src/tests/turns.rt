@@ -1,7 +1,7 @@
 //! What a seat is answered.
 
 use super::{Scene, act, deposit, formatted, line};
-use crate::{Closing, Ledger, Office, Rule, Seat, TurnRefusal, WithinRefusal};
+use crate::{Closing, Ledger, Office, Rule, Seat, Turn, TurnRefusal, WithinRefusal};
 use sector_device::MemoryDevice;
 use std::process::Abort;
 use std::sync::Wait;
@@ -20,38 +20,9 @@ impl Scene for OneTurnAfterTheOther {
         let mut bottom = seats.pop().ok_or("the seat of station 0")?;
         assert_eq!(rt; (bottom.station(), top.station()), (0, 1));
         assert_eq!(rt; (bottom.turns().len(), bottom.denied()), (0, None));
-
-        assert_eq!(rt;
-            office.turn(rt, &mut top, &[]),
-            Err(TurnRefusal::NotPrivileged)
-        );
-        assert_eq!(rt; top.denied(), Some(0));
-        let first = office.turn(rt, &mut bottom, &[deposit(5)])?;
-        assert_eq!(rt;
-            (first.index, first.rule, first.posted),
-            (0, Rule::Bottom, Some(0))
-        );
-        assert_eq!(rt;
-            office.turn(rt, &mut bottom, &[]),
-            Err(TurnRefusal::NotPrivileged)
-        );
-        assert_eq!(rt; bottom.denied(), Some(1));
-        let stopped = office.turn_within(rt, &mut top, &[], 1);
-        assert_eq!(rt; (stopped, top.reached()), (Err(WithinRefusal::Reached), 1));
-        let second = office.turn_within(rt, &mut top, &[], 2)?;
-        let refused = office.turn_within(rt, &mut top, &[], 3);
-        assert_eq!(rt;
-            refused,
-            Err(WithinRefusal::Turn(TurnRefusal::NotPrivileged))
-        );
-        assert_eq!(rt;
-            (top.denied(), top.reached(), bottom.reached()),
-            (Some(2), 1, 0)
-        );
-        assert_eq!(rt;
-            (second.index, second.rule, second.posted),
-            (1, Rule::Top, None)
-        );
+        let first = bottom_turn(rt, &office, &mut bottom, &mut top)?;
+        let second = top_turn(rt, &office, &mut top)?;
+        assert_eq!(rt; bottom.reached(), 0);
         assert!(rt; bottom.turns() == [first].as_slice() && top.turns() == [second].as_slice());
 
         // in whatever order the seats are handed in
@@ -68,6 +39,48 @@ impl Scene for OneTurnAfterTheOther {
             Err((_, _, refusal)) => panic!(rt; "{refusal}"),
         }
     }
+}
+
+// The first turn is the bottom station's, which is denied a second one; before it the top station is denied.
+fn bottom_turn<L: Ledger, R: Abort + Wait>(
+    rt: &R,
+    office: &Office<MemoryDevice, L>,
+    bottom: &mut Seat<L>,
+    top: &mut Seat<L>,
+) -> Result<Turn, Fail> {
+    let denied = Err(TurnRefusal::NotPrivileged);
+    assert_eq!(rt; office.turn(rt, top, &[]), denied);
+    assert_eq!(rt; top.denied(), Some(0));
+    let first = office.turn(rt, bottom, &[deposit(5)])?;
+    assert_eq!(rt;
+        (first.index, first.rule, first.posted),
+        (0, Rule::Bottom, Some(0))
+    );
+    assert_eq!(rt; office.turn(rt, bottom, &[]), denied);
+    assert_eq!(rt; bottom.denied(), Some(1));
+    Ok(first)
+}
+
+// The second turn is the top station's, where two are wanted and not where one is; it is denied a third one.
+fn top_turn<L: Ledger, R: Abort + Wait>(
+    rt: &R,
+    office: &Office<MemoryDevice, L>,
+    top: &mut Seat<L>,
+) -> Result<Turn, Fail> {
+    let stopped = office.turn_within(rt, top, &[], 1);
+    assert_eq!(rt; (stopped, top.reached()), (Err(WithinRefusal::Reached), 1));
+    let second = office.turn_within(rt, top, &[], 2)?;
+    assert_eq!(rt;
+        (second.index, second.rule, second.posted),
+        (1, Rule::Top, None)
+    );
+    let denied = office.turn_within(rt, top, &[], 3);
+    assert_eq!(rt;
+        denied,
+        Err(WithinRefusal::Turn(TurnRefusal::NotPrivileged))
+    );
+    assert_eq!(rt; (top.denied(), top.reached()), (Some(2), 1));
+    Ok(second)
 }
 
 #[test]

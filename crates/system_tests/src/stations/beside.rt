@@ -2,7 +2,7 @@
 ghost use Rattle.std.specs.Prelude.{◌≡◌};
 ghost use Rattle.four_state.specs.Configuration.{stations};
 
-use super::{TRIES, closed, deposit, left, line, seated};
+use super::{Remains, TRIES, closed, deposit, line, reconciled, seated, submit};
 use crate::devices::formatted;
 use fault_injector::{Held, HeldFlags};
 use line_lock::{Blank, Closing, Ledger, Line, Office};
@@ -65,12 +65,17 @@ fn one_move<L: Ledger + Send + Sync, R: Abort + Wait + Threads + Sync>(
     };
     let (mut feeds, mut stations) = seated(alloc, seats)?;
     assert_eq!(rt; feeds.len(), 2);
-    assert_eq!(rt; feeds[0].submit(deposit(1, 5)), Ok(0));
+    assert_eq!(rt; submit(feeds.as_mut_slice(), 0, deposit(1, 5)), Ok(0));
     run_stations(rt, &office, stations.as_mut_slice(), gate, 1, TRIES);
     assert!(rt; gate.seen.load(Ordering::SeqCst));
-    let answer = feeds[0].answer().ok_or("an answer")?;
+    let Remains {
+        accounts,
+        seats,
+        ..
+    } = reconciled(alloc, feeds, stations)?;
+    assert_eq!(rt; accounts.len(), 2);
+    let answer = accounts[0].answers.get(0).ok_or("an answer")?;
     assert_eq!(rt; answer.outcome, Outcome::Posted(0));
-    let (_, seats) = left(alloc, stations)?;
     let Closing { clerk, .. } = closed(rt, office, seats);
     assert_eq!(rt; clerk.ledger().balance(1), Some(5));
     Ok(())

@@ -1,41 +1,37 @@
 //! Clients that submit and collect while the stations take turns. Like its neighbour it needs threads at once.
-ghost use Rattle.std.specs.Prelude.{◌≡◌};
+ghost use Rattle.std.specs.Prelude.{◌≡◌, map, IfOk};
 ghost use Rattle.four_state.specs.Configuration.{stations};
+ghost use Rattle.station_desk.specs.Pairs.{ArePaired};
+ghost use Rattle.station_desk.specs.PairLaws.{AllStandAt};
+ghost use Rattle.station_desk.specs.Rings.{StandsAt};
+ghost use Rattle.station_desk.specs.Run.{HaveRun};
 
-use super::{NoGate, TRIES, closed, deposit, left, line, seated};
+use super::{NoGate, Remains, TRIES, closed, deposit, line, reconciled, seated};
 use gate_journal::format;
 use line_lock::{Blank, Closing, Ledger, Line, Office};
 use sector_device::{Device, MemoryDevice};
-use station_desk::{Answer, End, Feed, Outcome, Station, run_stations};
+use station_desk::{Answer, End, Feed, Outcome, Reconciled, Station, run_stations};
 use std::alloc::Global;
 use std::marker::Brand;
 use std::process::Abort;
 use std::sync::Wait;
 use std::sync::atomic::{AtomicBool, Ordering};
 use std::test::Fail;
-use std::thread::{Threads, for_each_mut, yield_now};
+use std::thread::{Threads, for_each_mut, join_mut, yield_now};
 
 const REQUESTS: u64 = 200;
 
 const MOVES: u64 = 20_000;
 
-// A client's feed, and how many answers it collected: those that were posted, and others.
-#[derive(Drop)]
-struct Client {
-    feed: Feed,
+// How many requests a client submitted, and how many answers it collected: those that were posted, and others.
+#[derive(Clone, Copy)]
+struct Tally {
     submitted: u64,
     posted: u64,
     others: u64,
 }
 
-impl Client {
-    // Submits one more deposit, where there is a place for it.
-    fn submit(&mut self) {
-        if self.submitted < REQUESTS && self.feed.submit(deposit(1, 1)).is_ok() {
-            self.submitted = self.submitted.saturating_add(1);
-        }
-    }
-
+impl Tally {
     fn count(&mut self, answer: Answer) {
         match answer.outcome {
             Outcome::Posted(_) => self.posted = self.posted.saturating_add(1),
@@ -44,103 +40,131 @@ impl Client {
             }
         }
     }
+}
+
+#[derive(Drop)]
+struct Client {
+    feed: Feed,
+    tally: Tally,
+}
+
+impl Client {
+    // A client that has submitted as many requests as its ring has places.
+    fn at(feed: Feed) -> Client
+        ensures { StandsAt feed result.feed }
+    {
+        let tally = Tally {
+            submitted: 0,
+            posted: 0,
+            others: 0,
+        };
+        let mut client = Client { feed, tally };
+        for _ in 0..4 {
+            client.submit();
+        }
+        client
+    }
+
+    // Submits one more deposit, where there is a place for it.
+    fn submit(&mut self)
+        ensures { StandsAt self.old.feed self.new.feed }
+    {
+        if self.tally.submitted < REQUESTS && self.feed.submit(deposit(1, 1)).is_ok() {
+            self.tally.submitted = self.tally.submitted.saturating_add(1);
+        }
+    }
 
     // Submits and collects until the stations have ended.
-    fn work<R: Wait>(&mut self, rt: &R, ended: &AtomicBool) {
+    fn work<R: Wait>(&mut self, rt: &R, ended: &AtomicBool)
+        ensures { StandsAt self.old.feed self.new.feed }
+    {
         for _ in rt.forever() {
             if ended.load(Ordering::SeqCst) {
                 return;
             }
             self.submit();
             match self.feed.answer() {
-                Some(answer) => self.count(answer),
+                Some(answer) => self.tally.count(answer),
                 None => yield_now(),
             }
         }
     }
-
-    // Collects what is left.
-    fn collect(&mut self) {
-        for _ in 0..REQUESTS {
-            let Some(answer) = self.feed.answer() else {
-                return;
-            };
-            self.count(answer);
-        }
-    }
 }
 
-// What one thread does: the stations, which have threads of their own, or a client.
-#[derive(Drop)]
-enum Part<L: Ledger> {
-    Stations(Vec<Station<L>>),
-    Client(Client),
+fn work_all<R: Wait + Threads + Sync>(rt: &R, clients: &mut [Client], ended: &AtomicBool)
+    ensures { AllStandAt (map (λ client. client.feed) clients.old) (map (λ client. client.feed) clients.new) }
+{
+    for_each_mut(rt, clients, 2, &|_, client| client.work(rt, ended));
 }
 
-fn act<D: Device + Send, L: Ledger + Send + Sync, R: Wait + Threads + Sync>(
+// Runs the stations, and beside them the clients until the stations have ended.
+fn run_beside<D: Device + Send, L: Ledger + Send + Sync, R: Wait + Threads + Sync>(
     rt: &R,
     office: &Office<D, L>,
-    part: &mut Part<L>,
-    ended: &AtomicBool,
-) {
-    match part {
-        Part::Stations(stations) => {
-            run_stations(rt, office, stations.as_mut_slice(), &NoGate, MOVES, TRIES);
-            ended.store(true, Ordering::SeqCst);
-        }
-        Part::Client(client) => client.work(rt, ended),
-    }
-}
-
-fn act_all<D: Device + Send, L: Ledger + Send + Sync, R: Wait + Threads + Sync>(
-    rt: &R,
-    office: &Office<D, L>,
-    parts: &mut [Part<L>],
-) {
+    stations: &mut [Station<L>],
+    clients: &mut [Client],
+)
+    ensures ran { HaveRun stations.old stations.new MOVES }
+    ensures stand { AllStandAt (map (λ client. client.feed) clients.old) (map (λ client. client.feed) clients.new) }
+{
     let ended = AtomicBool::new(false);
-    for_each_mut(rt, parts, 3, &|_, part| act(rt, office, part, &ended));
+    // where no second thread can be made the stations come first, and the clients find that they have ended
+    join_mut(
+        rt,
+        &mut ||
+            ensures { AllStandAt (map (λ client. client.feed) clients.entry.now) (map (λ client. client.feed) clients.exit.now) }
+        { work_all(rt, clients, &ended) },
+        &mut ||
+            ensures { HaveRun stations.entry.now stations.exit.now MOVES }
+        {
+            run_stations(rt, office, stations, &NoGate, MOVES, TRIES);
+            ended.store(true, Ordering::SeqCst);
+        },
+    );
 }
 
-// The stations and the clients, one behind the other.
-fn parts_of<L: Ledger>(
-    alloc: Global,
-    feeds: Vec<Feed>,
-    stations: Vec<Station<L>>,
-) -> Result<Vec<Part<L>>, Fail> {
-    let mut parts = Vec::new(alloc);
-    parts.push(Part::Stations(stations))?;
+// A client at each feed.
+fn clients_at(alloc: Global, feeds: Vec<Feed>) -> Result<Vec<Client>, Fail>
+    ensures { IfOk result (λ clients.
+        AllStandAt feeds.items (map (λ client. client.feed) clients.items)) }
+{
+    let mut clients = Vec::new(alloc);
     for feed in feeds {
-        let mut client = Client {
-            feed,
-            submitted: 0,
-            posted: 0,
-            others: 0,
-        };
-        for _ in 0..4 {
-            client.submit();
-        }
-        parts.push(Part::Client(client))?;
+        clients.push(Client::at(feed))?;
     }
-    Ok(parts)
+    Ok(clients)
 }
 
-// What the clients were answered, all and the most of one, and the stations.
-fn sorted<L: Ledger>(rt: &impl Abort, parts: Vec<Part<L>>) -> (u64, u64, Option<Vec<Station<L>>>) {
-    let mut all = 0u64;
-    let mut most = 0u64;
-    let mut found = None;
-    for part in parts {
-        match part {
-            Part::Stations(stations) => found = Some(stations),
-            Part::Client(mut client) => {
-                client.collect();
-                assert_eq!(rt; client.others, 0);
-                all = all.saturating_add(client.posted);
-                most = most.max(client.posted);
-            }
-        }
+// The feeds of clients, and what these counted.
+fn apart(alloc: Global, clients: Vec<Client>) -> Result<(Vec<Feed>, Vec<Tally>), Fail>
+    ensures { IfOk result (λ parts. parts.0.items ≡ map (λ client. client.feed) clients.items) }
+{
+    let mut feeds = Vec::new(alloc);
+    let mut tallies = Vec::new(alloc);
+    for client in clients {
+        let Client { feed, tally } = client;
+        feeds.push(feed)?;
+        tallies.push(tally)?;
     }
-    (all, most, found)
+    Ok((feeds, tallies))
+}
+
+// How many of a client's requests were posted: all that have an answer.
+fn posted(rt: &impl Abort, tally: Tally, account: &Reconciled) -> u64 {
+    assert_eq!(rt; tally.others, 0);
+    assert_eq!(rt;
+        (account.submitted, account.collected),
+        (tally.submitted, tally.posted)
+    );
+    for answer in &account.answers {
+        assert!(rt; matches!(answer.outcome, Outcome::Posted(_)));
+    }
+    let answered = account
+        .collected
+        .saturating_add(account.answers.len() as u64);
+    let all = answered.saturating_add(account.unanswered.len() as u64);
+    assert_eq!(rt; all, account.submitted);
+    answered
 }
 
 fn many_moves<L: Ledger + Send + Sync, R: Abort + Wait + Threads + Sync>(
@@ -158,16 +182,26 @@ fn many_moves<L: Ledger + Send + Sync, R: Abort + Wait + Threads + Sync>(
         Ok(opened) => opened,
         Err((_, refusal)) => panic!(rt; "{refusal}"),
     };
-    let (feeds, stations) = seated(alloc, seats)?;
-    let mut parts = parts_of(alloc, feeds, stations)?;
-    act_all(rt, &office, parts.as_mut_slice());
-    let (posted, most, stations) = sorted(rt, parts);
-    let (ends, seats) = left(alloc, stations.ok_or("the stations")?)?;
+    let (feeds, mut stations) = seated(alloc, seats)?;
+    let mut clients = clients_at(alloc, feeds)?;
+    run_beside(rt, &office, stations.as_mut_slice(), clients.as_mut_slice());
+    let (feeds, tallies) = apart(alloc, clients)?;
+    let Remains {
+        accounts,
+        ends,
+        seats,
+    } = reconciled(alloc, feeds, stations)?;
     assert!(rt; ends.as_slice() == [End::Reached; 2].as_slice());
-    assert!(rt; most > 4);
+    assert_eq!(rt; (accounts.len(), tallies.len()), (2, 2));
+    let first = posted(rt, tallies[0], &accounts[0]);
+    let second = posted(rt, tallies[1], &accounts[1]);
+    assert!(rt; first.max(second) > 4);
     let Closing { clerk, .. } = closed(rt, office, seats);
     assert_eq!(rt; clerk.history().len() as u64, MOVES);
-    assert_eq!(rt; clerk.ledger().balance(1), Some(posted));
+    assert_eq!(rt;
+        clerk.ledger().balance(1),
+        Some(first.saturating_add(second))
+    );
     Ok(())
 }
 

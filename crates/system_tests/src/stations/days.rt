@@ -2,12 +2,14 @@
 ghost use Rattle.std.specs.Prelude.{◌≡◌};
 ghost use Rattle.four_state.specs.Configuration.{stations};
 
-use super::{NoGate, TRIES, closed, deposit, left, line, seated};
+use super::{NoGate, Remains, TRIES, closed, collect, deposit, line, reconciled, seated, submit};
 use crate::devices::formatted;
 use fault_injector::{OneFault, Op};
 use line_lock::{Blank, Closing, Ledger, Line, Office};
 use sector_device::{Device, MemoryDevice};
-use station_desk::{Answer, End, Entry, EntryRefusal, Feed, Outcome, TurnRefusal, run_stations};
+use station_desk::{
+    Answer, Ask, End, Entry, EntryRefusal, Outcome, Reconciled, TurnRefusal, run_stations,
+};
 use std::alloc::Global;
 use std::marker::Brand;
 use std::process::Abort;
@@ -15,9 +17,45 @@ use std::sync::Wait;
 use std::test::Fail;
 use std::thread::Threads;
 
+fn withdrawal(from: u32, amount: u64) -> Entry {
+    Entry::Withdraw {
+        from,
+        amount,
+        reference: 4,
+    }
+}
+
+fn transfer(from: u32, to: u32, amount: u64) -> Entry {
+    Entry::Transfer {
+        from,
+        to,
+        amount,
+        reference: 3,
+    }
+}
+
 // What an answer says: its ticket, and what became of its entry.
-fn told(answer: Option<Answer>) -> Option<(u64, Outcome)> {
+fn told(answer: Option<&Answer>) -> Option<(u64, Outcome)> {
     answer.map(|answer| (answer.ticket, answer.outcome))
+}
+
+// All requests of the three clients are answered; the first one has collected its first answer.
+fn all_answered(rt: &impl Abort, accounts: &[Reconciled]) {
+    assert_eq!(rt; accounts.len(), 3);
+    assert_eq!(rt; (accounts[0].submitted, accounts[0].collected), (2, 1));
+    let short = Outcome::Refused(EntryRefusal::Short);
+    assert_eq!(rt; told(accounts[0].answers.get(0)), Some((1, short)));
+    assert_eq!(rt;
+        told(accounts[1].answers.get(0)),
+        Some((0, Outcome::Posted(1)))
+    );
+    assert_eq!(rt;
+        told(accounts[2].answers.get(0)),
+        Some((0, Outcome::Posted(2)))
+    );
+    for account in accounts {
+        assert_eq!(rt; (account.answers.len(), account.unanswered.len()), (1, 0));
+    }
 }
 
 // Three clients submit, and their stations make eight moves.
@@ -37,32 +75,22 @@ fn eight_moves<L: Ledger + Send + Sync, R: Abort + Wait + Threads + Sync>(
         Err((_, refusal)) => panic!(rt; "{refusal}"),
     };
     let (mut feeds, mut stations) = seated(alloc, seats)?;
-    let transfer = Entry::Transfer {
-        from: 1,
-        to: 2,
-        amount: 30,
-        reference: 3,
-    };
-    let withdraw = Entry::Withdraw {
-        from: 2,
-        amount: 500,
-        reference: 4,
-    };
     assert_eq!(rt; feeds.len(), 3);
-    assert_eq!(rt; feeds[0].submit(deposit(1, 100)), Ok(0));
-    assert_eq!(rt; feeds[0].submit(withdraw), Ok(1));
-    assert_eq!(rt; feeds[1].submit(deposit(2, 50)), Ok(0));
-    assert_eq!(rt; feeds[2].submit(transfer), Ok(0));
+    assert_eq!(rt; submit(feeds.as_mut_slice(), 0, deposit(1, 100)), Ok(0));
+    assert_eq!(rt; submit(feeds.as_mut_slice(), 0, withdrawal(2, 500)), Ok(1));
+    assert_eq!(rt; submit(feeds.as_mut_slice(), 1, deposit(2, 50)), Ok(0));
+    assert_eq!(rt; submit(feeds.as_mut_slice(), 2, transfer(1, 2, 30)), Ok(0));
     run_stations(rt, &office, stations.as_mut_slice(), &NoGate, 8, TRIES);
-    let short = Outcome::Refused(EntryRefusal::Short);
-    assert_eq!(rt; told(feeds[0].answer()), Some((0, Outcome::Posted(0))));
-    assert_eq!(rt; told(feeds[0].answer()), Some((1, short)));
-    assert_eq!(rt; told(feeds[1].answer()), Some((0, Outcome::Posted(1))));
-    assert_eq!(rt; told(feeds[2].answer()), Some((0, Outcome::Posted(2))));
-    assert_eq!(rt; told(feeds[0].answer()), None);
+    let first = collect(feeds.as_mut_slice(), 0);
+    assert_eq!(rt; told(first.as_ref()), Some((0, Outcome::Posted(0))));
 
-    let (ends, seats) = left(alloc, stations)?;
+    let Remains {
+        accounts,
+        ends,
+        seats,
+    } = reconciled(alloc, feeds, stations)?;
     assert!(rt; ends.as_slice() == [End::Reached; 3].as_slice());
+    all_answered(rt, accounts.as_slice());
     let Closing { clerk, audit } = closed(rt, office, seats);
     assert_eq!(rt;
         (clerk.history().len(), audit.first_legitimate),
@@ -84,6 +112,24 @@ fn clients_are_answered_and_the_office_closes(rt: HostRuntime) -> Result<(), Fai
     eight_moves::<Brand, _>(&rt, alloc, formatted(alloc)?, line, blank)
 }
 
+// The request of the first client is undecided, those of the two others have no answer.
+fn first_undecided(rt: &impl Abort, accounts: &[Reconciled]) {
+    assert_eq!(rt; accounts.len(), 3);
+    assert_eq!(rt;
+        told(accounts[0].answers.get(0)),
+        Some((0, Outcome::Undecided))
+    );
+    assert!(rt; accounts[0].unanswered.is_empty());
+    for (account, amount) in accounts[1..].iter().zip([6, 7]) {
+        let ask = Ask {
+            ticket: 0,
+            entry: deposit(1, amount),
+        };
+        assert!(rt; account.answers.is_empty());
+        assert!(rt; account.unanswered.as_slice() == [ask].as_slice());
+    }
+}
+
 // The gate of the first batch is never written.
 fn a_failed_sync<L: Ledger + Send + Sync, R: Abort + Wait + Threads + Sync>(
     rt: &R,
@@ -102,16 +148,18 @@ fn a_failed_sync<L: Ledger + Send + Sync, R: Abort + Wait + Threads + Sync>(
         Err((_, refusal)) => panic!(rt; "{refusal}"),
     };
     let (mut feeds, mut stations) = seated(alloc, seats)?;
-    for feed in feeds.iter_mut() {
-        assert_eq!(rt; feed.submit(deposit(1, 5)), Ok(0));
-    }
     assert_eq!(rt; feeds.len(), 3);
+    assert_eq!(rt; submit(feeds.as_mut_slice(), 0, deposit(1, 5)), Ok(0));
+    assert_eq!(rt; submit(feeds.as_mut_slice(), 1, deposit(1, 6)), Ok(0));
+    assert_eq!(rt; submit(feeds.as_mut_slice(), 2, deposit(1, 7)), Ok(0));
     run_stations(rt, &office, stations.as_mut_slice(), &NoGate, 8, TRIES);
-    assert_eq!(rt; told(feeds[0].answer()), Some((0, Outcome::Undecided)));
-    assert_eq!(rt; told(feeds[1].answer()), None);
-    assert_eq!(rt; told(feeds[2].answer()), None);
 
-    let (ends, seats) = left(alloc, stations)?;
+    let Remains {
+        accounts,
+        ends,
+        seats,
+    } = reconciled(alloc, feeds, stations)?;
+    first_undecided(rt, accounts.as_slice());
     assert_eq!(rt; ends.len(), 3);
     assert_eq!(rt; ends[0], End::Refused(TurnRefusal::Device));
     for end in &ends.as_slice()[1..] {

@@ -5,10 +5,12 @@ use std::alloc::Global;
 use std::fs;
 use std::fs::{File, Files};
 use std::process::Abort;
+use std::sync::Wait;
 use std::test::Fail;
+use std::thread::Threads;
 
 // The status of the program on a file, and what it writes to its output and its errors.
-fn run_on<S: Abort + Files<File = File>>(
+fn run_on<S: Abort + Files<File = File> + Threads + Wait + Sync>(
     rt: &S,
     alloc: Global,
     path: &str,
@@ -21,7 +23,7 @@ fn run_on<S: Abort + Files<File = File>>(
     Ok((status, output, errors))
 }
 
-fn prints<S: Abort + Files<File = File>>(
+fn prints<S: Abort + Files<File = File> + Threads + Wait + Sync>(
     rt: &S,
     alloc: Global,
     path: &str,
@@ -34,7 +36,7 @@ fn prints<S: Abort + Files<File = File>>(
     Ok(())
 }
 
-fn fails<S: Abort + Files<File = File>>(
+fn fails<S: Abort + Files<File = File> + Threads + Wait + Sync>(
     rt: &S,
     alloc: Global,
     path: &str,

@@ -1,9 +1,10 @@
 //! What refusals, verdicts and rules are printed as.
-use crate::names::{name_of_entry, name_of_rule};
+use crate::names::{name_of_end, name_of_entry, name_of_rule};
 use crate::refusals::Refusal;
 use four_state::{LineRefusal, Rule};
 use gate_journal::FormatRefusal;
 use journal_recovery::{Cause, OpenRefusal};
+use office_day::{CloseRefusal, End};
 use std::alloc::Global;
 use std::fmt::Display;
 use std::process::Abort;
@@ -61,6 +62,8 @@ fn every_refusal_has_its_name(rt: HostRuntime) -> Result<(), Fail> {
         (Refusal::Turn(TurnRefusal::Memory), "Memory"),
         (Refusal::Turn(TurnRefusal::Full), "Full"),
         (Refusal::Turn(TurnRefusal::Device), "Device"),
+        (Refusal::Close(CloseRefusal::SeatMissing), "SeatMissing"),
+        (Refusal::Close(CloseRefusal::ForeignSeat), "ForeignSeat"),
     ];
     for (refusal, wanted) in table {
         shows(&rt, rt.alloc(), refusal, wanted)?;
@@ -88,5 +91,20 @@ fn every_rule_and_verdict_has_its_name(rt: HostRuntime) {
     ];
     for (refusal, wanted) in verdicts {
         assert_eq!(rt; name_of_entry(refusal), wanted);
+    }
+}
+
+#[test]
+fn every_end_has_its_name(rt: HostRuntime) {
+    let ends = [
+        (End::NotStarted, "NotStarted"),
+        (End::Reached, "Reached"),
+        (End::Stopped, "Stopped"),
+        (End::Tries, "Tries"),
+        (End::Refused(TurnRefusal::Full), "Full"),
+        (End::Refused(TurnRefusal::Device), "Device"),
+    ];
+    for (end, wanted) in ends {
+        assert_eq!(rt; name_of_end(end), wanted);
     }
 }

@@ -2,7 +2,11 @@
 use super::DEPOSIT;
 use crate::command_line::options;
 use crate::program::{run_program, tell_not_text};
+use std::alloc::Global;
+use std::fs::{File, Files};
+use std::sync::Wait;
 use std::test::Fail;
+use std::thread::Threads;
 
 // The sectors that these words ask for, where they aren't refused.
 #[test]
@@ -39,8 +43,9 @@ fn a_word_that_is_no_text_is_wrong(rt: HostRuntime) {
     );
 }
 
+// The words that are wrong, and what is told of them.
 #[test]
-fn wrong_words_and_help(rt: HostRuntime) -> Result<(), Fail> {
+fn wrong_words_are_told(rt: HostRuntime) -> Result<(), Fail> {
     let alloc = rt.alloc();
     let wrong: [(&[&str], &str); 6] = [
         (
@@ -63,30 +68,24 @@ fn wrong_words_and_help(rt: HostRuntime) -> Result<(), Fail> {
         (&["console", "--frob"], "unexpected argument '--frob' found"),
     ];
     for (words, wanted) in wrong {
-        let (mut reader, mut writer, mut errors) = (
-            DEPOSIT.as_bytes(),
-            Vec::new(alloc),
-            Vec::new(alloc),
-        );
-        let status = run_program(&rt, alloc, words, &mut reader, &mut writer, &mut errors);
-        assert_eq!(rt; status, 2, "{words:?}");
-        assert_eq!(rt; writer.len(), 0, "{words:?}");
+        let (status, writer, errors) = program(&rt, alloc, words);
+        assert_eq!(rt; (status, writer.len()), (2, 0), "{words:?}");
         let told = errors.as_slice().strip_prefix(b"error: ").unwrap_or(b"");
         assert!(rt; told.starts_with(wanted.as_bytes()), "{words:?}");
     }
-    let (mut reader, mut writer, mut errors) = (
-        DEPOSIT.as_bytes(),
-        Vec::new(alloc),
-        Vec::new(alloc),
-    );
-    let words = ["console", "--help"];
-    let status = run_program(&rt, alloc, &words, &mut reader, &mut writer, &mut errors);
-    assert_eq!(rt; status, 0);
-    assert_eq!(rt; errors.len(), 0);
+    Ok(())
+}
+
+#[test]
+fn help_tells_what_a_script_may_say(rt: HostRuntime) {
+    let (status, writer, errors) = program(&rt, rt.alloc(), &["console", "--help"]);
+    assert_eq!(rt; (status, errors.len()), (0, 0));
     let help = writer.as_slice();
     assert!(rt; help.ends_with(b"  balances\n"));
     for text in [
+        "and is read to its end before its first line runs:\n",
         "  post S withdraw A M         the same: M units from account A\n",
+        "  day M                       the stations take M turns, 1 to 100000, each",
         "which takes 2K + 1 sectors;\n                              what is there is erased\n",
         "How many sectors of 512 bytes the device has, 1 to 4000039 [default: 64]",
     ] {
@@ -95,5 +94,16 @@ fn wrong_words_and_help(rt: HostRuntime) -> Result<(), Fail> {
             "{text}"
         );
     }
-    Ok(())
+}
+
+// The status of the program with these words, and what it writes to its output and its errors.
+fn program<S: Files<File = File> + Threads + Wait + Sync>(
+    rt: &S,
+    alloc: Global,
+    words: &[&str],
+) -> (u8, Vec<u8>, Vec<u8>) {
+    let (mut output, mut errors) = (Vec::new(alloc), Vec::new(alloc));
+    let mut reader = DEPOSIT.as_bytes();
+    let status = run_program(rt, alloc, words, &mut reader, &mut output, &mut errors);
+    (status, output, errors)
 }

@@ -1,12 +1,13 @@
 //! Entries that are held for stations until their turns.
 ghost use Rattle.std.specs.Prelude.{◌≡◌, ◌≢◌, ◌≤◌, ◌↔◌, [], ◌∷◌, ◌++◌, length, IfOk, IfSome, IsNone};
+ghost use Rattle.station_desk.specs.Messages.{entries_of};
 
+use station_desk::{Ask, Entry};
 use std::alloc::{AllocError, Global};
 use std::marker::Model;
-use turn_ledger::Entry;
 
 /// The most entries that one station may hold.
-const HELD_LIMIT: usize = 16;
+pub const HELD_LIMIT: usize = 16;
 
 /// What one station holds, seen as the list of its entries. Its places are reserved when it is made, so that keeping an
 /// entry takes no memory.
@@ -16,14 +17,14 @@ pub struct HeldEntries {
 }
 
 impl Model for HeldEntries {
-    ghost use Rattle.std.specs.Prelude.{List, ◌≤◌, vec_capacity};
+    ghost use Rattle.std.specs.Prelude.{List, ◌≤◌, length, vec_capacity};
     ghost use Rattle.turn_ledger.specs.declared.entry.Entry.{Entry};
 
     ghost Value = { List Entry };
 
     ghost view = { λ held. held.entries.items };
 
-    ghost invariant = { λ held. 16 ≤ vec_capacity held.entries };
+    ghost invariant = { λ held. (16 ≤ vec_capacity held.entries) × (length held.entries.items ≤ 16) };
 }
 
 impl HeldEntries {
@@ -38,7 +39,8 @@ impl HeldEntries {
 
     /// What is held, in the order in which it was kept.
     pub fn as_slice(&self) -> &[Entry]
-        ensures { result.now ≡ self.now }
+        ensures value { result.now ≡ self.now }
+        ensures few { length result.now ≤ 16 }
     {
         self.entries.as_slice()
     }
@@ -56,6 +58,16 @@ impl HeldEntries {
         }
         self.entries.push(entry).unwrap();
         Some(count + 1)
+    }
+
+    /// Keeps the entries of these requests, and no others; of more than [`HELD_LIMIT`] the first ones.
+    pub fn keep_all(&mut self, asks: &[Ask])
+        ensures { length asks.now ≤ 16 → self.new ≡ entries_of asks.now }
+    {
+        self.clear();
+        for ask in asks {
+            let _ = self.keep(ask.entry);
+        }
     }
 
     /// Forgets what is held.

@@ -1,0 +1,5 @@
+pub mod Lists
+pub mod Days
+pub mod Pairing
+pub mod Served
+pub mod Opening

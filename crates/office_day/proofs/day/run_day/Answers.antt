@@ -1,0 +1,54 @@
+use Rattle.std.proofs.Common.{◌≡◌, ◌∙◌, ℕ, List, length, map, sym, ap}
+use Rattle.std.specs.List.{AllZip, range_with_len}
+use Rattle.std.proofs.lemmas.List.{length-map}
+use Rattle.std.proofs.lemmas.List.FromFn.{length-range_with_len}
+use Rattle.std.proofs.lemmas.Slice.Zip.{AllZip-long}
+use Rattle.turn_ledger.specs.declared.entry.Entry.{Entry}
+use Rattle.four_state.specs.Configuration.{stations}
+use Rattle.sweep_auditor.specs.RunLaws.{stations-after}
+use Rattle.turn_clerk.specs.History.{moves_of}
+use Rattle.line_lock.specs.Seat.{SeatState, new_seat}
+use Rattle.station_desk.specs.Rings.{FeedState, DeskState, AreTogether}
+use Rattle.office_day.specs.Counters.{HasHandedIn}
+use Rattle.office_day.proofs.Opening.{refused_opening}
+use Rattle.office_day.proofs.Served.{stay_together}
+use Rattle.office_day.proofs.Days.{had_their_day}
+use Rattle.office_day.proofs.day.run_day.Goals as goal
+
+pub returns-in-Err-clause-refused : goal.returns-in-Err-clause-refused
+returns-in-Err-clause-refused g c = λ honest.
+    refused_opening c.in-Err.refusal _ c.of_opening.result _ tt c.of_opening.ensures.memory c.of_opening.ensures.opening
+    (λ no_memory. λ no_fault. c.in-Err.ensures.refused honest no_memory no_fault)
+
+-- there is a desk for each seat
+desk_for_each : (held : List (List Entry)) (feeds : List FeedState) (desks : List DeskState) (seats : List SeatState) (n : ℕ)
+    → AllZip HasHandedIn held feeds → AllZip AreTogether feeds desks → length held ≡ n → seats ≡ map new_seat (range_with_len 0 n) → length desks ≡ length seats
+desk_for_each held feeds desks seats n handed_in together many sat =
+    AllZip-long AreTogether feeds desks together ∙ AllZip-long HasHandedIn held feeds handed_in ∙ many
+    ∙ sym (ap length sat ∙ length-map (range_with_len 0 n) new_seat ∙ length-range_with_len 0 n)
+
+pub served-requires-clause-as_many : goal.served-requires-clause-as_many
+served-requires-clause-as_many g c = λ κs within.
+    desk_for_each c.args.held.now c.in-Ok.feeds.items c.in-Ok.desks.items c.in-Ok-open.opened.1.items (stations c.args.line)
+    c.in-Ok.ensures.handed_in c.in-Ok.ensures.together c.requires.held c.in-Ok-open.ensures.seats
+
+pub all_reconciled-requires : goal.all_reconciled-requires
+all_reconciled-requires g c =
+    stay_together c.in-Ok.feeds.items c.in-Ok-open.opened.1.items c.in-Ok.desks.items c.in-Ok-served.seats.items c.in-Ok-served.left.items c.args.moves
+    c.in-Ok.ensures.together
+    (desk_for_each c.args.held.now c.in-Ok.feeds.items c.in-Ok.desks.items c.in-Ok-open.opened.1.items (stations c.args.line)
+    c.in-Ok.ensures.handed_in c.in-Ok.ensures.together c.requires.held c.in-Ok-open.ensures.seats)
+    c.in-Ok-served.ensures
+
+pub returns-in-Ok-all_reconciled-clause-days : goal.returns-in-Ok-all_reconciled-clause-days
+returns-in-Ok-all_reconciled-clause-days g c =
+    let clerk = c.in-Ok-close.field-0.clerk in
+    had_their_day c.args.held.now (stations c.args.line) c.in-Ok.feeds.items c.in-Ok.desks.items c.in-Ok-open.opened.1.items c.in-Ok-served.seats.items
+    c.in-Ok-served.left.items c.in-Ok-all_reconciled.stations.items clerk.opening.line clerk.history c.args.moves
+    c.requires.held c.in-Ok-open.ensures.seats c.in-Ok.ensures.handed_in (AllZip-long AreTogether c.in-Ok.feeds.items c.in-Ok.desks.items c.in-Ok.ensures.together)
+    c.in-Ok.ensures.fresh c.in-Ok-served.ensures c.in-Ok-close.ensures.borne_out c.in-Ok-all_reconciled.ensures
+
+pub returns-in-Ok-all_reconciled-clause-stations : goal.returns-in-Ok-all_reconciled-clause-stations
+returns-in-Ok-all_reconciled-clause-stations g c =
+    let clerk = c.in-Ok-close.field-0.clerk in
+    ap stations c.in-Ok-close.ensures.legal.line ∙ stations-after (moves_of clerk.history) clerk.opening.line ∙ c.in-Ok-close.ensures.stations ∙ c.requires.one_each

@@ -1,0 +1,61 @@
+-- What became of the entries that stations held, in a day of their office.
+use Rattle.std.specs.Prelude.{◌≡◌, ◌≢◌, ◌<◌, ◌≤◌, ℕ, List, [], ◌++◌, length}
+use Rattle.std.specs.List.{slice_index_or}
+use Rattle.turn_ledger.specs.declared.entry.Entry.{Entry}
+use Rattle.turn_clerk.specs.declared.turns.Turn.{Turn}
+use Rattle.turn_clerk.specs.declared.refusals.TurnRefusal.TheVariants.{Device}
+use Rattle.line_lock.specs.Account.{turns_of}
+use Rattle.station_desk.specs.declared.messages.Ask.{Ask}
+use Rattle.station_desk.specs.declared.end.End.TheVariants.{NotStarted, Reached, Refused}
+use Rattle.station_desk.specs.Messages.{entries_of, asks_of, outcomes_in, AreNumberedFrom}
+use Rattle.station_desk.specs.Outcomes.{undecided}
+use Rattle.station_desk.specs.Rings.{FeedState, DeskState}
+use Rattle.line_lock.specs.Seat.{SeatState}
+use Rattle.station_desk.specs.Run.{HasRun}
+use Rattle.station_desk.specs.Served.{entries_of_turns, outcomes_of_turns}
+use Rattle.office_day.specs.declared.reconciled.StationDay.{StationDay}
+use Rattle.office_day.specs.declared.seated.Left.{Left}
+
+-- A station's entries are accounted for by these turns of its office's history: each of them stands, in order and under
+-- its ticket, in an answer or is unanswered; the answers are, in order, what became of the entries of the turns, and
+-- then Undecided for requests that were given up, which happens only where the device failed.
+pub record IsAccountedFor (entries : List Entry) (turns : List Turn) (day : StationDay) : Type 0 where
+  pub given_up : List Ask
+  pub in_order : entries_of (asks_of day.answers.items ++ day.unanswered.items) ≡ entries
+  pub tickets : AreNumberedFrom 0 (asks_of day.answers.items ++ day.unanswered.items)
+  pub answered : entries_of (asks_of day.answers.items) ≡ entries_of_turns turns ++ entries_of given_up
+  pub outcomes : outcomes_in day.answers.items ≡ outcomes_of_turns turns ++ undecided given_up
+  pub none_else : day.end ≢ Refused Device → given_up ≡ []
+
+-- A station had its day: all that it held is accounted for by the turns that the history has of it; it ended as Reached
+-- only where the history has so many turns, and it was started.
+pub record HadDay (history : List Turn) (moves station : ℕ) (entries : List Entry) (day : StationDay) : Type 0 where
+  pub account : IsAccountedFor entries (turns_of station history) day
+  pub reached : day.end ≡ Reached → moves ≤ length history
+  pub started : day.end ≢ NotStarted
+
+-- Each station had its day, with what it held.
+pub record HadTheirDay (history : List Turn) (moves : ℕ) (held : List (List Entry)) (days : List StationDay) : Type 0 where
+  pub as_many : length days ≡ length held
+  pub each : (i : ℕ) (entries : List Entry) (day : StationDay) → i < length held
+      → HadDay history moves i (slice_index_or held i entries) (slice_index_or days i day)
+
+-- The requests of a feed, and what its desk gave, stand in the station's day.
+pub record IsReconciled (feed : FeedState) (left : Left) (day : StationDay) : Type 0 where
+  pub end : day.end ≡ left.end
+  pub asked : feed.asked ≡ asks_of feed.collected ++ asks_of day.answers.items ++ day.unanswered.items
+  pub given : left.desk.given ≡ feed.collected ++ day.answers.items
+  pub tickets : AreNumberedFrom 0 feed.asked
+
+-- Each feed's do, in order.
+pub record AreReconciled (feeds : List FeedState) (left : List Left) (days : List StationDay) : Type 0 where
+  pub as_many : length days ≡ length feeds
+  pub each : (i : ℕ) (feed : FeedState) (part : Left) (day : StationDay) → i < length feeds
+      → IsReconciled (slice_index_or feeds i feed) (slice_index_or left i part) (slice_index_or days i day)
+
+-- The stations at these seats and desks have run, and left what they then had.
+pub record HaveServed (seats : List SeatState) (desks : List DeskState) (after : List SeatState) (left : List Left) (moves : ℕ) : Type 0 where
+  pub seats_as_many : length after ≡ length seats
+  pub left_as_many : length left ≡ length seats
+  pub each : (i : ℕ) (seat : SeatState) (desk : DeskState) (part : Left) → i < length seats
+      → HasRun (slice_index_or seats i seat) (slice_index_or after i seat) (slice_index_or desks i desk) (slice_index_or left i part).desk (slice_index_or left i part).end moves

@@ -1,0 +1,4 @@
+pub mod Counters
+pub mod Left
+pub mod Refusal
+pub mod Day

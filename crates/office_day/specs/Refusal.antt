@@ -1,0 +1,9 @@
+-- Refusals of a day.
+use Rattle.journal_recovery.specs.declared.refusals.OpenRefusal.{OpenRefusal}
+use Rattle.office_day.specs.declared.refusals.DayRefusal.{DayRefusal}
+use Rattle.office_day.specs.declared.refusals.DayRefusal.TheVariants.{Opening}
+
+-- where the office couldn't be opened, a fact of the reason
+abbrev pub IfOpening : DayRefusal → (OpenRefusal → Type 0) → Type 0
+IfOpening (Opening refusal) P = P refusal
+IfOpening _ P = Unit {0}

@@ -1,0 +1,17 @@
+//! A day of an office: each of its stations works through what its clients handed in, in a thread of its own, until so
+//! many turns are taken; then the office is closed, and every request is accounted for.
+#![tactic(auto)]
+
+mod counters;
+mod day;
+mod held_entries;
+mod reconciled;
+mod refusals;
+mod seated;
+
+pub use day::{Day, run_day};
+pub use held_entries::{HELD_LIMIT, HeldEntries};
+pub use line_lock::{Audit, Blank, Clerk, CloseRefusal, Device, Ledger, Line, OpenRefusal};
+pub use reconciled::StationDay;
+pub use refusals::DayRefusal;
+pub use station_desk::{Answer, Ask, End, Entry, EntryRefusal, Outcome, TurnRefusal};

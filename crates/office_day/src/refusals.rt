@@ -1,0 +1,17 @@
+//! Why there was no day.
+use line_lock::{CloseRefusal, OpenRefusal};
+use thiserror::Error;
+
+/// Why an office had no day, or none that could be accounted for.
+#[derive(Clone, Copy, Debug, PartialEq, Eq, Error)]
+pub enum DayRefusal {
+    /// There isn't enough memory.
+    #[error("not enough memory")]
+    Memory,
+    /// The office can't be opened.
+    #[error("{0}")]
+    Opening(OpenRefusal),
+    /// The office can't be closed.
+    #[error("{0}")]
+    Closing(CloseRefusal),
+}

@@ -1,0 +1,77 @@
+//! A day of the stations, from a script.
+use crate::refusals::Refusal;
+use crate::scripted_clerk::ScriptedClerk;
+use office_day::{Audit, Blank, Day, DayRefusal, HeldEntries, StationDay, run_day};
+use sector_device::Device;
+use std::alloc::Global;
+use std::marker::Brand;
+use std::sync::Wait;
+use std::thread::Threads;
+
+/// How often in a row a station asks for its turn, before it ends.
+const TRIES: u64 = 100_000_000;
+
+/// What a day shows beside its turns.
+#[derive(Drop)]
+pub struct DayReport {
+    pub audit: Audit,
+    /// What became of each station's requests, the lowest station first.
+    pub stations: Vec<StationDay>,
+}
+
+/// Why there is no day to show.
+#[derive(Drop)]
+pub enum NoDay<D: Device> {
+    /// There isn't enough memory.
+    Memory,
+    /// There is no office any more; the device is kept.
+    Refused(D, Refusal),
+}
+
+impl<D: Device + Send + Drop> ScriptedClerk<D> {
+    /// Lets the stations take so many turns, each in a thread of its own, with what is held for them. What has no answer
+    /// then is held again.
+    pub fn day<R: Threads + Wait + Sync>(
+        self,
+        rt: &R,
+        alloc: Global,
+        moves: u64,
+    ) -> Result<(ScriptedClerk<D>, DayReport), NoDay<D>> {
+        let ScriptedClerk { clerk, mut held } = self;
+        let line = clerk.line();
+        let blank = Blank::new(line.stations() as u64);
+        let device = Box::into_inner(clerk).into_device();
+        let entries = held.as_slice();
+        match run_day::<D, Brand, R>(rt, alloc, device, line, blank, entries, moves, TRIES) {
+            Ok(day) => {
+                let Day {
+                    clerk,
+                    audit,
+                    stations,
+                } = day;
+                hold_again(held.as_mut_slice(), stations.as_slice());
+                match Box::new(alloc, clerk) {
+                    Ok(clerk) => Ok((ScriptedClerk { clerk, held }, DayReport { audit, stations })),
+                    Err(_) => Err(NoDay::Memory),
+                }
+            }
+            Err((device, refusal)) => Err(no_day(device, refusal)),
+        }
+    }
+}
+
+// Why there is no day to show, where the office had none.
+fn no_day<D: Device + Drop>(device: D, refusal: DayRefusal) -> NoDay<D> {
+    match refusal {
+        DayRefusal::Memory => NoDay::Memory,
+        DayRefusal::Opening(refusal) => NoDay::Refused(device, Refusal::Open(refusal)),
+        DayRefusal::Closing(refusal) => NoDay::Refused(device, Refusal::Close(refusal)),
+    }
+}
+
+// Holds for each station the entries of its requests that have no answer.
+fn hold_again(held: &mut [HeldEntries], stations: &[StationDay]) {
+    for (entries, station) in held.iter_mut().zip(stations) {
+        entries.keep_all(station.unanswered.as_slice());
+    }
+}
