@@ -1,0 +1,33 @@
+#!/usr/bin/env bash
+# Runs each example, and compares what it prints with the file NAME.out beside it: one line for each, and status 1 at the
+# first difference. Word: the program; without it, it is proved and built first.
+set -euo pipefail
+cd "$(dirname "$0")/.."
+work=$(mktemp -d)
+trap 'rm -rf "$work"' EXIT
+
+program=${1:-crates/turn_console/out/turn_console}
+if [ $# -eq 0 ]; then
+    (cd crates/turn_console && rt run < stdin > "$work/build.log" 2>&1) || { tail "$work/build.log"; exit 1; }
+fi
+
+# Runs the example NAME, the first word, with the other words as those of the program.
+example() {
+    local name=$1
+    shift
+    if ! "$program" "$@" < "examples/$name" > "$work/printed" 2> "$work/told" || [ -s "$work/told" ]; then
+        echo "$name: the program failed"
+        cat "$work/printed" "$work/told"
+        exit 1
+    fi
+    diff "examples/$name.out" "$work/printed" || { echo "$name: prints something else than examples/$name.out"; exit 1; }
+    echo "$name: prints examples/$name.out"
+}
+
+example first_day --device "$work/ledger" --sectors 9
+example second_day --device "$work/ledger" --sectors 9
+bash examples/damage.sh "$work/ledger" 512
+example damaged_file --device "$work/ledger"
+example full_ledger
+example healing
+example three_stations
