@@ -30,4 +30,5 @@ bash examples/damage.sh "$work/ledger" 512
 example damaged_file --device "$work/ledger"
 example full_ledger
 example healing
+example two_stations
 example three_stations

@@ -4,6 +4,8 @@
 #[cfg(test)]
 mod devices;
 #[cfg(test)]
+mod example;
+#[cfg(test)]
 mod images;
 #[cfg(test)]
 mod limits;

@@ -3,6 +3,7 @@ use file_device::FileRefusal;
 use four_state::LineRefusal;
 use gate_journal::{AppendRefusal, FormatRefusal, JournalCause, JournalRefusal, ReadRefusal};
 use journal_recovery::{Cause, OpenRefusal};
+use office_day::{CloseRefusal, DayRefusal};
 use std::alloc::Global;
 use std::fmt::Display;
 use std::process::Abort;
@@ -172,6 +173,30 @@ fn refusals_of_lines_and_files_have_texts(rt: HostRuntime) -> Result<(), Fail> {
         &[
             (FileRefusal::Memory, "out of memory"),
             (FileRefusal::File, "the file can't be used as a device"),
+        ],
+    )
+}
+
+#[test]
+fn refusals_of_a_day_have_texts(rt: HostRuntime) -> Result<(), Fail> {
+    use DayRefusal::*;
+    read_as(
+        &rt,
+        rt.alloc(),
+        &[
+            (Memory, "not enough memory"),
+            (
+                Opening(OpenRefusal::Unformatted),
+                "the device is not formatted",
+            ),
+            (
+                Closing(CloseRefusal::SeatMissing),
+                "the seat of a station is missing",
+            ),
+            (
+                Closing(CloseRefusal::ForeignSeat),
+                "a seat does not belong to this office",
+            ),
         ],
     )
 }

@@ -6,6 +6,7 @@ ghost use Rattle.station_desk.specs.PairLaws.{AllStandAt};
 
 mod beside;
 mod clients;
+mod day;
 mod days;
 
 use line_lock::{Ledger, Line, Office, Seat};
