@@ -6,6 +6,7 @@ from pathlib import Path
 
 from commands import Copy
 from documents import beside_fault, blocks, link_faults, links, places
+from wrong_bodies import faults as wrong_body_faults
 
 NOT_RUN = "not run by docs/check.sh"
 
@@ -65,6 +66,7 @@ def main():
         for document in documents:
             text = document.read_text(encoding="utf-8")
             failed += told(document, [*text_faults(document, text), *command_faults(text, copy)])
+    failed += told("wrong bodies", wrong_body_faults())
     with tempfile.TemporaryDirectory() as folder:
         failed += told("pictures", picture_faults(program, folder))
     sys.exit(1 if failed else 0)

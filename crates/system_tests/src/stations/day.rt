@@ -22,6 +22,7 @@ fn a_day_accounts_for_each_request(rt: HostRuntime) -> Result<(), Fail> {
     let blank = Blank::new(line.stations() as u64);
     let device = formatted(alloc)?;
     let held = held(alloc)?;
+    assert_eq!(rt; held.len(), line.stations() as usize);
     let day = match run_day::<MemoryDevice, Brand, _>(
         &rt, alloc, device, line, blank, &held, 3, TRIES,
     ) {
@@ -56,6 +57,7 @@ fn a_day_that_can_not_be_opened_gives_the_device_back(rt: HostRuntime) -> Result
     let blank = Blank::new(line.stations() as u64);
     let device = MemoryDevice::new(alloc, 9)?;
     let held = held(alloc)?;
+    assert_eq!(rt; held.len(), line.stations() as usize);
     match run_day::<MemoryDevice, Brand, _>(&rt, alloc, device, line, blank, &held, 3, TRIES) {
         Ok(_) => panic!(rt; "a day on a device without a journal"),
         Err((device, refusal)) => {
