@@ -1,0 +1,90 @@
+"""Times the console's `day` on scripts that it writes: one day of many empty turns, and many days of full batches.
+
+Words: the program, a folder, and how many runs. Each script is run at half size too, so that growth can be seen. The
+answers are compared with what the script comes to. Prints the median, the fastest and the slowest run.
+"""
+import os
+import statistics
+import sys
+import time
+
+BATCH = 15
+
+
+def empty(turns):
+    """One day of turns without entries: its script, the places that its device needs, and its answers."""
+    yield "format 1\nopen 3 000 100\n"
+    yield f"day {turns}\n"
+
+
+def full(days):
+    """Days of four turns, the first three with 15 entries each; the stations begin each day where the last began."""
+    yield f"format {3 * days}\nopen 3 000 100\n"
+    for _ in range(days):
+        for station in range(3):
+            yield f"post {station} deposit {station + 1} 1\n" * BATCH
+        yield "day 4\n"
+    yield "balances\n"
+
+
+def run(program, sectors, script, answers):
+    """Seconds, and the most memory in kilobytes, of one run."""
+    with open(script, "rb") as source, open(answers, "wb") as sink:
+        start = time.monotonic()
+        child = os.posix_spawn(
+            program,
+            [program, "--sectors", str(sectors)],
+            os.environ,
+            file_actions=[
+                (os.POSIX_SPAWN_DUP2, source.fileno(), 0),
+                (os.POSIX_SPAWN_DUP2, sink.fileno(), 1),
+            ],
+        )
+        _, status, usage = os.wait4(child, 0)
+        seconds = time.monotonic() - start
+    if status != 0:
+        sys.exit(f"{script}: the program ended with {os.waitstatus_to_exitcode(status)}")
+    return seconds, usage.ru_maxrss
+
+
+def looked_at(answers, turns, posted, days):
+    """Ends the program where the answers don't hold so many turns, answered entries and days that all ended well."""
+    with open(answers, encoding="ascii") as output:
+        lines = output.read().splitlines()
+    found = [sum(line.startswith(start) for line in lines) for start in ("turn ", "answer ", "day ")]
+    reached = sum(line.startswith("station ") and line.endswith(" Reached") for line in lines)
+    accepted = sum(line.startswith("answer ") and " posted " in line for line in lines)
+    total = [line for line in lines if line.startswith("total ")]
+    wanted_total = [f"total {posted}"] if posted else []
+    if found != [turns, posted, days] or reached != 3 * days or accepted != posted or total != wanted_total:
+        sys.exit(f"{answers}: {found}, {reached} reached, {accepted} posted, {total}")
+
+
+def measure(program, folder, name, lines, load, runs):
+    """Prints the times of a script."""
+    slots, turns, posted, days = load
+    script = os.path.join(folder, name)
+    with open(script, "w", encoding="ascii") as sink:
+        sink.writelines(lines)
+    results = []
+    for _ in range(runs):
+        results.append(run(program, 2 * slots + 1, script, script + ".answers"))
+        looked_at(script + ".answers", turns, posted, days)
+    seconds = [seconds for seconds, _ in results]
+    middle, memory = statistics.median(seconds), max(memory for _, memory in results)
+    print(f"| {days:,} | {turns:,} | {posted:,} | {middle:.2f} | {min(seconds):.2f} to {max(seconds):.2f} "
+          f"| {turns / middle:,.0f} | {memory / 1024:.0f} MB |", flush=True)
+
+
+def main():
+    program, folder, runs = sys.argv[1], sys.argv[2], int(sys.argv[3])
+    print("| Days | Turns | Entries | Seconds | From and to | Turns a second | Most memory |")
+    print("|---|---|---|---|---|---|---|")
+    for turns in (50_000, 100_000):
+        measure(program, folder, f"empty_{turns}", empty(turns), (1, turns, 0, 1), runs)
+    for days in (1_000, 2_000, 4_000):
+        load = (3 * days, 4 * days, 3 * BATCH * days, days)
+        measure(program, folder, f"full_{days}", full(days), load, runs)
+
+
+main()
