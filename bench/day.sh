@@ -2,7 +2,8 @@
 # A day in threads: entries per second that three stations take from three clients beside them, and turns per second of
 # 2, 4, 8 and 16 stations without clients, the proved library beside the same in plain Rust (rustc -O, standard library
 # alone), in runs that take turns; and the console's `day`, turns per second and the most memory. The timed program is
-# proved and built as a crate of its own in a temporary folder, the console in its own. Words: how many rounds, 7 without.
+# proved and built as a crate of its own in a temporary folder, the console in its own. Words: how many rounds, 7 without,
+# and how many runs of the console, 3 without.
 set -euo pipefail
 cd "$(dirname "$0")/.."
 work=$(mktemp -d)
@@ -25,7 +26,7 @@ cp bench/day/ghosts.antt.txt "$program/proofs/timed/Invariants.antt"
 (cd "$program" && rt run -- 2 0 1 > "$work/build.log" 2>&1) || { tail "$work/build.log"; exit 1; }
 rustc -O --edition 2021 -o "$work/plain" bench/baseline/day.rs
 
-python3 bench/day/measure.py "$work/plain" "$program/out/day_bench" "${1:-7}"
-
 (cd crates/turn_console && rt run < stdin > "$work/build.log" 2>&1) || { tail "$work/build.log"; exit 1; }
-python3 bench/day/console.py crates/turn_console/out/turn_console "$work" "${1:-7}"
+
+python3 bench/day/measure.py "$work/plain" "$program/out/day_bench" "${1:-7}"
+python3 bench/day/console.py crates/turn_console/out/turn_console "$work" "${2:-3}"

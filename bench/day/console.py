@@ -1,7 +1,7 @@
 """Times the console's `day` on scripts that it writes: one day of many empty turns, and many days of full batches.
 
-Words: the program, a folder, and how many runs. Each script is run at half size too, so that growth can be seen. The
-answers are compared with what the script comes to. Prints the median, the fastest and the slowest run.
+Words: the program, a folder, and how many runs. Scripts of one kind differ in size, so that growth can be seen. The answers
+are counted, and compared with what the script comes to. Prints the median, the fastest and the slowest run.
 """
 import os
 import statistics
@@ -10,9 +10,16 @@ import time
 
 BATCH = 15
 
+# Where the program's threads run: on all cores, or on one that runs them in turn.
+CORES = {"all": set(range(os.cpu_count())), "one": {0}}
+
+# How many turns the one day has, and how many days a script has.
+EMPTY = (50_000, 100_000)
+FULL = {"all": (1_000, 2_000), "one": (1_000, 2_000, 4_000)}
+
 
 def empty(turns):
-    """One day of turns without entries: its script, the places that its device needs, and its answers."""
+    """One day of turns without entries."""
     yield "format 1\nopen 3 000 100\n"
     yield f"day {turns}\n"
 
@@ -60,8 +67,9 @@ def looked_at(answers, turns, posted, days):
         sys.exit(f"{answers}: {found}, {reached} reached, {accepted} posted, {total}")
 
 
-def measure(program, folder, name, lines, load, runs):
+def measure(program, folder, cores, name, lines, load, runs):
     """Prints the times of a script."""
+    os.sched_setaffinity(0, CORES[cores])
     slots, turns, posted, days = load
     script = os.path.join(folder, name)
     with open(script, "w", encoding="ascii") as sink:
@@ -72,19 +80,20 @@ def measure(program, folder, name, lines, load, runs):
         looked_at(script + ".answers", turns, posted, days)
     seconds = [seconds for seconds, _ in results]
     middle, memory = statistics.median(seconds), max(memory for _, memory in results)
-    print(f"| {days:,} | {turns:,} | {posted:,} | {middle:.2f} | {min(seconds):.2f} to {max(seconds):.2f} "
+    print(f"| {days:,} | {cores} | {turns:,} | {posted:,} | {middle:.2f} | {min(seconds):.2f} to {max(seconds):.2f} "
           f"| {turns / middle:,.0f} | {memory / 1024:.0f} MB |", flush=True)
 
 
 def main():
     program, folder, runs = sys.argv[1], sys.argv[2], int(sys.argv[3])
-    print("| Days | Turns | Entries | Seconds | From and to | Turns a second | Most memory |")
-    print("|---|---|---|---|---|---|---|")
-    for turns in (50_000, 100_000):
-        measure(program, folder, f"empty_{turns}", empty(turns), (1, turns, 0, 1), runs)
-    for days in (1_000, 2_000, 4_000):
-        load = (3 * days, 4 * days, 3 * BATCH * days, days)
-        measure(program, folder, f"full_{days}", full(days), load, runs)
+    print("| Days | Cores | Turns | Entries | Seconds | From and to | Turns a second | Most memory |")
+    print("|---|---|---|---|---|---|---|---|")
+    for cores in CORES:
+        for turns in EMPTY:
+            measure(program, folder, cores, f"empty_{turns}", empty(turns), (1, turns, 0, 1), runs)
+        for days in FULL[cores]:
+            load = (3 * days, 4 * days, 3 * BATCH * days, days)
+            measure(program, folder, cores, f"full_{days}", full(days), load, runs)
 
 
 main()

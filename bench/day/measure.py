@@ -14,6 +14,9 @@ AIM = 0.8
 WITH_CLIENTS = (3, 64, 100_000)
 EMPTY = ((2, 0, 100_000), (4, 0, 100_000), (8, 0, 100_000), (16, 0, 100_000))
 
+# A run that is over when its threads have barely begun.
+SHORT = (3, 0, 4)
+
 # Threads that one core runs in turn: then none waits for another core.
 ON_ONE_CORE = ("taskset", "--cpu-list", "0")
 
@@ -44,12 +47,12 @@ def row(cores, work, runs):
     proved, plain = (statistics.median(column) for column in zip(*rates))
     ratios = [a / b for a, b in rates]
     low, ratio, high = statistics.quantiles(ratios, n=4, method="inclusive")
-    stations, places, _ = work
+    stations, places, turns = work
     if places:
         fill = [statistics.median(column) for column in zip(*((a[1], b[1]) for a, b in runs))]
         kind = f"entries, {fill[0]:.1f} a turn, plain Rust {fill[1]:.1f}"
     else:
-        kind = "turns, empty"
+        kind = f"turns, empty, {turns:,} in all"
     aim = f"at least {AIM:.2f} | {'met' if ratio >= AIM else 'missed'}" if places else " | "
     return (f"| {stations} | {stations if places else 0} | {cores} | {kind} | {proved:,.0f} | {plain:,.0f} | {ratio:.2f} "
             f"| {low:.2f} to {high:.2f} | {aim} |")
@@ -59,9 +62,9 @@ def main():
     plain, proved, rounds = sys.argv[1], sys.argv[2], int(sys.argv[3])
     print("| Stations | Clients | Cores | A second | Proved | Plain Rust | Ratio | Its quartiles | Aim | |")
     print("|---|---|---|---|---|---|---|---|---|---|")
-    for work in (WITH_CLIENTS, *EMPTY):
+    for work in (WITH_CLIENTS, *EMPTY, SHORT):
         print(row("all", work, measure([plain], [proved], work, rounds)), flush=True)
-    for work in (WITH_CLIENTS, *EMPTY):
+    for work in (WITH_CLIENTS, *EMPTY, SHORT):
         runs = measure([*ON_ONE_CORE, plain], [*ON_ONE_CORE, proved], work, rounds)
         print(row("one", work, runs), flush=True)
 
