@@ -25,8 +25,9 @@ cp bench/day/main.rt.txt "$program/src/main.rt"
 cp bench/day/ghosts.antt.txt "$program/proofs/timed/Invariants.antt"
 (cd "$program" && rt run -- 2 0 1 > "$work/build.log" 2>&1) || { tail "$work/build.log"; exit 1; }
 rustc -O --edition 2021 -o "$work/plain" bench/baseline/day.rs
+cc -O2 -o "$work/stopwatch" bench/turns/stopwatch.c
 
 (cd crates/turn_console && rt run < stdin > "$work/build.log" 2>&1) || { tail "$work/build.log"; exit 1; }
 
 python3 bench/day/measure.py "$work/plain" "$program/out/day_bench" "${1:-7}"
-python3 bench/day/console.py crates/turn_console/out/turn_console "$work" "${2:-3}"
+python3 bench/day/console.py "$work/stopwatch" crates/turn_console/out/turn_console "$work" "${2:-3}"

@@ -1,12 +1,13 @@
 """Times the console's `day` on scripts that it writes: one day of many empty turns, and many days of full batches.
 
-Words: the program, a folder, and how many runs. Scripts of one kind differ in size, so that growth can be seen. The answers
-are counted, and compared with what the script comes to. Prints the median, the fastest and the slowest run.
+Words: `stopwatch`, the program, a folder, and how many runs. Scripts of one kind differ in size, so that growth can be
+seen. The answers are counted, and compared with what the script comes to. Prints the median, the fastest and the slowest
+run.
 """
 import os
 import statistics
+import subprocess
 import sys
-import time
 
 BATCH = 15
 
@@ -34,24 +35,14 @@ def full(days):
     yield "balances\n"
 
 
-def run(program, sectors, script, answers):
+def run(command, script, answers):
     """Seconds, and the most memory in kilobytes, of one run."""
     with open(script, "rb") as source, open(answers, "wb") as sink:
-        start = time.monotonic()
-        child = os.posix_spawn(
-            program,
-            [program, "--sectors", str(sectors)],
-            os.environ,
-            file_actions=[
-                (os.POSIX_SPAWN_DUP2, source.fileno(), 0),
-                (os.POSIX_SPAWN_DUP2, sink.fileno(), 1),
-            ],
-        )
-        _, status, usage = os.wait4(child, 0)
-        seconds = time.monotonic() - start
-    if status != 0:
-        sys.exit(f"{script}: the program ended with {os.waitstatus_to_exitcode(status)}")
-    return seconds, usage.ru_maxrss
+        told = subprocess.run(command, stdin=source, stdout=sink, stderr=subprocess.PIPE, text=True)
+    if told.returncode != 0:
+        sys.exit(f"{script}: {command} ended with {told.returncode}")
+    nanoseconds, memory = map(int, told.stderr.split())
+    return nanoseconds / 1e9, memory
 
 
 def looked_at(answers, turns, posted, days):
@@ -67,7 +58,7 @@ def looked_at(answers, turns, posted, days):
         sys.exit(f"{answers}: {found}, {reached} reached, {accepted} posted, {total}")
 
 
-def measure(program, folder, cores, name, lines, load, runs):
+def measure(stopwatch, program, folder, cores, name, lines, load, runs):
     """Prints the times of a script."""
     os.sched_setaffinity(0, CORES[cores])
     slots, turns, posted, days = load
@@ -76,7 +67,8 @@ def measure(program, folder, cores, name, lines, load, runs):
         sink.writelines(lines)
     results = []
     for _ in range(runs):
-        results.append(run(program, 2 * slots + 1, script, script + ".answers"))
+        command = [stopwatch, program, "--sectors", str(2 * slots + 1)]
+        results.append(run(command, script, script + ".answers"))
         looked_at(script + ".answers", turns, posted, days)
     seconds = [seconds for seconds, _ in results]
     middle, memory = statistics.median(seconds), max(memory for _, memory in results)
@@ -85,15 +77,15 @@ def measure(program, folder, cores, name, lines, load, runs):
 
 
 def main():
-    program, folder, runs = sys.argv[1], sys.argv[2], int(sys.argv[3])
+    stopwatch, program, folder, runs = *sys.argv[1:4], int(sys.argv[4])
     print("| Days | Cores | Turns | Entries | Seconds | From and to | Turns a second | Most memory |")
     print("|---|---|---|---|---|---|---|---|")
     for cores in CORES:
         for turns in EMPTY:
-            measure(program, folder, cores, f"empty_{turns}", empty(turns), (1, turns, 0, 1), runs)
+            measure(stopwatch, program, folder, cores, f"empty_{turns}", empty(turns), (1, turns, 0, 1), runs)
         for days in FULL[cores]:
             load = (3 * days, 4 * days, 3 * BATCH * days, days)
-            measure(program, folder, cores, f"full_{days}", full(days), load, runs)
+            measure(stopwatch, program, folder, cores, f"full_{days}", full(days), load, runs)
 
 
 main()

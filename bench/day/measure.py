@@ -53,9 +53,9 @@ def row(cores, work, runs):
         kind = f"entries, {fill[0]:.1f} a turn, plain Rust {fill[1]:.1f}"
     else:
         kind = f"turns, empty, {turns:,} in all"
-    aim = f"at least {AIM:.2f} | {'met' if ratio >= AIM else 'missed'}" if places else " | "
+    aim = f" at least {AIM:.2f} | {'met' if ratio >= AIM else 'missed'} " if places else " | "
     return (f"| {stations} | {stations if places else 0} | {cores} | {kind} | {proved:,.0f} | {plain:,.0f} | {ratio:.2f} "
-            f"| {low:.2f} to {high:.2f} | {aim} |")
+            f"| {low:.2f} to {high:.2f} |{aim}|")
 
 
 def main():
