@@ -25,7 +25,7 @@ cp bench/day/main.rt.txt "$program/src/main.rt"
 cp bench/day/ghosts.antt.txt "$program/proofs/timed/Invariants.antt"
 (cd "$program" && rt run -- 2 0 1 > "$work/build.log" 2>&1) || { tail "$work/build.log"; exit 1; }
 rustc -O --edition 2021 -o "$work/plain" bench/baseline/day.rs
-cc -O2 -o "$work/stopwatch" bench/turns/stopwatch.c
+gcc -O2 -Wall -Wextra -o "$work/stopwatch" bench/turns/stopwatch.c
 
 (cd crates/turn_console && rt run < stdin > "$work/build.log" 2>&1) || { tail "$work/build.log"; exit 1; }
 
