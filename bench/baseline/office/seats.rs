@@ -34,6 +34,25 @@ impl<D: Device> Office<D> {
         answer
     }
 
+    /// A turn where the history holds fewer than so many, and else None.
+    pub fn turn_within(&self, seat: &mut Seat, entries: &[Entry], limit: u64) -> Option<Result<Turn, TurnRefusal>> {
+        seat.turns.reserve(1);
+        let (answer, held) = self.answer_within(seat.station, entries, limit);
+        match &answer {
+            Some(Ok(turn)) => seat.turns.push(*turn),
+            Some(Err(TurnRefusal::NotPrivileged)) => seat.denied = Some(held),
+            Some(Err(_)) | None => {}
+        }
+        answer
+    }
+
+    // What the clerk answers within a limit, and how many turns its history held before.
+    fn answer_within(&self, station: usize, entries: &[Entry], limit: u64) -> (Option<Result<Turn, TurnRefusal>>, u64) {
+        let mut clerk = self.clerk.lock().unwrap_or_else(PoisonError::into_inner);
+        let held = clerk.history().len() as u64;
+        ((held < limit).then(|| clerk.turn(station, entries)), held)
+    }
+
     // What the clerk answers, and how many turns its history held before.
     fn answer(&self, station: usize, entries: &[Entry]) -> (Result<Turn, TurnRefusal>, u64) {
         let mut clerk = self.clerk.lock().unwrap_or_else(PoisonError::into_inner);
