@@ -82,10 +82,8 @@ def page(known):
 def faults():
     """What is wrong with the document that is there."""
     there = DOCUMENT.read_text(encoding="utf-8")
-    known = rows_of(there)
-    if page(known) != there:
+    if page(rows_of(there)) != there:
         yield "it doesn't list the edits that are there: docs/checking/wrong_bodies.py LOG makes it again"
-    yield from (f"nothing is said of {crate}/{name}" for (crate, name), said in known.items() if not said)
 
 
 def main():
