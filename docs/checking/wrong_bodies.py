@@ -45,7 +45,7 @@ def told_of(refusal):
         return f"what `{called[1]}` requires"
     if "invariant of the loop" in refusal or goal.startswith("loop"):
         return "a loop's invariant"
-    if "`invariant`" in refusal:
+    if "`invariant`" in refusal or goal.startswith("invariant"):
         return "what its type keeps"
     if clause:
         return f"`{clause[1]}`"
