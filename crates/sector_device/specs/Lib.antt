@@ -1,5 +1,6 @@
 pub mod Image
 pub mod Crash
+pub mod Writes
 pub mod Device
 pub mod Memory
 pub mod MemoryDevice
