@@ -1,12 +1,12 @@
 //! The ledger.
-ghost use Rattle.std.specs.Prelude.{◌≡◌, ◌≤◌, length, IfOk, OnOk, OnErr, SomeIff};
+ghost use Rattle.std.specs.Prelude.{◌≡◌, ◌<◌, ◌≤◌, ◌↔◌, true, false, length, sum, IfOk, OnOk, OnErr, SomeIff};
 ghost use Rattle.turn_ledger.specs.State.{IsAccount, IsLedger, balance_of, total_of, empty_ledger};
 ghost use Rattle.turn_ledger.specs.Entry.{verdict, posted};
 ghost use Rattle.turn_ledger.specs.Screen.{screened};
 
 use crate::accounts::{Accounts, is_account, post};
 use crate::scratch::Scratch;
-use crate::{ACCOUNTS, BATCH_LIMIT, Entry, EntryRefusal, Verdicts};
+use crate::{ACCOUNTS, ALL_ACCOUNTS, BATCH_LIMIT, Entry, EntryRefusal, TOTAL_LIMIT, Verdicts};
 use std::alloc::{AllocError, Global};
 use std::marker::Model;
 
@@ -47,6 +47,34 @@ impl Ledger {
     {
         self.balances.copy_from_slice(other.balances.as_slice());
         self.total = other.total;
+    }
+
+    /// The balances of all accounts, account 1 first.
+    pub fn balances(&self) -> [u64; ALL_ACCOUNTS]
+        ensures value { result ≡ self.now.balances }
+        ensures ledger { IsLedger self.now }
+    {
+        let mut balances = [0; ALL_ACCOUNTS];
+        balances.copy_from_slice(self.balances.as_slice());
+        balances
+    }
+
+    /// Takes over these balances, account 1 first, and takes no memory. Where they are over the limit together it answers
+    /// false, and the ledger stays as it is.
+    pub fn restore(&mut self, balances: &[u64; ALL_ACCOUNTS]) -> bool
+        ensures refused { (result ≡ false) ↔ (TOTAL_LIMIT < sum balances.now) }
+        ensures restored { result ≡ true → self.new ≡ record { balances = balances.now } }
+        ensures stays { result ≡ false → self.new ≡ self.old }
+        ensures ledger { IsLedger self.new }
+    {
+        // for the contract alone: what every ledger keeps
+        let _ = &self.total;
+        let Some(total) = sum_within_limit(balances) else {
+            return false;
+        };
+        self.balances.copy_from_slice(balances);
+        self.total = total;
+        true
     }
 
     /// What an account holds, or None where there is no account of this number.
@@ -91,6 +119,20 @@ impl Ledger {
         }
         verdicts
     }
+}
+
+// What they are together, or None where that is over the limit.
+fn sum_within_limit(balances: &[u64]) -> Option<u64>
+    ensures { SomeIff result (sum balances.now ≤ TOTAL_LIMIT) (sum balances.now) }
+{
+    let mut total: u64 = 0;
+    for balance in balances {
+        if *balance > TOTAL_LIMIT - total {
+            return None;
+        }
+        total += *balance;
+    }
+    Some(total)
 }
 
 impl Accounts for Ledger {

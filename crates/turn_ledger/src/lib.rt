@@ -27,6 +27,6 @@ pub use laws::{
     posting_gives_the_sums,
 };
 pub use ledger::Ledger;
-pub use limits::{ACCOUNTS, BATCH_LIMIT, ENTRY_BYTES, TOTAL_LIMIT};
+pub use limits::{ACCOUNTS, ALL_ACCOUNTS, BATCH_LIMIT, ENTRY_BYTES, TOTAL_LIMIT};
 pub use refusal::EntryRefusal;
 pub use verdicts::Verdicts;

@@ -3,6 +3,9 @@
 /// The number of accounts. They are numbered from 1.
 pub const ACCOUNTS: u32 = 64;
 
+/// As many, as the length of an array of all balances.
+pub const ALL_ACCOUNTS: usize = 64;
+
 /// The most that all accounts together may hold.
 pub const TOTAL_LIMIT: u64 = 1_000_000_000_000_000_000;
 

@@ -142,6 +142,40 @@ fn what_is_written_is_read_again(rt: HostRuntime) {
 }
 
 #[test]
+fn balances_are_restored_up_to_the_limit(rt: HostRuntime) -> Result<(), Fail> {
+    let mut ledger = Ledger::new(rt.alloc())?;
+    assert_eq!(rt; ledger.post(&deposit(3, 9)), Ok(()));
+    let mut before = [0; 64];
+    before[2] = 9;
+    assert_eq!(rt; ledger.balances(), before);
+
+    let mut too_much = [0; 64];
+    too_much[0] = 1_000_000_000_000_000_000;
+    too_much[1] = 1_000_000_000_000_000_000;
+    assert_eq!(rt; ledger.restore(&too_much), false);
+    assert_eq!(rt; ledger.balances(), before);
+    assert_eq!(rt; ledger.total(), 9);
+
+    let mut some = [0; 64];
+    some[0] = 5;
+    some[63] = 7;
+    assert_eq!(rt; ledger.restore(&some), true);
+    assert_eq!(rt; ledger.balances(), some);
+    assert_eq!(rt; ledger.balance(1), Some(5));
+    assert_eq!(rt; ledger.balance(3), Some(0));
+    assert_eq!(rt; ledger.balance(64), Some(7));
+    assert_eq!(rt; ledger.total(), 12);
+
+    let mut limit = [0; 64];
+    limit[0] = 999_999_999_999_999_999;
+    limit[1] = 1;
+    assert_eq!(rt; ledger.restore(&limit), true);
+    assert_eq!(rt; ledger.total(), 1_000_000_000_000_000_000);
+    assert_eq!(rt; ledger.post(&deposit(2, 1)), Err(EntryRefusal::OverLimit));
+    Ok(())
+}
+
+#[test]
 fn bytes_of_no_entry(rt: HostRuntime) {
     let table = [
         (0, 0, "no kind"),
