@@ -1,4 +1,5 @@
-//! What a device holds, as a ledger: the journal is opened, and its records are posted in order to an empty ledger.
+//! What a device holds, as a ledger: the journal is opened, and its records are posted in order to the balances of its
+//! snapshot.
 #![tactic(auto)]
 
 mod laws;

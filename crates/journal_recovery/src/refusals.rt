@@ -1,6 +1,7 @@
 ghost use Rattle.std.specs.Prelude.{◌≡◌};
 
 use gate_journal::{JournalCause, JournalRefusal};
+use sector_device::DeviceFault;
 use thiserror::Error;
 
 /// Why a device was not opened as a ledger. Want of memory is answered before any device call; of the others the first
@@ -15,25 +16,38 @@ pub enum OpenRefusal {
     Version(u16),
     #[error("the number of slots is wrong for the device")]
     Size,
-    #[error("slot {slot} is damaged: {cause}")]
+    #[error("damage at {slot}: {cause}")]
     Damaged { slot: u64, cause: Cause },
     #[error("the device failed")]
     Device,
 }
 
-/// What is wrong with a slot. Places are counted from 0.
+/// What is wrong with a slot, or, for `Bank`, with a bank, whose number then stands in the place of the slot's. Places are
+/// counted from 0.
 #[derive(Clone, Copy, Debug, PartialEq, Eq, Error)]
 pub enum Cause {
-    #[error("its body is no record")]
+    #[error("the slot's body is no record")]
     Header,
-    #[error("its record has another slot's sequence")]
+    #[error("the slot's record has another sequence")]
     Sequence,
-    #[error("it is open behind a closed slot")]
+    #[error("the slot is open behind a closed one")]
     Tail,
+    #[error("no bank is live, or the one of this number isn't sound")]
+    Bank,
     #[error("place {0} is no entry")]
     Entry(u8),
     #[error("the entry at place {0} breaks a rule of the ledger")]
     Verdict(u8),
+}
+
+impl From<DeviceFault> for OpenRefusal {
+    ghost use Rattle.journal_recovery.specs.declared.refusals.OpenRefusal.TheVariants.{Device};
+
+    ghost from_gives = { λ _ refusal. refusal ≡ Device };
+
+    fn from(_: DeviceFault) -> Self {
+        OpenRefusal::Device
+    }
 }
 
 impl From<JournalCause> for Cause {
@@ -46,6 +60,7 @@ impl From<JournalCause> for Cause {
             JournalCause::Header => Cause::Header,
             JournalCause::Sequence => Cause::Sequence,
             JournalCause::Tail => Cause::Tail,
+            JournalCause::Bank => Cause::Bank,
         }
     }
 }
