@@ -1,8 +1,11 @@
 mod Payload
 mod OneBatch
+mod Checkpointed
+mod Banks
 mod Prefixes
 mod AfterTurn
 mod AfterAnswer
 mod AfterOpening
 mod Standing
 mod Running
+mod Lives

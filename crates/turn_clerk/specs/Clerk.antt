@@ -1,11 +1,12 @@
 -- A clerk at one moment.
-use Rattle.std.specs.Prelude.{◌≡◌, ◌≤◌, ℕ, false, List, [], ◌∷◌, ◌++◌, length, take, Option, Some, None}
+use Rattle.std.specs.Prelude.{◌≡◌, ◌⊎◌, ◌≤◌, ℕ, false, List, [], ◌∷◌, ◌++◌, length, take, Option, Some, None}
 use Rattle.four_state.specs.Configuration.{Configuration}
 use Rattle.sector_device.specs.Image.{Image}
 use Rattle.sector_device.specs.Device.{DeviceState}
 use Rattle.sector_device.specs.Crash.{LeavesOnly}
 use Rattle.four_state.specs.Motion.{moved}
-use Rattle.gate_journal.specs.Journal.{JournalState, after_appends, after_fault}
+use Rattle.gate_journal.specs.Journal.{JournalState}
+use Rattle.gate_journal.specs.declared.layout.LiveBank.{LiveBank}
 use Rattle.turn_ledger.specs.declared.entry.Entry.{Entry}
 use Rattle.turn_ledger.specs.State.{LedgerState, IsLedger}
 use Rattle.turn_ledger.specs.Screen.{AreAccepted, posted_in_order}
@@ -14,6 +15,7 @@ use Rattle.journal_recovery.specs.State.{State, state_after}
 use Rattle.journal_recovery.specs.Recovery.{RecoversTo, HoldsState}
 use Rattle.sweep_auditor.specs.Run.{IsRun}
 use Rattle.turn_clerk.specs.declared.turns.Turn.{Turn}
+use Rattle.turn_clerk.specs.Room.{bank_for, after_batches, after_failed_batch}
 use Rattle.turn_clerk.specs.Turn.{accepted_of, as_batch}
 use Rattle.turn_clerk.specs.History.{moves_of, batches_of, line_after, state_after_turns, IsLegal}
 
@@ -53,15 +55,21 @@ pub record KeepsHistory {D : Type 0} (clerk : ClerkState D) : Type 0 where
 -- The clerk after a turn: its batch is journaled and posted, its move is made, and it is the last of the history.
 abbrev pub after_turn : {D : Type 0} → ClerkState D → D → Turn → ClerkState D
 after_turn old device turn = record old {
-  journal = after_appends old.journal device (length (as_batch (accepted_of turn)));
+  journal = after_batches old.journal device (length (as_batch (accepted_of turn)));
   ledger = posted_in_order old.ledger (accepted_of turn);
   line = moved old.line turn.station turn.rule;
   history = old.history ++ turn ∷ [];
 }
 
--- the clerk after a turn in which the device failed: these entries are in flight
-abbrev pub after_failed_turn : {D : Type 0} → ClerkState D → D → List Entry → ClerkState D
-after_failed_turn old device entries = record old { journal = after_fault old.journal device; in_flight = Some entries }
+-- the clerk after a turn in which the device failed, where that bank was live: these entries are in flight
+abbrev pub after_failed_turn : {D : Type 0} → ClerkState D → LiveBank → D → List Entry → ClerkState D
+after_failed_turn old live device entries = record old { journal = after_failed_batch old.journal live device; in_flight = Some entries }
+
+-- The device failed in a turn: these entries are in flight, the journal is faulted, on the bank that was live or on the
+-- one for them, and all else is as it was.
+pub record HasFailedTurn {D : Type 0} (old : ClerkState D) (entries : List Entry) (new : ClerkState D) : Type 0 where
+  pub live : (new.journal.live ≡ old.journal.live) ⊎ (new.journal.live ≡ bank_for old.journal.slots old.journal.live old.journal.next)
+  pub is : new ≡ after_failed_turn old new.journal.live new.journal.device entries
 
 -- The batches accepted since the opening, in order: those of the turns taken, and last that of the turn in flight.
 abbrev pub in_flight_batch : Option (List Entry) → List (List Entry)

@@ -1,4 +1,5 @@
 pub mod Turn
+pub mod Room
 pub mod History
 pub mod HistoryLaws
 pub mod Clerk
@@ -7,5 +8,6 @@ pub mod Reply
 pub mod Opened
 pub mod Answered
 pub mod Journaled
+pub mod Lives
 pub mod View
 pub mod Equality

@@ -4,12 +4,13 @@ use Rattle.std.specs.List.{flat_map, list_any}
 use Rattle.turn_ledger.specs.Screen.{accepted}
 use Rattle.turn_clerk.specs.declared.turns.Turn.{Turn}
 use Rattle.turn_clerk.specs.declared.refusals.TurnRefusal.{TurnRefusal}
-use Rattle.turn_clerk.specs.declared.refusals.TurnRefusal.TheVariants.{Faulted, NoStation, NotPrivileged, TooMany, Memory, Full, Device}
+use Rattle.turn_clerk.specs.declared.refusals.TurnRefusal.TheVariants.{Faulted, NoStation, NotPrivileged, TooMany, Memory, Exhausted, Device}
 use Rattle.turn_clerk.specs.declared.events.Event.{Event}
+use Rattle.turn_clerk.specs.Room.{live_after}
 use Rattle.turn_clerk.specs.Turn.{IsTurn}
-use Rattle.turn_clerk.specs.History.{line_after, state_after_turns}
+use Rattle.turn_clerk.specs.History.{batches_of, line_after, state_after_turns}
 use Rattle.turn_clerk.specs.Clerk.{ClerkState}
-use Rattle.turn_clerk.specs.Refused.{Standing, standing_of, ClerkRefuses}
+use Rattle.turn_clerk.specs.Refused.{Standing, StandsAs, standing_of, ClerkRefuses}
 
 -- the turn, or why it was not taken
 abbrev pub Reply : Type 0
@@ -31,7 +32,7 @@ is_device (Err NoStation) = false
 is_device (Err NotPrivileged) = false
 is_device (Err TooMany) = false
 is_device (Err Memory) = false
-is_device (Err Full) = false
+is_device (Err Exhausted) = false
 is_device (Err Device) = true
 
 -- A reply to an event: the turn of its station with its entries, or a refusal that holds.
@@ -40,13 +41,15 @@ IsReply standing event (Ok turn) =
     (standing.faulted ≡ false) × IsTurn standing.line standing.state turn × (turn.station ≡ event.station) × (turn.entries ≡ event.entries.items)
 IsReply standing event (Err refusal) = ClerkRefuses standing event.station event.entries.items refusal
 
--- How a clerk stands after replies: on the line and the state after their turns, and faulted where the device failed.
+-- How a clerk stands after replies: on the line, the state and the live bank after their turns, and faulted where the
+-- device failed.
 abbrev pub standing_after : Standing → List Reply → Standing
 standing_after standing replies = record {
   faulted = standing.faulted || list_any is_device replies;
   line = line_after standing.line (turns_in replies);
   state = state_after_turns standing.state (turns_in replies);
   slots = standing.slots;
+  live = live_after standing.slots standing.live standing.state.next (length (batches_of (turns_in replies)));
 }
 
 -- A reply for each event, in order, each from where the clerk then stood.
@@ -59,7 +62,7 @@ pub record HasRun {D : Type 0} (old : ClerkState D) (events : List Event) (repli
   pub replied : AreReplies (standing_of old) events replies
   -- the turns among the replies are those added to the history
   pub history : new.history ≡ old.history ++ turns_in replies
-  pub stands : standing_of new ≡ standing_after (standing_of old) replies
+  pub stands : StandsAs (standing_of new) (standing_after (standing_of old) replies)
   pub opening : new.opening ≡ old.opening
   -- where the device failed, the accepted entries of that event are in flight
   pub in_flight : (place : ℕ) (event : Event) → slice_get events place ≡ Some event → slice_get replies place ≡ Some (Err Device)

@@ -15,7 +15,7 @@ pub use clerk::Clerk;
 pub use events::{Event, Reply};
 pub use four_state::{Line, Rule};
 pub use journal_recovery::{Cause, OpenRefusal};
-pub use laws::lives_join;
+pub use laws::{lives_in_a_row, lives_join};
 pub use refusals::TurnRefusal;
 pub use sector_device::Device;
 pub use sweep_auditor::Move;
