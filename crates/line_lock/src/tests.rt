@@ -71,7 +71,7 @@ fn line<const N: usize>(rt: &impl Abort, x: [u8; N], up: [u8; N]) -> Line {
 }
 
 fn formatted(alloc: Global) -> Result<MemoryDevice, Fail> {
-    let mut device = MemoryDevice::new(alloc, 9)?;
+    let mut device = MemoryDevice::new(alloc, 23)?;
     format(&mut device, 4)?;
     Ok(device)
 }

@@ -92,7 +92,7 @@ fn what_is_left_is_reconciled_in_order(rt: HostRuntime) -> Result<(), Fail> {
 #[test]
 fn a_turn_answers_what_was_gathered(rt: HostRuntime) -> Result<(), Fail> {
     let alloc = rt.alloc();
-    let mut device = MemoryDevice::new(alloc, 9)?;
+    let mut device = MemoryDevice::new(alloc, 23)?;
     format(&mut device, 4)?;
     let line = Line::from_bits(2, &[false, false], &[true, false]).expect(&rt, "a line");
     let Ok(mut clerk) = Clerk::open(alloc, device, line) else {

@@ -19,7 +19,7 @@ pub fn torn_open() -> Sector {
 
 // An empty journal of 4 slots.
 pub fn formatted(alloc: Global) -> Result<MemoryDevice, Fail> {
-    let mut device = MemoryDevice::new(alloc, 9)?;
+    let mut device = MemoryDevice::new(alloc, 23)?;
     format(&mut device, 4)?;
     Ok(device)
 }

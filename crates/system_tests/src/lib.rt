@@ -2,6 +2,8 @@
 #![tactic(auto)]
 
 #[cfg(test)]
+mod banks;
+#[cfg(test)]
 mod devices;
 #[cfg(test)]
 mod example;
@@ -15,6 +17,8 @@ mod lines;
 mod lives;
 #[cfg(test)]
 mod power_losses;
+#[cfg(test)]
+mod reads;
 #[cfg(test)]
 mod refusals;
 #[cfg(test)]

@@ -21,7 +21,7 @@ fn deposit(to: u32, amount: u64) -> Entry {
 // Two stations, the bottom one privileged, over a new journal of so many slots.
 fn two_stations(rt: &impl Abort, alloc: Global, slots: u64) -> Result<Clerk<MemoryDevice>, Fail> {
     assert!(rt; 0 < slots && slots < 1000);
-    let mut device = MemoryDevice::new(alloc, 2 * slots + 1)?;
+    let mut device = MemoryDevice::new(alloc, 7 + 4 * slots)?;
     format(&mut device, slots)?;
     let line = Line::from_bits(2, &[false; 2], &[true, false]).expect(rt, "a line");
     match Clerk::open(alloc, device, line) {
@@ -93,11 +93,11 @@ fn a_turn_takes_15_accepted_entries(rt: HostRuntime) -> Result<(), Fail> {
     Ok(())
 }
 
-// A device of so many sectors, of which all but the first three are zero. It can't be written.
+// A device of so many sectors, of which all but the first six are zero. It can't be written.
 #[derive(Drop)]
 struct Sparse {
     sectors: u64,
-    front: [Sector; 3],
+    front: [Sector; 6],
     failures: u64,
 }
 
@@ -109,7 +109,7 @@ impl Device for Sparse {
     }
 
     fn read(&mut self, at: u64, into: &mut Sector) -> Result<(), DeviceFault> {
-        *into = if at < 3 {
+        *into = if at < 6 {
             self.front[at as usize]
         } else {
             [0; SECTOR]
@@ -129,23 +129,25 @@ impl Device for Sparse {
     ghost sound = { λ s honest. absurd honest };
 }
 
-// A journal of 1,000,000 slots with one record, and behind it as many sectors again that are not used.
+// A journal with 1,000,000 slots in each bank and one record, and behind it as many sectors again that are not used.
 fn a_million_slots() -> Sparse {
-    let mut front = [[0; SECTOR]; 3];
-    front[0][..6].copy_from_slice(&[0x54, 0x4c, 0x44, 0x47, 0, 1]);
+    let mut front = [[0; SECTOR]; 6];
+    front[0][..6].copy_from_slice(&[0x54, 0x4c, 0x44, 0x47, 0, 2]);
     front[0][8..16].copy_from_slice(&1_000_000u64.to_be_bytes());
-    front[1][..8].copy_from_slice(&[0x54, 0x4c, 0x42, 0x31, 0, 0, 0, 1]);
-    front[1][32..64].copy_from_slice(&deposit(1, 500).write());
-    front[2][0] = 0xa5;
+    front[1][0] = 0xa5;
+    front[2][..4].copy_from_slice(&[0x54, 0x4c, 0x42, 0x4b]);
+    front[4][..8].copy_from_slice(&[0x54, 0x4c, 0x42, 0x31, 0, 0, 0, 1]);
+    front[4][32..64].copy_from_slice(&deposit(1, 500).write());
+    front[5][0] = 0xa5;
     Sparse {
-        sectors: 4_000_000,
+        sectors: 8_000_000,
         front,
         failures: 0,
     }
 }
 
 #[test]
-fn a_device_of_4_000_000_sectors_is_recovered(rt: HostRuntime) -> Result<(), Fail> {
+fn a_device_of_8_000_000_sectors_is_recovered(rt: HostRuntime) -> Result<(), Fail> {
     match recover(rt.alloc(), a_million_slots()) {
         Ok(found) => {
             assert_eq!(rt; found.ledger.balance(1), Some(500));

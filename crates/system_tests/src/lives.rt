@@ -75,7 +75,7 @@ fn lose_power(
     left: Sector,
 ) -> Result<MemoryDevice, Fail> {
     assert!(rt; records < 6);
-    let body = 1 + 2 * records;
+    let body = 4 + 2 * records;
     let picks = picks_of(alloc, &[(body, left), (body + 1, left)])?;
     Ok(device.crash(&picks))
 }
@@ -115,7 +115,7 @@ fn live(
 
 // All lives of one device, with these losses.
 fn live_three_times(rt: &impl Abort, alloc: Global, losses: [Loss; 3]) -> Result<(), Fail> {
-    let mut device = MemoryDevice::new(alloc, 13)?;
+    let mut device = MemoryDevice::new(alloc, 31)?;
     format(&mut device, 6)?;
     let mut expected = Expected {
         balance: 0,

@@ -60,7 +60,7 @@ fn a_gate_that_was_not_synced_may_be_there_or_not(rt: HostRuntime) -> Result<(),
     for (gate, expected) in [(torn_open(), (Some(500), 1)), (ZERO, (Some(0), 0))] {
         let (answer, device) = append_on(&rt, Fuse::new(formatted(alloc)?, Op::Sync, 2));
         assert_eq!(rt; answer, Some(Err(AppendRefusal::Device)));
-        let device = device.crash(&picks_of(alloc, &[(2, gate)])?);
+        let device = device.crash(&picks_of(alloc, &[(5, gate)])?);
         assert_eq!(rt; recovered(&rt, alloc, device), expected);
     }
     Ok(())
@@ -71,7 +71,7 @@ fn an_acknowledged_record_is_out_of_reach_of_a_power_loss(rt: HostRuntime) -> Re
     let alloc = rt.alloc();
     let (answer, device) = append_on(&rt, Fuse::new(formatted(alloc)?, Op::Any, 1000));
     assert_eq!(rt; answer, Some(Ok(0)));
-    let device = device.crash(&picks_of(alloc, &[(1, ZERO), (2, ZERO), (0, TORN)])?);
+    let device = device.crash(&picks_of(alloc, &[(4, ZERO), (5, ZERO), (0, TORN)])?);
     assert_eq!(rt; recovered(&rt, alloc, device), (Some(500), 1));
     Ok(())
 }
@@ -88,7 +88,7 @@ fn whichever_call_fails_the_record_is_there_whole_or_not_at_all(
         for body in [ZERO, torn_open(), TORN] {
             for gate in [ZERO, torn_open(), TORN] {
                 let (answer, device) = append_on(&rt, Fuse::new(formatted(alloc)?, Op::Any, at));
-                let device = device.crash(&picks_of(alloc, &[(1, body), (2, gate)])?);
+                let device = device.crash(&picks_of(alloc, &[(4, body), (5, gate)])?);
                 let found = recovered(&rt, alloc, device);
                 if let Some(Ok(sequence)) = answer {
                     acknowledged = acknowledged.saturating_add(1);
@@ -100,8 +100,8 @@ fn whichever_call_fails_the_record_is_there_whole_or_not_at_all(
             }
         }
     }
-    // An opening of 4 closed slots makes 6 calls and an append 4, so from call 10 on nothing fails.
-    assert_eq!(rt; acknowledged, 90);
+    // An opening of a bank with 4 closed slots makes 9 calls and an append 4, so from call 13 on nothing fails.
+    assert_eq!(rt; acknowledged, 63);
     Ok(())
 }
 
@@ -122,7 +122,7 @@ fn whichever_call_of_recovery_fails_the_device_comes_back_unchanged(
             }
         }
     }
-    // A sync, the superblock, 4 gates, a body, and the record once more.
-    assert_eq!(rt; failed, 8);
+    // A sync, the superblock, the banks' gates, a head, 4 gates and a body, the snapshot, and the record once more.
+    assert_eq!(rt; failed, 12);
     Ok(())
 }

@@ -1,7 +1,9 @@
 //! The text of every refusal.
 use file_device::FileRefusal;
 use four_state::LineRefusal;
-use gate_journal::{AppendRefusal, FormatRefusal, JournalCause, JournalRefusal, ReadRefusal};
+use gate_journal::{
+    AppendRefusal, CheckpointRefusal, FormatRefusal, JournalCause, JournalRefusal, ReadRefusal,
+};
 use journal_recovery::{Cause, OpenRefusal};
 use office_day::{CloseRefusal, DayRefusal};
 use std::alloc::Global;
@@ -32,15 +34,19 @@ fn refusals_of_a_journal_have_texts(rt: HostRuntime) -> Result<(), Fail> {
             (Size, "the number of slots is wrong for the device"),
             (
                 damaged(JournalCause::Header),
-                "slot 3 is damaged: its body is no record",
+                "damage at 3: the slot's body is no record",
             ),
             (
                 damaged(JournalCause::Sequence),
-                "slot 3 is damaged: its record has another slot's sequence",
+                "damage at 3: the slot's record has another sequence",
             ),
             (
                 damaged(JournalCause::Tail),
-                "slot 3 is damaged: it is open behind a closed slot",
+                "damage at 3: the slot is open behind a closed one",
+            ),
+            (
+                damaged(JournalCause::Bank),
+                "damage at 3: no bank is live, or the one of this number isn't sound",
             ),
             (Device, "the device failed"),
         ],
@@ -69,8 +75,24 @@ fn refusals_of_formatting_appending_and_reading_have_texts(rt: HostRuntime) -> R
                 AppendRefusal::Faulted,
                 "the journal has met a device fault and must be opened again",
             ),
+            (
+                AppendRefusal::Exhausted,
+                "there are no more sequence numbers",
+            ),
             (AppendRefusal::Full, "no slot is free"),
             (AppendRefusal::Device, "the device failed"),
+        ],
+    )?;
+    read_as(
+        &rt,
+        rt.alloc(),
+        &[
+            (
+                CheckpointRefusal::Faulted,
+                "the journal has met a device fault and must be opened again",
+            ),
+            (CheckpointRefusal::Exhausted, "there are no more epochs"),
+            (CheckpointRefusal::Device, "the device failed"),
         ],
     )?;
     read_as(
@@ -97,23 +119,27 @@ fn refusals_of_recovery_have_texts(rt: HostRuntime) -> Result<(), Fail> {
             (Size, "the number of slots is wrong for the device"),
             (
                 damaged(Cause::Header),
-                "slot 3 is damaged: its body is no record",
+                "damage at 3: the slot's body is no record",
             ),
             (
                 damaged(Cause::Sequence),
-                "slot 3 is damaged: its record has another slot's sequence",
+                "damage at 3: the slot's record has another sequence",
             ),
             (
                 damaged(Cause::Tail),
-                "slot 3 is damaged: it is open behind a closed slot",
+                "damage at 3: the slot is open behind a closed one",
+            ),
+            (
+                damaged(Cause::Bank),
+                "damage at 3: no bank is live, or the one of this number isn't sound",
             ),
             (
                 damaged(Cause::Entry(14)),
-                "slot 3 is damaged: place 14 is no entry",
+                "damage at 3: place 14 is no entry",
             ),
             (
                 damaged(Cause::Verdict(0)),
-                "slot 3 is damaged: the entry at place 0 breaks a rule of the ledger",
+                "damage at 3: the entry at place 0 breaks a rule of the ledger",
             ),
             (Device, "the device failed"),
         ],
@@ -134,7 +160,10 @@ fn refusals_of_turns_and_entries_have_texts(rt: HostRuntime) -> Result<(), Fail>
             (TurnRefusal::NotPrivileged, "it is not the station's turn"),
             (TurnRefusal::TooMany, "more entries than a batch holds"),
             (TurnRefusal::Memory, "out of memory"),
-            (TurnRefusal::Full, "no slot is free"),
+            (
+                TurnRefusal::Exhausted,
+                "there are no more sequence numbers or epochs",
+            ),
             (TurnRefusal::Device, "the device failed"),
         ],
     )?;

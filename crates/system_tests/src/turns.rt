@@ -72,7 +72,7 @@ fn a_turn_whose_gate_was_not_synced_stands_or_not(rt: HostRuntime) -> Result<(),
         let (answer, device) = deposited(&rt, alloc, Op::Sync, 2)?;
         assert_eq!(rt; answer, Err(TurnRefusal::Device));
         assert_eq!(rt;
-            recovered(&rt, alloc, device.crash(&picks_of(alloc, &[(2, gate)])?)),
+            recovered(&rt, alloc, device.crash(&picks_of(alloc, &[(5, gate)])?)),
             expected
         );
     }
@@ -84,7 +84,7 @@ fn an_acknowledged_turn_is_out_of_reach_of_a_power_loss(rt: HostRuntime) -> Resu
     let alloc = rt.alloc();
     let (answer, device) = deposited(&rt, alloc, Op::Any, 1000)?;
     assert_eq!(rt; answer?.posted, Some(0));
-    let picks = [(1, ZERO), (2, ZERO), (0, TORN)];
+    let picks = [(4, ZERO), (5, ZERO), (0, TORN)];
     assert_eq!(rt;
         recovered(&rt, alloc, device.crash(&picks_of(alloc, &picks)?)),
         (Some(500), 1)
@@ -114,7 +114,7 @@ fn whichever_call_fails_a_run_leaves_a_prefix_with_all_that_was_acknowledged(
     let balances = [0, 1, 3, 7, 15];
     let events = four_deposits(alloc)?;
     let mut complete = 0u32;
-    for at in 0..24 {
+    for at in 0..28 {
         for torn in [ZERO, torn_open(), TORN] {
             let fuse = Fuse::new(formatted(alloc)?, Op::Any, at);
             let Some(mut clerk) = opened(&rt, alloc, fuse) else {
@@ -125,7 +125,7 @@ fn whichever_call_fails_a_run_leaves_a_prefix_with_all_that_was_acknowledged(
             let acknowledged = replies.iter().filter(|reply| reply.is_ok()).count();
             assert_eq!(rt; clerk.history().len(), acknowledged);
             let slot = clerk.next().min(3);
-            let picks = [(1 + 2 * slot, torn), (2 + 2 * slot, torn)];
+            let picks = [(4 + 2 * slot, torn), (5 + 2 * slot, torn)];
             let device = clerk.into_device().into_inner();
             let (balance, next) = recovered(&rt, alloc, device.crash(&picks_of(alloc, &picks)?));
             assert!(rt; acknowledged as u64 <= next && next <= 4);
@@ -135,7 +135,7 @@ fn whichever_call_fails_a_run_leaves_a_prefix_with_all_that_was_acknowledged(
             }
         }
     }
-    // An opening of 4 closed slots makes 6 calls and each turn 4, so from call 22 on nothing fails.
+    // An opening of a bank with 4 closed slots makes 10 calls and each turn 4, so from call 26 on nothing fails.
     assert_eq!(rt; complete, 6);
     Ok(())
 }

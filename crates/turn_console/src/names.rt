@@ -48,7 +48,7 @@ pub fn name_of_turn(refusal: TurnRefusal) -> &'static str {
         TurnRefusal::NotPrivileged => "NotPrivileged",
         TurnRefusal::TooMany => "TooMany",
         TurnRefusal::Memory => "Memory",
-        TurnRefusal::Full => "Full",
+        TurnRefusal::Exhausted => "Exhausted",
         TurnRefusal::Device => "Device",
     }
 }
@@ -89,6 +89,7 @@ fn write_cause<W: fmt::Write>(cause: Cause, f: &mut fmt::Formatter<W>) -> fmt::R
         Cause::Header => f.write_str("Header"),
         Cause::Sequence => f.write_str("Sequence"),
         Cause::Tail => f.write_str("Tail"),
+        Cause::Bank => f.write_str("Bank"),
         Cause::Entry(place) => write!(f, "Entry {place}"),
         Cause::Verdict(place) => write!(f, "Verdict {place}"),
     }

@@ -95,8 +95,8 @@ fn refusals_come_in_their_order(rt: HostRuntime) -> Result<(), Fail> {
         ("bits\nbalances", "refused NoOffice\nrefused NoOffice\n"),
         ("crash", "crashed\n"),
         ("format 1000001", "refused TooManySlots\n"),
-        ("format 32", "refused TooSmall\n"),
-        ("format 31", "formatted 31\n"),
+        ("format 15", "refused TooSmall\n"),
+        ("format 14", "formatted 14\n"),
         ("open 1 0 1", "refused Stations\n"),
         ("open 65 0 1", "refused Stations\n"),
         ("open 3 00 100", "refused Length\n"),
@@ -145,12 +145,12 @@ fn refusals_come_in_their_order(rt: HostRuntime) -> Result<(), Fail> {
 }
 
 #[test]
-fn a_full_journal_and_what_is_held(rt: HostRuntime) -> Result<(), Fail> {
+fn a_full_bank_makes_a_checkpoint(rt: HostRuntime) -> Result<(), Fail> {
     prints(
         &rt,
         rt.alloc(),
-        "format 1\nopen 2 00 10\npost 0 deposit 1 5\nturn 0\npost 1 deposit 1 5\nturn 1\nbits\ncrash\nopen 2 01 10\npost 1 withdraw 1 9\nturn 1\nbits\n",
-        "formatted 1\nopened 2 next 0 total 0\nheld 0 1\nturn 0 station 0 Bottom posted 0\nentry 0 ok\nheld 1 1\nrefused Full\nbits 10/10 privileges 1\ncrashed\nopened 2 next 1 total 5\nheld 1 1\nturn 0 station 1 Top empty\nentry 0 Short\nbits 00/10 privileges 1\n",
+        "format 1\nopen 2 00 10\npost 0 deposit 1 5\nturn 0\npost 1 deposit 1 5\nturn 1\nbalances\ncrash\nopen 2 00 10\nbalances\n",
+        "formatted 1\nopened 2 next 0 total 0\nheld 0 1\nturn 0 station 0 Bottom posted 0\nentry 0 ok\nheld 1 1\nturn 1 station 1 Top posted 1\nentry 0 ok\naccount 1 10\ntotal 10\ncrashed\nopened 2 next 2 total 10\naccount 1 10\ntotal 10\n",
     )
 }
 
@@ -302,13 +302,13 @@ fn the_program_tells_how_it_ended(rt: HostRuntime) -> Result<(), Fail> {
         (&["console"], "open 2 0x 10", 1, "", "line 1: bad bits\n"),
         (
             &["console"],
-            "format 31\nformat 32",
+            "format 14\nformat 15",
             0,
-            "formatted 31\nrefused TooSmall\n",
+            "formatted 14\nrefused TooSmall\n",
             "",
         ),
         (
-            &["console", "--sectors", "9"],
+            &["console", "--sectors", "23"],
             "format 4\nformat 5",
             0,
             "formatted 4\nrefused TooSmall\n",

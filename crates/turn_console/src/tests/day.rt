@@ -52,14 +52,14 @@ fn turns_go_on_from_a_day(rt: HostRuntime) -> Result<(), Fail> {
     )
 }
 
-// What a full journal refuses stays held; the other station is stopped.
+// Each station's deposit takes a bank of one slot.
 #[test]
-fn a_day_that_fills_the_journal(rt: HostRuntime) -> Result<(), Fail> {
+fn a_day_on_banks_of_one_slot(rt: HostRuntime) -> Result<(), Fail> {
     prints(
         &rt,
         rt.alloc(),
         "format 1\nopen 2 00 10\npost 0 deposit 1 5\npost 1 deposit 1 7\nday 4\npost 0 deposit 1 1\npost 1 deposit 1 1\nbalances\n",
-        "formatted 1\nopened 2 next 0 total 0\nheld 0 1\nheld 1 1\nturn 0 station 0 Bottom posted 0\nentry 0 ok\nday 1 legitimate at 0\nstation 0 Stopped\nstation 1 Full\nanswer 0 0 posted 0\nheld 0 1\nheld 1 2\naccount 1 5\ntotal 5\n",
+        "formatted 1\nopened 2 next 0 total 0\nheld 0 1\nheld 1 1\nturn 0 station 0 Bottom posted 0\nentry 0 ok\nturn 1 station 1 Top posted 1\nentry 0 ok\nturn 2 station 0 Bottom empty\nturn 3 station 1 Top empty\nday 4 legitimate at 0\nstation 0 Reached\nstation 1 Reached\nanswer 0 0 posted 0\nanswer 1 0 posted 1\nheld 0 1\nheld 1 1\naccount 1 12\ntotal 12\n",
     )
 }
 

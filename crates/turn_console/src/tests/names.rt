@@ -49,6 +49,7 @@ fn every_refusal_has_its_name(rt: HostRuntime) -> Result<(), Fail> {
             "Damaged 7 Sequence",
         ),
         (Refusal::Open(damaged(Cause::Tail)), "Damaged 7 Tail"),
+        (Refusal::Open(damaged(Cause::Bank)), "Damaged 7 Bank"),
         (Refusal::Open(damaged(Cause::Entry(2))), "Damaged 7 Entry 2"),
         (
             Refusal::Open(damaged(Cause::Verdict(3))),
@@ -60,7 +61,7 @@ fn every_refusal_has_its_name(rt: HostRuntime) -> Result<(), Fail> {
         (Refusal::Turn(TurnRefusal::NotPrivileged), "NotPrivileged"),
         (Refusal::Turn(TurnRefusal::TooMany), "TooMany"),
         (Refusal::Turn(TurnRefusal::Memory), "Memory"),
-        (Refusal::Turn(TurnRefusal::Full), "Full"),
+        (Refusal::Turn(TurnRefusal::Exhausted), "Exhausted"),
         (Refusal::Turn(TurnRefusal::Device), "Device"),
         (Refusal::Close(CloseRefusal::SeatMissing), "SeatMissing"),
         (Refusal::Close(CloseRefusal::ForeignSeat), "ForeignSeat"),
@@ -101,7 +102,7 @@ fn every_end_has_its_name(rt: HostRuntime) {
         (End::Reached, "Reached"),
         (End::Stopped, "Stopped"),
         (End::Tries, "Tries"),
-        (End::Refused(TurnRefusal::Full), "Full"),
+        (End::Refused(TurnRefusal::Exhausted), "Exhausted"),
         (End::Refused(TurnRefusal::Device), "Device"),
     ];
     for (end, wanted) in ends {
