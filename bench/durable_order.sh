@@ -4,7 +4,9 @@
 # First the opening: which calls open, lock, grow and sync a new file, and the same file again, in which order; with the
 # standard streams closed; and where the disk is full. Then turns: each turn with an accepted entry makes exactly these
 # calls on the file, before its lines are printed: a write of the body's sector, fdatasync, a write of the gate's sector,
-# fdatasync. Neighbouring calls of one turn are swapped, and each such trace is refused.
+# fdatasync. On banks of 3 slots each third such turn makes those of a checkpoint before: a read of the other bank's gate,
+# where it is open a write of it closed and fdatasync, writes of the head, the snapshot and the slots' gates, fdatasync, a
+# write of the bank's gate, fdatasync. Neighbouring calls of one turn are swapped, and each such trace is refused.
 set -euo pipefail
 cd "$(dirname "$0")/.."
 work=$(mktemp -d "${BENCH_FOLDER:-/var/tmp}/durable_order.XXXXXX")
@@ -13,7 +15,7 @@ trap 'rm -rf "$work"' EXIT
 (cd crates/turn_console && rt run < stdin > "$work/build.log" 2>&1) || { tail "$work/build.log"; exit 1; }
 program=crates/turn_console/out/turn_console
 turns=200
-sectors=$((2 * turns + 1))
+sectors=$((4 * turns + 7))
 writing=write,writev,pwrite64,pwritev,pwritev2,ftruncate,fallocate,copy_file_range,sendfile,splice
 syncing=fsync,fdatasync,sync_file_range,msync,sync,syncfs
 opening=open,openat,openat2,creat,close,flock,fcntl,read,readv,pread64,preadv,$writing,$syncing
@@ -42,8 +44,11 @@ open_ledger "$work/again" < "$work/empty"
 python3 bench/durable_order/opening.py "$work/ledger" $((512 * sectors)) \
     "$work/new" "$work/again" "$work/closed" "$work/full"
 
-echo "format $turns" | "$program" --device "$work/ledger" > /dev/null
 python3 bench/durable_order/script.py "$turns" > "$work/script"
-strace -f -y -xx -s 131072 -o "$work/trace" -e trace="$writing,$syncing" \
-    "$program" --device "$work/ledger" < "$work/script" > "$work/answers"
-python3 bench/durable_order/check.py "$work/trace" ledger "$turns"
+for slots in "$turns" 3; do
+    echo "format $slots" | "$program" --device "$work/ledger" > /dev/null
+    strace -f -y -xx -s 131072 -o "$work/trace" -e trace="pread64,$writing,$syncing" \
+        "$program" --device "$work/ledger" < "$work/script" > "$work/answers"
+    echo "banks of $slots slots:"
+    python3 bench/durable_order/check.py "$work/trace" ledger "$turns" "$slots"
+done

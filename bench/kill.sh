@@ -1,6 +1,7 @@
 #!/usr/bin/env bash
-# Ends the console by kill -9 at random moments of a long script on a file, and opens the file again each time: all
-# turns that were printed in full are there, none that wasn't sent is, and the balances are those of whole batches.
+# Ends the console by kill -9 at random moments of a long script on a file, with a checkpoint in each eighth turn, and
+# opens the file again each time: all turns that were printed in full are there, none that wasn't sent is, and the
+# balances are those of whole batches.
 # Words: how many rounds, 50 without, and the seed of the random moments, 1 without.
 set -euo pipefail
 cd "$(dirname "$0")/.."

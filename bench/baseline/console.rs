@@ -1,6 +1,8 @@
 //! The console in plain Rust, standard library alone, as a Rust programmer would write it: the same command line,
 //! scripts, layout on the device, order of device calls, and printed lines.
 
+#[path = "console/banks.rs"]
+mod banks;
 #[path = "console/device.rs"]
 mod device;
 #[path = "console/engine.rs"]

@@ -3,6 +3,8 @@
 //! and how many turns are taken.
 #![allow(dead_code)]
 
+#[path = "console/banks.rs"]
+mod banks;
 #[path = "office/clerk.rs"]
 mod clerk;
 #[path = "day/desk.rs"]
@@ -24,6 +26,7 @@ mod seats;
 #[path = "day/stations.rs"]
 mod stations;
 
+use banks::sectors_needed;
 use clerk::Clerk;
 use desk::{desk, Feed, Outcome};
 use device::{Device, MemoryDevice};
@@ -124,7 +127,7 @@ fn risen(stations: Vec<Station>) -> Vec<Seat> {
 
 fn timed(load: Load) {
     let slots = if load.places == 0 { 1 } else { load.turns + 1 };
-    let mut device = MemoryDevice::new(2 * slots + 1);
+    let mut device = MemoryDevice::new(sectors_needed(slots));
     format(&mut device, slots).expect("room for the slots");
     let low = vec![false; load.stations];
     let line = Line::new(load.stations as u64, &low, &low).expect("a line");

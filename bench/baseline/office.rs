@@ -2,6 +2,8 @@
 //! Words: how many threads, how many entries a turn has, and how many sweeps of four turns are taken.
 #![allow(dead_code)]
 
+#[path = "console/banks.rs"]
+mod banks;
 #[path = "office/clerk.rs"]
 mod clerk;
 #[path = "console/device.rs"]
@@ -17,6 +19,7 @@ mod line;
 #[path = "office/seats.rs"]
 mod seats;
 
+use banks::sectors_needed;
 use clerk::{Clerk, TurnRefusal};
 use device::{Device, MemoryDevice};
 use entry::Entry;
@@ -116,7 +119,7 @@ fn mixed<D: Device>(clerk: &Clerk<D>) -> u64 {
 
 fn timed(threads: u32, load: Load) {
     let slots = 4 * u64::from(load.sweeps) + 1;
-    let mut device = MemoryDevice::new(2 * slots + 1);
+    let mut device = MemoryDevice::new(sectors_needed(slots));
     format(&mut device, slots).expect("room for the slots");
     let line = Line::new(3, &[false; 3], &[true, false, false]).expect("a line of three");
     let Ok(clerk) = Clerk::open(device, line) else {

@@ -9,7 +9,7 @@ DATA = re.compile(r'"(?P<data>[^"]*)"')
 
 @dataclasses.dataclass
 class Call:
-    """A call on a file: which, its number and path, the bytes and the place of a write, and what it gave."""
+    """A call on a file: which, its number and path, the bytes and the place of a write or a read, and what it gave."""
 
     name: str
     number: int
@@ -19,10 +19,10 @@ class Call:
     result: int
 
     def text(self):
-        """The call on one line, of a sector the first bytes alone."""
+        """The call on one line, of sectors the first bytes alone."""
         words = [str(self.number)]
         if self.data:
-            data = self.data[:4] if self.name == "pwrite64" else self.data
+            data = self.data[:4] if self.name in ("pwrite64", "pread64") else self.data
             words.append('"' + data.decode("latin-1").encode("unicode_escape").decode() + '"')
         return f"{self.name}({', '.join(words + [str(number) for number in self.numbers])}) = {self.result}"
 

@@ -1,4 +1,5 @@
 """The order that calls have to have: a turn is durable before it is printed."""
+import dataclasses
 import re
 
 SECTOR = 512
@@ -15,24 +16,58 @@ def require(holds, told):
         raise Disorder(told)
 
 
-def is_write(call, sector, begin):
-    """Whether the call writes this whole sector, with bytes that begin so."""
-    whole = [SECTOR, SECTOR * sector]
-    return call.name == "pwrite64" and call.numbers == whole and call.result == SECTOR and call.data.startswith(begin)
+@dataclasses.dataclass
+class Step:
+    """A call that has to be made, and of a write or a read its sector and how the bytes there begin."""
+
+    name: str
+    sector: int = None
+    begin: bytes = b""
+
+    def is_made_by(self, call):
+        if call.name != self.name:
+            return False
+        if self.name == "fdatasync":
+            return call.result == 0
+        length, place = call.numbers
+        at = SECTOR * self.sector - place
+        is_whole = at == 0 and length == SECTOR if self.name == "pwrite64" else 0 <= at < length
+        return is_whole and call.result == length and call.data[at:].startswith(self.begin)
 
 
-def is_sync(call):
-    return call.name == "fdatasync" and call.result == 0
+OPEN = b"\xa5" + bytes(SECTOR - 1)
+CLOSED = bytes(SECTOR)
+SYNC = Step("fdatasync")
 
 
-def require_durable(calls, slot):
-    """That these are the four calls that make the record of a slot durable."""
-    names = ", ".join(call.name for call in calls)
-    require(names == "pwrite64, fdatasync, pwrite64, fdatasync", f"slot {slot} has {names}")
-    require(is_write(calls[0], 1 + 2 * slot, b"TLB1"), f"slot {slot} has {calls[0].text()}")
-    require(is_sync(calls[1]), f"slot {slot} has {calls[1].text()}")
-    require(is_write(calls[2], 2 + 2 * slot, b"\xa5"), f"slot {slot} has {calls[2].text()}")
-    require(is_sync(calls[3]), f"slot {slot} has {calls[3].text()}")
+def checkpoint(front, slots, epoch, base):
+    """The calls that make live the bank that begins in this sector. Its gate is open where it was live before."""
+    yield Step("pread64", front, OPEN if epoch > 1 else CLOSED)
+    if epoch > 1:
+        yield from (Step("pwrite64", front, CLOSED), SYNC)
+    yield Step("pwrite64", front + 1, b"TLBK" + bytes(4) + epoch.to_bytes(8) + base.to_bytes(8))
+    yield Step("pwrite64", front + 2)
+    for slot in range(slots):
+        yield Step("pwrite64", front + 4 + 2 * slot, CLOSED)
+    yield from (SYNC, Step("pwrite64", front, OPEN), SYNC)
+
+
+def steps(slots, sequence):
+    """The calls that make the record of this sequence durable, where each bank has so many slots."""
+    epoch, slot = divmod(sequence, slots)
+    front = 1 + epoch % 2 * (3 + 2 * slots)
+    if epoch > 0 and slot == 0:
+        yield from checkpoint(front, slots, epoch, sequence)
+    body = front + 3 + 2 * slot
+    yield from (Step("pwrite64", body, b"TLB1"), SYNC, Step("pwrite64", body + 1, OPEN), SYNC)
+
+
+def require_durable(calls, slots, sequence):
+    """That these are the calls that make a record durable."""
+    wanted = list(steps(slots, sequence))
+    for number, (call, step) in enumerate(zip(calls, wanted)):
+        require(step.is_made_by(call), f"record {sequence} has {call.text()} as call {number}")
+    require(len(calls) == len(wanted), f"record {sequence} has {len(calls)} calls, and not {len(wanted)}")
 
 
 def parts(calls, ledger):
@@ -48,18 +83,18 @@ def parts(calls, ledger):
     require(not since, "calls on the ledger behind the last answer")
 
 
-def turns_in_order(calls, ledger):
+def turns_in_order(calls, ledger, slots):
     """The calls of each turn with an accepted entry, the printing last, and how many turns had none."""
     posted, empty = [], 0
     for place, (since, printed) in enumerate(parts(calls, ledger)):
-        slots = [int(slot) for slot in POSTED.findall(printed.data)]
+        sequences = [int(sequence) for sequence in POSTED.findall(printed.data)]
         require(len(TAKEN.findall(printed.data)) <= 1, f"several turns in one answer: {printed.text()}")
-        if slots:
-            require_durable(since, slots[0])
-            require(slots[0] == len(posted), f"slot {slots[0]} is printed as turn {len(posted)}")
+        if sequences:
+            require_durable(since, slots, sequences[0])
+            require(sequences[0] == len(posted), f"record {sequences[0]} is printed as turn {len(posted)}")
             posted.append([*since, printed])
         elif place == 0:
-            require(all(call.name in ("fsync", "fdatasync") for call in since), "the opening writes")
+            require(all(call.name in ("fsync", "fdatasync", "pread64") for call in since), "the opening writes")
         else:
             require(not since, f"calls on the ledger without an accepted entry: {printed.text()}")
             empty += 1

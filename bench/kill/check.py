@@ -14,6 +14,9 @@ from rounds import Mismatch, Outside, acknowledged, killed, long_script, require
 
 TURNS = 400
 
+# So few slots in each bank that the console makes a checkpoint in each eighth turn.
+SLOTS = 8
+
 
 def run(program, path, script, *words):
     """What the program prints for a script on the file."""
@@ -41,7 +44,7 @@ def one_round(program, path, first, moments):
     require(answered <= found <= TURNS, f"{answered} turns acknowledged, {found} recovered, of {TURNS}")
     if found > answered:
         return answered, found, "all"
-    return answered, found, "the body alone" if file.has_body(path, first + found) else "nothing"
+    return answered, found, file.under_way(path, first + found)
 
 
 def all_rounds(program, path, count, moments):
@@ -62,9 +65,11 @@ def all_rounds(program, path, count, moments):
 
 
 def require_refused(program, path):
-    """That a batch of which a part is missing would show."""
+    """That a batch of which a part is missing would show: one more, which the live bank then holds."""
+    last = recovered(program, path)
+    run(program, path, long_script(last, 1)[0])
     torn = path.with_suffix(".torn")
-    torn.write_bytes(file.without_last_entry(path, recovered(program, path) - 1))
+    torn.write_bytes(file.without_last_entry(path, last))
     try:
         recovered(program, torn)
     except Mismatch as told:
@@ -76,9 +81,8 @@ def require_refused(program, path):
 def main():
     program, path = sys.argv[1], pathlib.Path(sys.argv[2])
     count, seed = int(sys.argv[3]), int(sys.argv[4])
-    slots = 2 * count * TURNS
     print(f"seed {seed}: {count} rounds on one file, each of {TURNS} turns with 6 entries, ended at a random moment")
-    run(program, path, f"format {slots}\n".encode(), "--sectors", str(2 * slots + 1))
+    run(program, path, f"format {SLOTS}\n".encode(), "--sectors", str(4 * SLOTS + 7))
     try:
         outcomes, outside = all_rounds(program, path, count, random.Random(seed))
         require_refused(program, path)

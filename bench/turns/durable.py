@@ -7,6 +7,7 @@ from runs import Work, require_same
 from table import Aim
 
 BATCHES = 1_000
+PIECE = 256 * 512
 
 # How many times as many rounds as other works have. The speed of a disk changes from one second to the next, so runs
 # are short and many, and each is compared with the one beside it.
@@ -17,17 +18,20 @@ def formatted(program, path):
     """Makes a file with the program, and an empty journal in it."""
     def prepare():
         path.unlink(missing_ok=True)
-        words = [program, "--device", path, "--sectors", str(2 * BATCHES + 1)]
+        words = [program, "--device", path, "--sectors", str(4 * BATCHES + 7)]
         subprocess.run(words, input=f"format {BATCHES}\n".encode(), stdout=subprocess.DEVNULL, check=True)
     return prepare
 
 
 def zeros(path):
-    """Makes a file of zeros of the same length, on the disk."""
+    """Makes a file of zeros of the same length, on the disk, in pieces of 256 sectors, as the console does: the page cache
+    keeps a file in pieces as large as it was written in, and a write of one sector takes longer in a large piece.
+    """
     def prepare():
-        with open(path, "wb") as file:
-            file.write(bytes(512 * (2 * BATCHES + 1)))
-            file.flush()
+        length = 512 * (4 * BATCHES + 7)
+        with open(path, "wb", buffering=0) as file:
+            for at in range(0, length, PIECE):
+                file.write(bytes(min(PIECE, length - at)))
             os.fsync(file.fileno())
     return prepare
 

@@ -5,6 +5,12 @@ import struct
 SECTOR = 512
 PLACES = 15
 PAYLOADS = 64
+OPEN = b"\xa5" + bytes(SECTOR - 1)
+
+
+def live_bytes(slots):
+    """How many bytes the superblock and the first bank take."""
+    return SECTOR * (1 + 3 + 2 * slots)
 
 
 def place(kind, source, target, amount, reference):
@@ -36,18 +42,33 @@ def balances(payloads, batches):
     return held
 
 
-def write(path, batches):
-    """Writes the file, and gives the lines that `open 3 000 100` and `balances` print on it."""
+def front(epoch, base, held):
+    """A bank's gate, open, its head, and its snapshot of what each account holds."""
+    head = struct.pack(">4s4xQQ", b"TLBK", epoch, base)
+    return OPEN + head.ljust(SECTOR, b"\0") + struct.pack(">64Q", *held.values())
+
+
+def rows(payloads, first, count):
+    """The bodies and gates of so many slots, from this sequence on."""
+    for sequence in range(first, first + count):
+        header = struct.pack(">4sHHQ16x", b"TLB1", (0, 1, 2, 1)[sequence % 4], PLACES, sequence)
+        yield header + payloads[sequence % PAYLOADS][0] + OPEN
+
+
+def write(path, slots):
+    """Writes the file of a ledger after twice as many batches as a bank has slots: the second bank has the first half of
+    them, the first one, which is live, the balances after it and the other half. Gives the lines that `open 3 000 100`
+    and `balances` print on it.
+    """
     words = random.Random(1)
     payloads = [payload(words) for _ in range(PAYLOADS)]
-    gate = b"\xa5" + bytes(SECTOR - 1)
     with open(path, "wb") as file:
-        file.write(struct.pack(">4sHHQ", b"TLDG", 1, 0, batches) + bytes(SECTOR - 16))
-        for slot in range(batches):
-            header = struct.pack(">4sHHQ16x", b"TLB1", (0, 1, 2, 1)[slot % 4], PLACES, slot)
-            file.write(header + payloads[slot % PAYLOADS][0] + gate)
-    held = balances(payloads, batches)
+        file.write(struct.pack(">4sHHQ", b"TLDG", 2, 0, slots).ljust(SECTOR, b"\0"))
+        for epoch, base in ((2, slots), (1, 0)):
+            file.write(front(epoch, base, balances(payloads, base)))
+            file.writelines(rows(payloads, base, slots))
+    held = balances(payloads, 2 * slots)
     total = sum(held.values())
-    lines = [f"opened 3 next {batches} total {total}"]
+    lines = [f"opened 3 next {2 * slots} total {total}"]
     lines += [f"account {account} {balance}" for account, balance in held.items() if balance]
     return lines + [f"total {total}"]

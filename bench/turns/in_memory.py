@@ -13,7 +13,7 @@ def measure(runs, entries, ratios, memory):
     """Turns with so many entries each."""
     count, folder = TURNS[entries], runs.folder
     script = scripts.write(folder / "turns", scripts.in_memory(count, entries))
-    sectors = ["--sectors", str(2 * count + 1)]
+    sectors = ["--sectors", str(4 * count + 7)]
     times = runs.taking_turns({
         "proved": Work([folder / "proved", *sectors], script),
         "plain": Work([folder / "plain", *sectors], script),

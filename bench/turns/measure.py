@@ -23,7 +23,7 @@ def filesystem(folder):
 def main():
     folder, rounds = pathlib.Path(sys.argv[1]), int(sys.argv[2])
     runs, ratios, memory = Runs(folder, rounds), Ratios(), Memory()
-    same.require_same(folder)
+    replaced = same.require_same(folder)
     in_memory.measure(runs, 15, ratios, memory)
     in_memory.measure(runs, 1, ratios, memory)
     durable.measure(runs, ratios, memory)
@@ -32,7 +32,7 @@ def main():
     print(f"taking turns: medians of {rounds} runs, {memory_runs} in memory, {durable_runs} of durable batches")
     print(f"files on {filesystem(folder)}")
     print("what proved and plain print, and the files that they leave, are equal byte for byte,")
-    print(f"here and on {same.SCRIPTS} random scripts in memory and on a file")
+    print(f"here and on {same.SCRIPTS} random scripts in memory and on a file, where {replaced} made checkpoints")
     print()
     print_rows(ratios.rows)
     print()

@@ -1,4 +1,6 @@
-"""The opening of a long file, which the page cache holds, and of the same file from the disk."""
+"""The opening of a long file, which the page cache holds, and of the same file from the disk, beside one read of what
+the opening looks at: the superblock and the live bank.
+"""
 import os
 import sys
 
@@ -7,7 +9,7 @@ import scripts
 from runs import Work
 from table import Aim
 
-BATCHES = 100_000
+SLOTS = 100_000
 
 
 def forget(path):
@@ -24,7 +26,7 @@ def taking_turns(runs, path, prepare, wanted):
     folder = runs.folder
     script = scripts.write(folder / "opening", ["open 3 000 100", "balances"])
     times = runs.taking_turns({
-        "one read": Work([folder / "read_once", path], prepare=prepare),
+        "one read": Work([folder / "read_once", path, str(image.live_bytes(SLOTS))], prepare=prepare),
         "proved": Work([folder / "proved", "--device", path], script, prepare),
         "plain": Work([folder / "plain", "--device", path], script, prepare),
     }, [("proved", "plain")])
@@ -35,8 +37,8 @@ def taking_turns(runs, path, prepare, wanted):
 
 def measure(runs, ratios, memory):
     path = runs.folder / "opened.ledger"
-    wanted = image.write(path, BATCHES)
-    work = f"opening {BATCHES:,} batches of 15"
+    wanted = image.write(path, SLOTS)
+    work = f"opening a full bank of {SLOTS:,} batches of 15"
     for told, prepare in ((f"{work}, from the disk", forget(path)), (f"{work}, from the page cache", None)):
         times = taking_turns(runs, path, prepare, wanted)
         ratios.time(told, times["proved"], "one read", times["one read"], Aim(most=2.2))

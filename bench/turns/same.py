@@ -5,8 +5,15 @@ import random
 import subprocess
 import sys
 
+from spoiled import epoch_of, spoil
+
 SCRIPTS = 300
-SECTORS = (21, 21, 21, 9, 1)
+
+# What journals of 10, 3 and 1 slots in each bank take, and too little for any.
+SECTORS = (47, 47, 47, 47, 47, 19, 11, 1)
+
+# Slots of the journals that scripts begin with: mostly so few that a full bank is replaced again and again.
+SLOTS = (1, 1, 2, 2, 3, 3, 4, 10)
 WRONG = (
     "turn", "frob", "post 0 seal 1", "format 0", "turn x", "post 1 deposit 4294967296 1", "open 3 000 102", "bits 1",
 )
@@ -39,24 +46,16 @@ def line(words):
         return words.choice(("bits", "  bits ", "balances", "# nothing", ""))
     return words.choice((
         f"open {stations} {bits(words, stations)} {bits(words, stations)}", f"open {stations} 00 {bits(words, 2)}",
-        f"format {words.randint(1, 11)}", "crash\r", "crash",
+        f"format {words.randint(1, 11)}", "crash\r", f"crash\nopen 3 {bits(words, 3)} {bits(words, 3)}",
     ))
 
 
 def script(words):
-    opening = f"open 3 {bits(words, 3)} {bits(words, 3)}"
-    lines = words.choice((["format 10", opening], ["format 4", opening], [opening], []))
-    lines += [line(words) for _ in range(words.randint(1, 200))]
+    opening, making = f"open 3 {bits(words, 3)} {bits(words, 3)}", f"format {words.choice(SLOTS)}"
+    lines = words.choice(([making, opening],) * 5 + ([opening], [opening], [opening], [making, "crash"], []))
+    if "crash" not in lines:
+        lines = lines + [line(words) for _ in range(words.randint(1, 200))]
     return "\n".join(lines).encode() + words.choice((b"", b"\n", b"\r", b"\r\n"))
-
-
-def spoil(words, paths):
-    """Changes the same byte in each file."""
-    sector, place, byte = words.randint(0, 6), words.choice((0, 5, 7, 15, 20, 32, 40, 55, 511)), words.randint(0, 255)
-    for path in paths:
-        image = bytearray(path.read_bytes())
-        image[(512 * sector + place) % len(image)] = byte
-        path.write_bytes(image)
 
 
 def ended(program, words, text):
@@ -66,18 +65,23 @@ def ended(program, words, text):
 
 
 def require_same(folder):
-    """Runs both programs on each script, in memory, and on a file that the scripts go on with."""
-    words = random.Random(1)
+    """Runs both programs on each script, in memory, and on a file that the scripts go on with. Gives how many scripts
+    made a checkpoint on the file.
+    """
+    words, replaced, before = random.Random(1), 0, 0
     files = {program: folder / f"{program}.same" for program in ("proved", "plain")}
     for _ in range(SCRIPTS):
         text, sectors = script(words), ["--sectors", str(words.choice(SECTORS))]
         in_memory = [ended(folder / program, sectors, text) for program in files]
         on_files = [ended(folder / program, ["--device", path, *sectors], text) for program, path in files.items()]
         images = [path.read_bytes() for path in files.values()]
-        if words.random() < 0.5:
-            spoil(words, files.values())
         for one, other in (in_memory, on_files, images):
             if one != other:
                 sys.exit(f"the proved and the plain program differ on the script\n{text.decode()}\n{one}\n{other}")
+        replaced += epoch_of(images[0]) not in (0, before)
+        if words.random() < 0.6:
+            spoil(words, files.values())
+        before = epoch_of(files["plain"].read_bytes())
     for path in files.values():
         path.unlink()
+    return replaced

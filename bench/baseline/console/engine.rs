@@ -192,6 +192,7 @@ impl fmt::Display for Cause {
             Cause::Header => f.write_str("Header"),
             Cause::Sequence => f.write_str("Sequence"),
             Cause::Tail => f.write_str("Tail"),
+            Cause::Bank => f.write_str("Bank"),
             Cause::Entry(place) => write!(f, "Entry {place}"),
             Cause::Verdict(place) => write!(f, "Verdict {place}"),
         }

@@ -71,6 +71,24 @@ impl Ledger {
         Ledger { balances: vec![0; ACCOUNTS as usize], total: 0 }
     }
 
+    /// Takes these balances in place of its own, unless they are over the limit together.
+    pub fn restore(&mut self, balances: Vec<u64>) -> bool {
+        let mut total = 0;
+        for &balance in &balances {
+            if balance > TOTAL_LIMIT - total {
+                return false;
+            }
+            total += balance;
+        }
+        *self = Ledger { balances, total };
+        true
+    }
+
+    /// What each account holds, account 1 first.
+    pub fn balances(&self) -> &[u64] {
+        &self.balances
+    }
+
     pub fn total(&self) -> u64 {
         self.total
     }

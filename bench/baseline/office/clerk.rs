@@ -12,7 +12,7 @@ pub enum TurnRefusal {
     NoStation,
     NotPrivileged,
     TooMany,
-    Full,
+    Exhausted,
     Device,
 }
 
@@ -20,7 +20,7 @@ impl From<AppendRefusal> for TurnRefusal {
     fn from(refusal: AppendRefusal) -> TurnRefusal {
         match refusal {
             AppendRefusal::Faulted => TurnRefusal::Faulted,
-            AppendRefusal::Full => TurnRefusal::Full,
+            AppendRefusal::Exhausted => TurnRefusal::Exhausted,
             AppendRefusal::Device => TurnRefusal::Device,
         }
     }
@@ -96,7 +96,7 @@ impl<D: Device> Clerk<D> {
         let record = Record::of(station, accepted(entries, verdicts.as_slice()));
         let posted = match record.is_empty() {
             true => None,
-            false => Some(self.journal.append(&mut self.device, &record)?),
+            false => Some(self.journal.append(&mut self.device, &record, self.ledger.balances())?),
         };
         for entry in accepted(entries, verdicts.as_slice()) {
             self.ledger.post(entry).expect("an accepted entry");
