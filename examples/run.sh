@@ -24,11 +24,11 @@ example() {
     echo "$name: prints examples/$name.out"
 }
 
-example first_day --device "$work/ledger" --sectors 9
-example second_day --device "$work/ledger" --sectors 9
-bash examples/damage.sh "$work/ledger" 512
+example first_day --device "$work/ledger" --sectors 23
+example second_day --device "$work/ledger" --sectors 23
+bash examples/damage.sh "$work/ledger" $((4 * 512))
 example damaged_file --device "$work/ledger"
-example full_ledger
+example full_bank
 example healing
 example two_stations
 example three_stations

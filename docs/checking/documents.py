@@ -36,7 +36,7 @@ def headings(text):
 
 
 def link_faults(document, words, target):
-    """What is wrong with a link: no such file, no such heading, or no such function or clause in the source."""
+    """What is wrong with a link: no such file or heading, or no such function, clause or definition in the source."""
     path, _, heading = target.partition("#")
     to = document.parent / path if path else document
     if not to.exists():
@@ -45,6 +45,8 @@ def link_faults(document, words, target):
         yield f"no heading {target}"
     elif to.suffix == ".rt":
         yield from name_faults(to, re.findall(r"`([^`]+)`", words))
+    elif to.suffix == ".antt":
+        yield from definition_faults(to, re.findall(r"`([^`]+)`", words))
 
 
 def name_faults(source, names):
@@ -59,6 +61,14 @@ def name_faults(source, names):
     for clause in names[1:]:
         if not re.search(rf"^ *ensures {clause} \{{", contract, re.MULTILINE):
             yield f"no clause {clause} at {names[0]} in {source}"
+
+
+def definition_faults(source, names):
+    """Of the names in a link to definitions, each is one that is defined there."""
+    text = source.read_text(encoding="utf-8")
+    for name in names:
+        if not re.search(rf"^(?:(?:abbrev|unfoldable) )?pub (?:record )?{name}\b", text, re.MULTILINE):
+            yield f"no definition {name} in {source}"
 
 
 def contract_of(source, function):

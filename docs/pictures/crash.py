@@ -6,8 +6,10 @@ from drawing import line, picture, rectangle, text
 
 SECTOR, PLACE = 512, 32
 SLOTS = 3
-SECTORS = 2 * SLOTS + 1
-BODY, GATE = 5, 6
+SECTORS = 7 + 4 * SLOTS
+# the sectors that are drawn: the superblock, and the slots of the first bank
+DRAWN = [0, *range(4, 4 + 2 * SLOTS)]
+BODY = 8
 BOX, GAP, LEFT, TOP, ROW = 26, 5, 143, 78, 46
 
 
@@ -65,7 +67,7 @@ def box_at(number):
 
 def drawn_sector(number, y, held, is_torn):
     """A box with a stripe for each 32 bytes that aren't all zero."""
-    x, stripe = box_at(number), BOX / 16 * 1.25
+    x, stripe = box_at(DRAWN.index(number)), BOX / 16 * 1.25
     yield rectangle(x, y, BOX, stripe * 16 + 3, "bare", 2)
     for place in range(16):
         if any(held[PLACE * place:PLACE * (place + 1)]):
@@ -87,7 +89,7 @@ def row(place, moment, image, found):
     records, total = found
     yield text(16, y + 16, moment[0])
     yield text(16, y + 31, moment[1])
-    for number in range(SECTORS):
+    for number in DRAWN:
         yield from drawn_sector(number, y, sector(image, number), place == 1 and number == BODY)
     yield text(464, y + 16, f"records 0–{records - 1}", "good", anchor="end", weight="600")
     yield text(464, y + 31, f"total {total}", anchor="end")
@@ -100,6 +102,6 @@ def crash_picture(program, folder):
     parts = list(heading())
     for place, (first, second, image) in enumerate(left_images(two, three)):
         parts += row(place, (first, second), image, recovered(program, folder, image))
-    told = ("Rows of sectors: a body and a gate for each record. Of a third turn, whatever a crash leaves, recovery gives"
+    told = ("Rows of sectors: the superblock, and of one bank a body and a gate for each record. Of a third turn, whatever a crash leaves, recovery gives"
             " records 0 and 1, or all three.")
     return picture("A crash leaves a turn whole or not at all", told, parts)
