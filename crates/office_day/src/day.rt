@@ -17,7 +17,9 @@ use crate::held_entries::HeldEntries;
 use crate::reconciled::{StationDay, all_reconciled};
 use crate::refusals::DayRefusal;
 use crate::seated::{Left, risen, seated};
-use line_lock::{Audit, Blank, Clerk, Closing, Device, Ledger, Line, Office, OpenRefusal, Opening, Seat};
+use line_lock::{
+    Audit, Blank, Clerk, Closing, Device, Ledger, Line, Office, OpenRefusal, Opening, Seat,
+};
 use station_desk::{Desk, Gate, run_stations};
 use std::alloc::{AllocError, Global};
 use std::sync::Wait;
