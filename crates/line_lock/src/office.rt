@@ -36,7 +36,8 @@ pub struct Office<D: Device, L: Ledger + Opening> {
 
 impl<D: Device, L: Ledger + Opening> Office<D, L> {
     /// Opens the ledger of a device for a line of stations, and hands out a seat for each, station 0 first. All memory
-    /// is reserved before any device call. A refusal hands the device back and drops the blank.
+    /// is reserved before any device call. A refusal hands the device back and drops the blank. `L` names the device and
+    /// the line, so that closing the office can tell what it was opened on.
     pub fn open(
         alloc: Global,
         device: D,
