@@ -10,6 +10,7 @@ use Rattle.std.specs.declared.sync.ledger.Ledger as ledger
 use Rattle.std.proofs.sync.ledger.Book.TheSendSync as book_sends
 use Rattle.std.proofs.sync.ledger.Share.TheSendSync as share_sends
 use Rattle.turn_clerk.specs.contracts.clerk.Clerk as clerk
+use Rattle.line_lock.specs.declared.opening.Opening as opening
 use Rattle.line_lock.specs.contracts.locked.Locked as locked
 use Rattle.line_lock.specs.contracts.locked.Locked.TheInside as inside
 use Rattle.line_lock.specs.contracts.office.Office as office
@@ -18,14 +19,14 @@ module _ (D : RattleType) (state : device.Ghosts D.Denot) (send : IsSend D) wher
   clerk_send : IsSend (clerk.the_row D state)
   clerk_send = search (crosses, sendable) depth 60 fits 100000
 
-  module _ (L : RattleType) (named : ledger.Ghosts L.Denot) (send_name : IsSend L) where
-    locked_send : IsSend (locked.the_row D L state named)
+  module _ (L : RattleType) (named : ledger.Ghosts L.Denot) (opened : opening.Ghosts L.Denot) (send_name : IsSend L) where
+    locked_send : IsSend (locked.the_row D L state named opened)
     locked_send =
         view_send _ _ _ _ _
-        (recorded_send _ _ _ (inside.the_type D L state named).to_one
-        (struct_send (shape (inside.the_type D L state named)) (clerk_send, (book_sends.the_send L named, (share_sends.the_send L named, tt)))))
+        (recorded_send _ _ _ (inside.the_type D L state named opened).to_one
+        (struct_send (shape (inside.the_type D L state named opened)) (clerk_send, (book_sends.the_send L named, (share_sends.the_send L named, tt)))))
 
-    pub office_sync : IsSync (office.the_row D L state named)
+    pub office_sync : IsSync (office.the_row D L state named opened)
     office_sync =
-        recorded_sync _ _ _ (office.the_type D L state named).to_one
-        (struct_sync (shape (office.the_type D L state named)) (mutex.the_sync (locked.the_row D L state named) locked_send, tt))
+        recorded_sync _ _ _ (office.the_type D L state named opened).to_one
+        (struct_sync (shape (office.the_type D L state named opened)) (mutex.the_sync (locked.the_row D L state named opened) locked_send, tt))

@@ -1,2 +1,3 @@
 pub mod Seat
 pub mod Account
+pub mod Opening

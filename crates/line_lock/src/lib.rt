@@ -4,12 +4,14 @@
 mod closing;
 mod locked;
 mod office;
+mod opening;
 mod refusals;
 mod seat;
 
 pub use closing::{CloseRefusal, Closing};
 pub use four_state::{Line, Rule};
 pub use office::Office;
+pub use opening::Opening;
 pub use refusals::WithinRefusal;
 pub use seat::Seat;
 pub use sector_device::Device;

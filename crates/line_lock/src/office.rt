@@ -12,10 +12,12 @@ ghost use Rattle.turn_clerk.specs.History.{moves_of};
 ghost use Rattle.line_lock.specs.Account.{IsBorneOut, seats_of, IsSeatMissing};
 ghost use Rattle.turn_ledger.specs.declared.limits.TheConstants.{BATCH_LIMIT};
 ghost use Rattle.journal_recovery.specs.Refused.{RecoveryRefuses};
+ghost use Rattle.line_lock.specs.Opening.{SayTheSame, WasOpenedOn};
 ghost use Rattle.line_lock.specs.Seat.{new_seat, EndsLegalHistory};
 
 use crate::closing::{CloseRefusal, Closing, audited, gathered, look_at};
 use crate::locked::{Answer, Locked};
+use crate::opening::Opening;
 use crate::refusals::WithinRefusal;
 use crate::seat::Seat;
 use four_state::Line;
@@ -28,13 +30,14 @@ use turn_ledger::Entry;
 
 /// One clerk that several stations share, one turn at a time.
 #[derive(Drop)]
-pub struct Office<D: Device, L: Ledger> {
+pub struct Office<D: Device, L: Ledger + Opening> {
     locked: Mutex<Locked<D, L>>,
 }
 
-impl<D: Device, L: Ledger> Office<D, L> {
+impl<D: Device, L: Ledger + Opening> Office<D, L> {
     /// Opens the ledger of a device for a line of stations, and hands out a seat for each, station 0 first. All memory
-    /// is reserved before any device call. A refusal hands the device back and drops the blank.
+    /// is reserved before any device call. A refusal hands the device back and drops the blank. `L` names the device and
+    /// the line, so that closing the office can tell what it was opened on.
     pub fn open(
         alloc: Global,
         device: D,
@@ -44,6 +47,8 @@ impl<D: Device, L: Ledger> Office<D, L> {
         requires name { blank.name ≡ L.name }
         requires parts { blank.parts ≡ L.parts }
         requires one_each { L.parts ≡ stations line }
+        requires device { SayTheSame L.device (D.state device) }
+        requires line { L.line ≡ line }
         ensures seats { IfOk result (λ opened. opened.1.items ≡ map new_seat (range_with_len 0 (stations line))) }
         ensures call { IfErr result (λ e. AreCalls (D.state device) (D.state e.0) (e.1 ≡ OpenRefusal.Device)) }
         ensures untouched { IfErr result (λ e. e.1 ≡ OpenRefusal.Memory → e.0 ≡ device) }
@@ -172,6 +177,7 @@ impl<D: Device, L: Ledger> Office<D, L> {
             length closing.clerk.history ≡ sum_by (λ seat. length seat.turns) seats.items) }
 
         // The clerk, over its whole life.
+        ensures opened { IfOk result (λ closing. WasOpenedOn D.state L.device L.line closing.clerk) }
         ensures legal { IfOk result (λ closing. KeepsHistory closing.clerk) }
         ensures run { IfOk result (λ closing. IsRun closing.clerk.opening.line (moves_of closing.clerk.history)) }
         ensures acknowledged { IfOk result (λ closing.
@@ -222,6 +228,7 @@ impl<D: Device, L: Ledger> Office<D, L> {
     /// The clerk of an office that nobody closes, without an account of the seats. It waits for nobody.
     pub fn into_clerk(self) -> Clerk<D>
         ensures stations { stations result.opening.line ≡ L.parts }
+        ensures opened { WasOpenedOn D.state L.device L.line result }
         ensures legal { KeepsHistory result }
         ensures acknowledged { (D.state result.journal.device).honest → LeavesAcknowledged D.state result }
         ensures at_any_moment { (D.state result.journal.device).honest → LeftPrefixEver D.state result }

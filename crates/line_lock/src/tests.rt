@@ -2,12 +2,14 @@
 //! played in whichever office it is given.
 ghost use Rattle.std.specs.Prelude.{◌≡◌};
 ghost use Rattle.four_state.specs.Configuration.{stations};
+ghost use Rattle.sector_device.specs.MemoryDevice.{memory_device_state};
+ghost use Rattle.line_lock.specs.Opening.{SayTheSame};
 
 mod callers;
 mod closing;
 mod turns;
 
-use crate::{Blank, Entry, Ledger, Line, Office, Seat};
+use crate::{Blank, Entry, Ledger, Line, Office, Opening, Seat};
 use gate_journal::format;
 use sector_device::MemoryDevice;
 use std::alloc::Global;
@@ -19,7 +21,7 @@ use std::thread::Threads;
 
 // What is done in an office.
 trait Scene {
-    fn play<L: Ledger + Send + Sync, R: Abort + Wait + Threads + Sync>(
+    fn play<L: Ledger + Opening + Send + Sync, R: Abort + Wait + Threads + Sync>(
         rt: &R,
         office: Office<MemoryDevice, L>,
         seats: Vec<Seat<L>>,
@@ -37,7 +39,7 @@ fn act<S: Scene, R: Abort + Wait + Threads + Sync>(
     act_in::<S, Brand, R>(rt, alloc, device, line, blank)
 }
 
-fn act_in<S: Scene, L: Ledger + Send + Sync, R: Abort + Wait + Threads + Sync>(
+fn act_in<S: Scene, L: Ledger + Opening + Send + Sync, R: Abort + Wait + Threads + Sync>(
     rt: &R,
     alloc: Global,
     device: MemoryDevice,
@@ -47,6 +49,8 @@ fn act_in<S: Scene, L: Ledger + Send + Sync, R: Abort + Wait + Threads + Sync>(
     requires name { blank.name ≡ L.name }
     requires parts { blank.parts ≡ L.parts }
     requires one_each { blank.parts ≡ stations line }
+    requires device { SayTheSame L.device (memory_device_state device) }
+    requires line { L.line ≡ line }
 {
     match Office::<MemoryDevice, L>::open(alloc, device, line, blank) {
         Ok((office, seats)) => S::play(rt, office, seats),

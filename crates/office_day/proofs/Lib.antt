@@ -2,4 +2,5 @@ pub mod Lists
 pub mod Days
 pub mod Pairing
 pub mod Served
-pub mod Opening
+pub mod RefusedOpening
+mod LeftDevice

@@ -7,3 +7,8 @@ use Rattle.office_day.specs.declared.refusals.DayRefusal.TheVariants.{Opening}
 abbrev pub IfOpening : DayRefusal → (OpenRefusal → Type 0) → Type 0
 IfOpening (Opening refusal) P = P refusal
 IfOpening _ P = Unit {0}
+
+-- a fact, but for where the office couldn't be opened
+abbrev pub UnlessOpening : DayRefusal → Type 0 → Type 0
+UnlessOpening (Opening refusal) P = Unit {0}
+UnlessOpening _ P = P

@@ -1,5 +1,5 @@
 //! A whole day.
-ghost use Rattle.std.specs.Prelude.{◌≡◌, ◌≢◌, ◌-◌, ◌≤◌, ◌^◌, length, drop, IfOk, IfErr, IfSome, IsSomeAnd};
+ghost use Rattle.std.specs.Prelude.{◌≡◌, ◌≢◌, ◌⊎◌, ◌-◌, ◌≤◌, ◌^◌, length, drop, IfOk, IfErr, IfSome, IsSomeAnd};
 ghost use Rattle.sector_device.specs.Device.{AreCalls};
 ghost use Rattle.sector_device.specs.Crash.{OnlyLooks};
 ghost use Rattle.four_state.specs.Configuration.{stations};
@@ -8,15 +8,18 @@ ghost use Rattle.sweep_auditor.specs.Stabilization.{top_of, LegitimateFrom, IsSt
 ghost use Rattle.turn_clerk.specs.Clerk.{KeepsHistory, LeavesAcknowledged, LeftPrefixEver};
 ghost use Rattle.turn_clerk.specs.History.{moves_of};
 ghost use Rattle.journal_recovery.specs.Refused.{RecoveryRefuses};
+ghost use Rattle.line_lock.specs.Opening.{SayTheSame, WasOpenedOn, WasLeftByClerk};
 ghost use Rattle.office_day.specs.Day.{HadTheirDay, HaveServed};
-ghost use Rattle.office_day.specs.Refusal.{IfOpening};
+ghost use Rattle.office_day.specs.Refusal.{IfOpening, UnlessOpening};
 
 use crate::counters::counters;
 use crate::held_entries::HeldEntries;
 use crate::reconciled::{StationDay, all_reconciled};
 use crate::refusals::DayRefusal;
 use crate::seated::{Left, risen, seated};
-use line_lock::{Audit, Blank, Clerk, Closing, Device, Ledger, Line, Office, OpenRefusal, Seat};
+use line_lock::{
+    Audit, Blank, Clerk, Closing, Device, Ledger, Line, Office, OpenRefusal, Opening, Seat,
+};
 use station_desk::{Desk, Gate, run_stations};
 use std::alloc::{AllocError, Global};
 use std::sync::Wait;
@@ -48,7 +51,7 @@ impl Gate for NobodyLooks {
 /// The device comes back. [`DayRefusal::Opening`]: it can't be opened, for another reason than want of memory; nobody
 /// took a turn. [`DayRefusal::Memory`]: turns may have been taken, and what they journaled stands.
 /// [`DayRefusal::Closing`]: the same; an office whose seats are its own never answers it.
-pub fn run_day<D: Device + Send, L: Ledger + Send + Sync, R: Threads + Wait + Sync>(
+pub fn run_day<D: Device + Send, L: Ledger + Opening + Send + Sync, R: Threads + Wait + Sync>(
     rt: &R,
     alloc: Global,
     device: D,
@@ -61,6 +64,8 @@ pub fn run_day<D: Device + Send, L: Ledger + Send + Sync, R: Threads + Wait + Sy
     requires name { blank.name ≡ L.name }
     requires parts { blank.parts ≡ L.parts }
     requires one_each { L.parts ≡ stations line }
+    requires device { SayTheSame L.device (D.state device) }
+    requires line { L.line ≡ line }
     requires held { length held.now ≡ stations line }
 
     // What became of what the stations held.
@@ -68,6 +73,7 @@ pub fn run_day<D: Device + Send, L: Ledger + Send + Sync, R: Threads + Wait + Sy
 
     // The clerk, over its whole life.
     ensures stations { IfOk result (λ day. stations day.clerk.line ≡ stations line) }
+    ensures opened { IfOk result (λ day. WasOpenedOn D.state L.device L.line day.clerk) }
     ensures legal { IfOk result (λ day. KeepsHistory day.clerk) }
     ensures run { IfOk result (λ day. IsRun day.clerk.opening.line (moves_of day.clerk.history)) }
     ensures acknowledged { IfOk result (λ day.
@@ -87,6 +93,9 @@ pub fn run_day<D: Device + Send, L: Ledger + Send + Sync, R: Threads + Wait + Sy
         (λ i. IsStretch (top_of day.clerk.opening.line) (drop i (moves_of day.clerk.history)))) }
     ensures comes_round { IfOk result (λ day. IfSome day.audit.first_legitimate
         (λ i. ComesRound day.clerk.opening.line (moves_of day.clerk.history) i)) }
+
+    // What a day that isn't told leaves.
+    ensures left { IfErr result (λ e. UnlessOpening e.1 ((e.0 ≡ device) ⊎ WasLeftByClerk D.state L.device L.line e.0)) }
 
     // A refused opening.
     ensures call { IfErr result (λ e. IfOpening e.1 (λ refusal.
@@ -126,7 +135,7 @@ pub fn run_day<D: Device + Send, L: Ledger + Send + Sync, R: Threads + Wait + Sy
 }
 
 // The stations take their seats, run, and rise again.
-fn served<D: Device + Send, L: Ledger + Send + Sync, R: Threads + Wait + Sync>(
+fn served<D: Device + Send, L: Ledger + Opening + Send + Sync, R: Threads + Wait + Sync>(
     rt: &R,
     alloc: Global,
     office: &Office<D, L>,

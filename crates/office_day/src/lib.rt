@@ -11,7 +11,9 @@ mod seated;
 
 pub use day::{Day, run_day};
 pub use held_entries::{HELD_LIMIT, HeldEntries};
-pub use line_lock::{Audit, Blank, Clerk, CloseRefusal, Device, Ledger, Line, OpenRefusal};
+pub use line_lock::{
+    Audit, Blank, Clerk, CloseRefusal, Device, Ledger, Line, OpenRefusal, Opening,
+};
 pub use reconciled::StationDay;
 pub use refusals::DayRefusal;
 pub use station_desk::{Answer, Ask, End, Entry, EntryRefusal, Outcome, TurnRefusal};

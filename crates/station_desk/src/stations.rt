@@ -6,7 +6,7 @@ ghost use Rattle.station_desk.specs.Run.{HasRun, HaveRun};
 use crate::desk_end::Desk;
 use crate::end::End;
 use crate::gate::Gate;
-use line_lock::{Ledger, Office, Seat, WithinRefusal};
+use line_lock::{Ledger, Office, Opening, Seat, WithinRefusal};
 use sector_device::Device;
 use std::sync::Wait;
 use std::sync::atomic::{AtomicBool, Ordering};
@@ -23,7 +23,7 @@ pub struct Station<L: Ledger> {
 }
 
 // One round: a turn with all that is gathered, and an answer for each.
-fn round<D: Device, L: Ledger, G: Gate, R: Wait>(
+fn round<D: Device, L: Ledger + Opening, G: Gate, R: Wait>(
     rt: &R,
     office: &Office<D, L>,
     seat: &mut Seat<L>,
@@ -75,7 +75,7 @@ fn end_of(refusal: WithinRefusal) -> Option<End>
 }
 
 // Rounds of a station until it ends, and how it ends.
-fn work<D: Device, L: Ledger, G: Gate, R: Wait>(
+fn work<D: Device, L: Ledger + Opening, G: Gate, R: Wait>(
     rt: &R,
     office: &Office<D, L>,
     seat: &mut Seat<L>,
@@ -111,7 +111,7 @@ fn work<D: Device, L: Ledger, G: Gate, R: Wait>(
 }
 
 // The run of one station; one that ends otherwise than as Reached stops the others.
-fn run_station<D: Device, L: Ledger, G: Gate, R: Wait>(
+fn run_station<D: Device, L: Ledger + Opening, G: Gate, R: Wait>(
     rt: &R,
     office: &Office<D, L>,
     station: &mut Station<L>,
@@ -137,7 +137,7 @@ fn run_station<D: Device, L: Ledger, G: Gate, R: Wait>(
 /// stations run one after another. The call may wait.
 pub fn run_stations<
     D: Device + Send,
-    L: Ledger + Send + Sync,
+    L: Ledger + Opening + Send + Sync,
     G: Gate + Sync,
     R: Threads + Wait + Sync,
 >(rt: &R, office: &Office<D, L>, stations: &mut [Station<L>], gate: &G, moves: u64, tries: u64)

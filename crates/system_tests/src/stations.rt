@@ -9,7 +9,7 @@ mod clients;
 mod day;
 mod days;
 
-use line_lock::{Ledger, Line, Office, Seat};
+use line_lock::{Ledger, Line, Office, Opening, Seat};
 use sector_device::Device;
 use station_desk::{Answer, End, Entry, Feed, Gate, Reconciled, Station, desk, reconcile};
 use std::alloc::Global;
@@ -115,7 +115,7 @@ fn collect(feeds: &mut [Feed], station: usize) -> Option<Answer>
 }
 
 // Closes the office, or fails the test.
-fn closed<D: Device, L: Ledger>(
+fn closed<D: Device, L: Ledger + Opening>(
     rt: &impl Abort,
     office: Office<D, L>,
     seats: Vec<Seat<L>>,

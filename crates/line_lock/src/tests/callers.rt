@@ -1,9 +1,11 @@
 //! Two threads of a caller.
 ghost use Rattle.std.specs.Prelude.{◌≡◌, ◌<◌, length};
 ghost use Rattle.four_state.specs.Configuration.{stations};
+ghost use Rattle.sector_device.specs.MemoryDevice.{memory_device_state};
+ghost use Rattle.line_lock.specs.Opening.{SayTheSame};
 
 use super::{formatted, line};
-use crate::{Blank, Closing, Ledger, Line, Office, Seat, TurnRefusal};
+use crate::{Blank, Closing, Ledger, Line, Office, Opening, Seat, TurnRefusal};
 use sector_device::{Device, MemoryDevice};
 use std::alloc::Global;
 use std::marker::Brand;
@@ -19,7 +21,7 @@ const MOST_REFUSALS: u32 = 10_000_000;
 
 // Takes turns until the seat has all of them; a station whose turn it isn't lets others go on, and one that is refused
 // for another reason stops them.
-fn take_turns<D: Device, L: Ledger, R: Wait>(
+fn take_turns<D: Device, L: Ledger + Opening, R: Wait>(
     rt: &R,
     office: &Office<D, L>,
     seat: &mut Seat<L>,
@@ -38,7 +40,7 @@ fn take_turns<D: Device, L: Ledger, R: Wait>(
 }
 
 // Each seat's turns in a thread of its own.
-fn take_all_turns<D: Device + Send, L: Ledger + Send + Sync, R: Wait + Threads + Sync>(
+fn take_all_turns<D: Device + Send, L: Ledger + Opening + Send + Sync, R: Wait + Threads + Sync>(
     rt: &R,
     office: &Office<D, L>,
     seats: &mut [Seat<L>],
@@ -55,7 +57,7 @@ fn take_all_turns<D: Device + Send, L: Ledger + Send + Sync, R: Wait + Threads +
     );
 }
 
-fn two_callers_in<L: Ledger + Send + Sync, R: Abort + Wait + Threads + Sync>(
+fn two_callers_in<L: Ledger + Opening + Send + Sync, R: Abort + Wait + Threads + Sync>(
     rt: &R,
     alloc: Global,
     device: MemoryDevice,
@@ -65,6 +67,8 @@ fn two_callers_in<L: Ledger + Send + Sync, R: Abort + Wait + Threads + Sync>(
     requires name { blank.name ≡ L.name }
     requires parts { blank.parts ≡ L.parts }
     requires one_each { blank.parts ≡ stations line }
+    requires device { SayTheSame L.device (memory_device_state device) }
+    requires line { L.line ≡ line }
 {
     let (office, mut seats) = match Office::<MemoryDevice, L>::open(alloc, device, line, blank) {
         Ok(opened) => opened,

@@ -1,7 +1,7 @@
 //! Closing: what is missing, what is foreign, and what is handed back.
 
 use super::{Scene, act, deposit, formatted, line};
-use crate::{Clerk, CloseRefusal, Closing, Ledger, Office, OpenRefusal, Seat};
+use crate::{Clerk, CloseRefusal, Closing, Ledger, Office, OpenRefusal, Opening, Seat};
 use sector_device::{Device, MemoryDevice};
 use std::alloc::Global;
 use std::marker::Brand;
@@ -12,7 +12,7 @@ use std::test::Fail;
 use std::thread::Threads;
 
 // Closes the office, which refuses, and hands out what it handed back.
-fn refused<L: Ledger>(
+fn refused<L: Ledger + Opening>(
     rt: &impl Abort,
     office: Office<MemoryDevice, L>,
     seats: Vec<Seat<L>>,
@@ -27,7 +27,7 @@ fn refused<L: Ledger>(
     }
 }
 
-fn closed<L: Ledger>(
+fn closed<L: Ledger + Opening>(
     rt: &impl Abort,
     office: Office<MemoryDevice, L>,
     seats: Vec<Seat<L>>,
@@ -41,7 +41,7 @@ fn closed<L: Ledger>(
 struct OneSeatIsMissing;
 
 impl Scene for OneSeatIsMissing {
-    fn play<L: Ledger + Send + Sync, R: Abort + Wait + Threads + Sync>(
+    fn play<L: Ledger + Opening + Send + Sync, R: Abort + Wait + Threads + Sync>(
         rt: &R,
         office: Office<MemoryDevice, L>,
         mut seats: Vec<Seat<L>>,
@@ -75,7 +75,7 @@ fn a_missing_seat_is_told_and_the_office_goes_on(rt: HostRuntime) -> Result<(), 
 struct NobodyTookATurn;
 
 impl Scene for NobodyTookATurn {
-    fn play<L: Ledger + Send + Sync, R: Abort + Wait + Threads + Sync>(
+    fn play<L: Ledger + Opening + Send + Sync, R: Abort + Wait + Threads + Sync>(
         rt: &R,
         office: Office<MemoryDevice, L>,
         seats: Vec<Seat<L>>,
@@ -114,7 +114,7 @@ fn close_keeps_opening(rt: HostRuntime) -> Result<(), Fail> {
 struct SeatsThatLie;
 
 impl Scene for SeatsThatLie {
-    fn play<L: Ledger + Send + Sync, R: Abort + Wait + Threads + Sync>(
+    fn play<L: Ledger + Opening + Send + Sync, R: Abort + Wait + Threads + Sync>(
         rt: &R,
         office: Office<MemoryDevice, L>,
         mut seats: Vec<Seat<L>>,
@@ -153,7 +153,7 @@ fn a_seat_that_the_history_does_not_bear_out_is_foreign(rt: HostRuntime) -> Resu
 struct AnotherTurnInTheList;
 
 impl Scene for AnotherTurnInTheList {
-    fn play<L: Ledger + Send + Sync, R: Abort + Wait + Threads + Sync>(
+    fn play<L: Ledger + Opening + Send + Sync, R: Abort + Wait + Threads + Sync>(
         rt: &R,
         office: Office<MemoryDevice, L>,
         mut seats: Vec<Seat<L>>,

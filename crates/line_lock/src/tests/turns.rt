@@ -1,7 +1,7 @@
 //! What a seat is answered.
 
 use super::{Scene, act, deposit, formatted, line};
-use crate::{Closing, Ledger, Office, Rule, Seat, Turn, TurnRefusal, WithinRefusal};
+use crate::{Closing, Ledger, Office, Opening, Rule, Seat, Turn, TurnRefusal, WithinRefusal};
 use sector_device::MemoryDevice;
 use std::process::Abort;
 use std::sync::Wait;
@@ -11,7 +11,7 @@ use std::thread::Threads;
 struct OneTurnAfterTheOther;
 
 impl Scene for OneTurnAfterTheOther {
-    fn play<L: Ledger + Send + Sync, R: Abort + Wait + Threads + Sync>(
+    fn play<L: Ledger + Opening + Send + Sync, R: Abort + Wait + Threads + Sync>(
         rt: &R,
         office: Office<MemoryDevice, L>,
         mut seats: Vec<Seat<L>>,
@@ -42,7 +42,7 @@ impl Scene for OneTurnAfterTheOther {
 }
 
 // The first turn is the bottom station's, which is denied a second one; before it the top station is denied.
-fn bottom_turn<L: Ledger, R: Abort + Wait>(
+fn bottom_turn<L: Ledger + Opening, R: Abort + Wait>(
     rt: &R,
     office: &Office<MemoryDevice, L>,
     bottom: &mut Seat<L>,
@@ -62,7 +62,7 @@ fn bottom_turn<L: Ledger, R: Abort + Wait>(
 }
 
 // The second turn is the top station's, where two are wanted and not where one is; it is denied a third one.
-fn top_turn<L: Ledger, R: Abort + Wait>(
+fn top_turn<L: Ledger + Opening, R: Abort + Wait>(
     rt: &R,
     office: &Office<MemoryDevice, L>,
     top: &mut Seat<L>,

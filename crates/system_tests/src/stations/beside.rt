@@ -1,11 +1,14 @@
 //! Threads at once: a station gathers while another one's sync is under way.
 ghost use Rattle.std.specs.Prelude.{◌≡◌};
+ghost use Rattle.sector_device.specs.MemoryDevice.{memory_device_state};
 ghost use Rattle.four_state.specs.Configuration.{stations};
+ghost use Rattle.fault_injector.specs.Held.{held_state};
+ghost use Rattle.line_lock.specs.Opening.{SayTheSame};
 
 use super::{Remains, TRIES, closed, deposit, line, reconciled, seated, submit};
 use crate::devices::formatted;
 use fault_injector::{Held, HeldFlags};
-use line_lock::{Blank, Closing, Ledger, Line, Office};
+use line_lock::{Blank, Closing, Ledger, Line, Office, Opening};
 use sector_device::MemoryDevice;
 use station_desk::{Gate, Outcome, run_stations};
 use std::alloc::Global;
@@ -47,7 +50,7 @@ impl Gate for BesideSync {
     fn answered(&self, _station: u8) {}
 }
 
-fn one_move<L: Ledger + Send + Sync, R: Abort + Wait + Threads + Sync>(
+fn one_move<L: Ledger + Opening + Send + Sync, R: Abort + Wait + Threads + Sync>(
     rt: &R,
     alloc: Global,
     device: Held<MemoryDevice>,
@@ -58,6 +61,8 @@ fn one_move<L: Ledger + Send + Sync, R: Abort + Wait + Threads + Sync>(
     requires name { blank.name ≡ L.name }
     requires parts { blank.parts ≡ L.parts }
     requires one_each { blank.parts ≡ stations line }
+    requires device { SayTheSame L.device (held_state memory_device_state device) }
+    requires line { L.line ≡ line }
 {
     let (office, seats) = match Office::<Held<MemoryDevice>, L>::open(alloc, device, line, blank) {
         Ok(opened) => opened,

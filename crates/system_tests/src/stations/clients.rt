@@ -1,6 +1,8 @@
 //! Clients that submit and collect while the stations take turns. Like its neighbour it needs threads at once.
 ghost use Rattle.std.specs.Prelude.{◌≡◌, map, IfOk};
+ghost use Rattle.sector_device.specs.MemoryDevice.{memory_device_state};
 ghost use Rattle.four_state.specs.Configuration.{stations};
+ghost use Rattle.line_lock.specs.Opening.{SayTheSame};
 ghost use Rattle.station_desk.specs.Pairs.{ArePaired};
 ghost use Rattle.station_desk.specs.PairLaws.{AllStandAt};
 ghost use Rattle.station_desk.specs.Rings.{StandsAt};
@@ -8,7 +10,7 @@ ghost use Rattle.station_desk.specs.Run.{HaveRun};
 
 use super::{NoGate, Remains, TRIES, closed, deposit, line, reconciled, seated};
 use gate_journal::format;
-use line_lock::{Blank, Closing, Ledger, Line, Office};
+use line_lock::{Blank, Closing, Ledger, Line, Office, Opening};
 use sector_device::{Device, MemoryDevice};
 use station_desk::{Answer, End, Feed, Outcome, Reconciled, Station, run_stations};
 use std::alloc::Global;
@@ -98,7 +100,7 @@ fn work_all<R: Wait + Threads + Sync>(rt: &R, clients: &mut [Client], ended: &At
 }
 
 // Runs the stations, and beside them the clients until the stations have ended.
-fn run_beside<D: Device + Send, L: Ledger + Send + Sync, R: Wait + Threads + Sync>(
+fn run_beside<D: Device + Send, L: Ledger + Opening + Send + Sync, R: Wait + Threads + Sync>(
     rt: &R,
     office: &Office<D, L>,
     stations: &mut [Station<L>],
@@ -167,7 +169,7 @@ fn posted(rt: &impl Abort, tally: Tally, account: &Reconciled) -> u64 {
     answered
 }
 
-fn many_moves<L: Ledger + Send + Sync, R: Abort + Wait + Threads + Sync>(
+fn many_moves<L: Ledger + Opening + Send + Sync, R: Abort + Wait + Threads + Sync>(
     rt: &R,
     alloc: Global,
     device: MemoryDevice,
@@ -177,6 +179,8 @@ fn many_moves<L: Ledger + Send + Sync, R: Abort + Wait + Threads + Sync>(
     requires name { blank.name ≡ L.name }
     requires parts { blank.parts ≡ L.parts }
     requires one_each { blank.parts ≡ stations line }
+    requires device { SayTheSame L.device (memory_device_state device) }
+    requires line { L.line ≡ line }
 {
     let (office, seats) = match Office::<MemoryDevice, L>::open(alloc, device, line, blank) {
         Ok(opened) => opened,

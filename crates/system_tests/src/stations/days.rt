@@ -1,11 +1,14 @@
 //! Days of an office, from its opening to its closing.
 ghost use Rattle.std.specs.Prelude.{◌≡◌};
+ghost use Rattle.sector_device.specs.MemoryDevice.{memory_device_state};
 ghost use Rattle.four_state.specs.Configuration.{stations};
+ghost use Rattle.fault_injector.specs.OneFault.{one_fault_state};
+ghost use Rattle.line_lock.specs.Opening.{SayTheSame};
 
 use super::{NoGate, Remains, TRIES, closed, collect, deposit, line, reconciled, seated, submit};
 use crate::devices::formatted;
 use fault_injector::{OneFault, Op};
-use line_lock::{Blank, Closing, Ledger, Line, Office};
+use line_lock::{Blank, Closing, Ledger, Line, Office, Opening};
 use sector_device::{Device, MemoryDevice};
 use station_desk::{
     Answer, Ask, End, Entry, EntryRefusal, Outcome, Reconciled, TurnRefusal, run_stations,
@@ -59,7 +62,7 @@ fn all_answered(rt: &impl Abort, accounts: &[Reconciled]) {
 }
 
 // Three clients submit, and their stations make eight moves.
-fn eight_moves<L: Ledger + Send + Sync, R: Abort + Wait + Threads + Sync>(
+fn eight_moves<L: Ledger + Opening + Send + Sync, R: Abort + Wait + Threads + Sync>(
     rt: &R,
     alloc: Global,
     device: MemoryDevice,
@@ -69,6 +72,8 @@ fn eight_moves<L: Ledger + Send + Sync, R: Abort + Wait + Threads + Sync>(
     requires name { blank.name ≡ L.name }
     requires parts { blank.parts ≡ L.parts }
     requires one_each { blank.parts ≡ stations line }
+    requires device { SayTheSame L.device (memory_device_state device) }
+    requires line { L.line ≡ line }
 {
     let (office, seats) = match Office::<MemoryDevice, L>::open(alloc, device, line, blank) {
         Ok(opened) => opened,
@@ -131,7 +136,7 @@ fn first_undecided(rt: &impl Abort, accounts: &[Reconciled]) {
 }
 
 // The gate of the first batch is never written.
-fn a_failed_sync<L: Ledger + Send + Sync, R: Abort + Wait + Threads + Sync>(
+fn a_failed_sync<L: Ledger + Opening + Send + Sync, R: Abort + Wait + Threads + Sync>(
     rt: &R,
     alloc: Global,
     device: OneFault<MemoryDevice>,
@@ -141,6 +146,8 @@ fn a_failed_sync<L: Ledger + Send + Sync, R: Abort + Wait + Threads + Sync>(
     requires name { blank.name ≡ L.name }
     requires parts { blank.parts ≡ L.parts }
     requires one_each { blank.parts ≡ stations line }
+    requires device { SayTheSame L.device (one_fault_state memory_device_state device) }
+    requires line { L.line ≡ line }
 {
     let opened = Office::<OneFault<MemoryDevice>, L>::open(alloc, device, line, blank);
     let (office, seats) = match opened {

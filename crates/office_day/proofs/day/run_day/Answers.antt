@@ -1,4 +1,4 @@
-use Rattle.std.proofs.Common.{◌≡◌, ◌∙◌, ℕ, List, length, map, sym, ap}
+use Rattle.std.proofs.Common.{inr, ◌≡◌, ◌∙◌, ℕ, List, length, map, sym, ap}
 use Rattle.std.specs.List.{AllZip, range_with_len}
 use Rattle.std.proofs.lemmas.List.{length-map}
 use Rattle.std.proofs.lemmas.List.FromFn.{length-range_with_len}
@@ -10,7 +10,8 @@ use Rattle.turn_clerk.specs.History.{moves_of}
 use Rattle.line_lock.specs.Seat.{SeatState, new_seat}
 use Rattle.station_desk.specs.Rings.{FeedState, DeskState, AreTogether}
 use Rattle.office_day.specs.Counters.{HasHandedIn}
-use Rattle.office_day.proofs.Opening.{refused_opening}
+use Rattle.office_day.proofs.RefusedOpening.{refused_opening}
+use Rattle.office_day.proofs.LeftDevice.{left_by}
 use Rattle.office_day.proofs.Served.{stay_together}
 use Rattle.office_day.proofs.Days.{had_their_day}
 use Rattle.office_day.proofs.day.run_day.Goals as goal
@@ -52,3 +53,20 @@ pub returns-in-Ok-all_reconciled-clause-stations : goal.returns-in-Ok-all_reconc
 returns-in-Ok-all_reconciled-clause-stations g c =
     let clerk = c.in-Ok-close.field-0.clerk in
     ap stations c.in-Ok-close.ensures.legal.line ∙ stations-after (moves_of clerk.history) clerk.opening.line ∙ c.in-Ok-close.ensures.stations ∙ c.requires.one_each
+
+pub returns-in_default-served-clause-left : goal.returns-in_default-served-clause-left
+returns-in_default-served-clause-left g c =
+    let clerk = c.into_clerk in
+    inr (left_by g.D.Device.state g.L.Opening.device g.L.Opening.line clerk.result c.into_device.result c.into_device.ensures clerk.ensures.opened clerk.ensures.legal clerk.ensures.acknowledged)
+
+pub returns-in-Err-close-clause-left : goal.returns-in-Err-close-clause-left
+returns-in-Err-close-clause-left g c =
+    let clerk = c.into_clerk-in-Err-close in
+    let device = c.into_device-in-Err-close in
+    inr (left_by g.D.Device.state g.L.Opening.device g.L.Opening.line clerk.result device.result device.ensures clerk.ensures.opened clerk.ensures.legal clerk.ensures.acknowledged)
+
+pub returns-in-Err-all_reconciled-clause-left : goal.returns-in-Err-all_reconciled-clause-left
+returns-in-Err-all_reconciled-clause-left g c =
+    let closing = c.in-Ok-close.ensures in
+    let device = c.into_device-in-Err-all_reconciled in
+    inr (left_by g.D.Device.state g.L.Opening.device g.L.Opening.line c.in-Ok-close.field-0.clerk device.result device.ensures closing.opened closing.legal closing.acknowledged)

@@ -1,0 +1,52 @@
+-- What an office was opened on, and what its clerk keeps of it.
+use Rattle.std.specs.Prelude.{◌≡◌, ◌↔◌, ℕ, [], length}
+use Rattle.sector_device.specs.Image.{Image}
+use Rattle.sector_device.specs.Device.{DeviceState}
+use Rattle.sector_device.specs.Crash.{OnlyLooks}
+use Rattle.four_state.specs.Configuration.{Configuration}
+use Rattle.journal_recovery.specs.Recovery.{RecoversTo}
+use Rattle.turn_clerk.specs.Clerk.{ClerkState, KeepsHistory, LeavesAcknowledged, opening_state}
+
+-- Two descriptions of a device say the same of it.
+pub record SayTheSame (one other : DeviceState) : Type 0 where
+  pub reads : one.reads ≡ other.reads
+  pub may_leave : (image : Image) → one.may_leave image ↔ other.may_leave image
+  pub moment : one.moment ≡ other.moment
+  pub left_since : (since : ℕ) (image : Image) → one.left_since since image ↔ other.left_since since image
+  pub honest : one.honest ↔ other.honest
+  pub faults : one.faults ≡ other.faults
+
+-- The clerk is one that was opened on that device, as it was then, with that line: up to its first turn it only looked
+-- at the device, and what it found is what the device's image recovers to.
+pub record WasOpenedOn {D : Type 0} (state : D → DeviceState) (device : DeviceState) (from : Configuration) (clerk : ClerkState D) : Type 0 where
+  pub line : clerk.opening.line ≡ from
+  -- the device has as many sectors as then, and is honest where it was, and only there
+  pub sectors : length (state clerk.journal.device).reads ≡ length device.reads
+  pub stays_honest : device.honest → (state clerk.journal.device).honest
+  pub was_honest : (state clerk.journal.device).honest → device.honest
+  -- on an honest device
+  pub looks : device.honest → OnlyLooks device (state clerk.opening.journal.device)
+  pub recovers : device.honest → RecoversTo (opening_state clerk) device.reads
+
+-- The device comes from a clerk that was opened on that one with that line: its turns are a legal history, and a crash
+-- now leaves the ledger of a prefix of the accepted batches with every acknowledged one.
+pub record WasLeftByClerk {D : Type 0} (state : D → DeviceState) (device : DeviceState) (from : Configuration) (after : D) : Type 0 where
+  pub clerk : ClerkState D
+  pub has : clerk.journal.device ≡ after
+  pub opened : WasOpenedOn state device from clerk
+  pub legal : KeepsHistory clerk
+  pub acknowledged : device.honest → LeavesAcknowledged state clerk
+
+-- What stands for a device and a line where nothing was opened: who opens an office says what is there instead.
+abbrev pub no_device : DeviceState
+no_device = record {
+  reads = [];
+  may_leave = λ _. ⊥;
+  moment = 0;
+  left_since = λ _ _. ⊥;
+  honest = ⊥;
+  faults = 0;
+}
+
+abbrev pub no_line : Configuration
+no_line = record { x = []; up = [] }
