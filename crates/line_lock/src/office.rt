@@ -1,5 +1,5 @@
 //! The office.
-ghost use Rattle.std.specs.Prelude.{◌≡◌, ◌≢◌, ℕ, ◌+◌, ◌-◌, ◌*◌, ◌^◌, ◌<◌, ◌≤◌, ◌↔◌, ◌∷◌, ◌++◌, [], length, map, drop, All, sum_by, IfOk, IfErr, OnOk, OnErr, IsErrAnd, IfSome, IsSomeAnd, Some, Err, vec_len, vec_capacity};
+ghost use Rattle.std.specs.Prelude.{◌≡◌, ◌≢◌, ◌⊎◌, ℕ, ◌+◌, ◌-◌, ◌*◌, ◌^◌, ◌<◌, ◌≤◌, ◌↔◌, ◌∷◌, ◌++◌, [], length, map, drop, All, sum_by, IfOk, IfErr, OnOk, OnErr, IsErrAnd, IfSome, IsSomeAnd, Some, Err, vec_len, vec_capacity};
 ghost use Rattle.std.specs.List.{range_with_len};
 ghost use Rattle.sector_device.specs.Device.{AreCalls};
 ghost use Rattle.sector_device.specs.Crash.{OnlyLooks};
@@ -113,6 +113,7 @@ impl<D: Device, L: Ledger> Office<D, L> {
     ) -> Result<Turn, WithinRefusal>
         ensures station { seat.new.station ≡ seat.old.station }
         ensures reached { result ≡ Err WithinRefusal.Reached → limit ≤ seat.new.reached }
+        ensures no_more { (seat.new.reached ≡ limit) ⊎ (seat.new.reached ≡ seat.old.reached) }
         ensures not_reached { result ≢ Err WithinRefusal.Reached → seat.new.reached ≡ seat.old.reached }
         ensures never_falls { seat.old.reached ≤ seat.new.reached }
         ensures within { IfOk result (λ turn. turn.index < limit) }
