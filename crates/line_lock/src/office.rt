@@ -12,7 +12,7 @@ ghost use Rattle.turn_clerk.specs.History.{moves_of};
 ghost use Rattle.line_lock.specs.Account.{IsBorneOut, seats_of, IsSeatMissing};
 ghost use Rattle.turn_ledger.specs.declared.limits.TheConstants.{BATCH_LIMIT};
 ghost use Rattle.journal_recovery.specs.Refused.{RecoveryRefuses};
-ghost use Rattle.line_lock.specs.Seat.{new_seat, EndsLegalHistory};
+ghost use Rattle.line_lock.specs.Seat.{new_seat, EndsLegalHistory, IsDeniedAfter};
 
 use crate::closing::{CloseRefusal, Closing, audited, gathered, look_at};
 use crate::locked::{Answer, Locked};
@@ -84,6 +84,8 @@ impl<D: Device, L: Ledger> Office<D, L> {
         ensures not_listed { OnErr result (seat.new.turns ≡ seat.old.turns) }
         ensures denied { result ≡ Err TurnRefusal.NotPrivileged
             → IsSomeAnd seat.new.denied (λ held. length seat.old.turns ≤ held) }
+        ensures rightly { result ≡ Err TurnRefusal.NotPrivileged
+            → IsSomeAnd seat.new.denied (IsDeniedAfter seat.old.station) }
         ensures not_denied { result ≢ Err TurnRefusal.NotPrivileged → seat.new.denied ≡ seat.old.denied }
         ensures too_many { result ≡ Err TurnRefusal.TooMany → BATCH_LIMIT < length entries.now }
         ensures there { result ≢ Err TurnRefusal.NoStation }
@@ -125,6 +127,8 @@ impl<D: Device, L: Ledger> Office<D, L> {
         ensures not_listed { OnErr result (seat.new.turns ≡ seat.old.turns) }
         ensures denied { result ≡ Err (WithinRefusal.Turn TurnRefusal.NotPrivileged)
             → IsSomeAnd seat.new.denied (λ held. length seat.old.turns ≤ held) }
+        ensures rightly { result ≡ Err (WithinRefusal.Turn TurnRefusal.NotPrivileged)
+            → IsSomeAnd seat.new.denied (IsDeniedAfter seat.old.station) }
         ensures not_denied { result ≢ Err (WithinRefusal.Turn TurnRefusal.NotPrivileged)
             → seat.new.denied ≡ seat.old.denied }
         ensures too_many { result ≡ Err (WithinRefusal.Turn TurnRefusal.TooMany)
