@@ -1,9 +1,10 @@
 -- A seat at one moment, and what a turn that it is told of is.
-use Rattle.std.specs.Prelude.{ℕ, List, [], ◌∷◌, ◌++◌, Option, None}
+use Rattle.std.specs.Prelude.{◌≡◌, ℕ, List, [], ◌∷◌, ◌++◌, length, Option, None}
 use Rattle.four_state.specs.Configuration.{Configuration}
 use Rattle.journal_recovery.specs.State.{State}
 use Rattle.turn_clerk.specs.declared.turns.Turn.{Turn}
-use Rattle.turn_clerk.specs.History.{IsLegal}
+use Rattle.turn_clerk.specs.Turn.{HasPrivilege}
+use Rattle.turn_clerk.specs.History.{IsLegal, line_after}
 
 pub record SeatState : Type 0 where
   pub station : ℕ
@@ -24,3 +25,12 @@ pub record EndsLegalHistory (turn : Turn) : Type 0 where
   pub state : State
   pub before : List Turn
   pub legal : IsLegal line state (before ++ turn ∷ [])
+
+-- So many turns are a legal history, after which the station has no privilege.
+pub record IsDeniedAfter (station held : ℕ) : Type 0 where
+  pub line : Configuration
+  pub state : State
+  pub turns : List Turn
+  pub legal : IsLegal line state turns
+  pub many : length turns ≡ held
+  pub no_privilege : ¬ HasPrivilege (line_after line turns) station

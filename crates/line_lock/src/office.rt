@@ -1,5 +1,5 @@
 //! The office.
-ghost use Rattle.std.specs.Prelude.{◌≡◌, ◌≢◌, ℕ, ◌+◌, ◌-◌, ◌*◌, ◌^◌, ◌<◌, ◌≤◌, ◌↔◌, ◌∷◌, ◌++◌, [], length, map, drop, All, sum_by, IfOk, IfErr, OnOk, OnErr, IsErrAnd, IfSome, IsSomeAnd, Some, Err, vec_len, vec_capacity};
+ghost use Rattle.std.specs.Prelude.{◌≡◌, ◌≢◌, ◌⊎◌, ℕ, ◌+◌, ◌-◌, ◌*◌, ◌^◌, ◌<◌, ◌≤◌, ◌↔◌, ◌∷◌, ◌++◌, [], length, map, drop, All, sum_by, IfOk, IfErr, OnOk, OnErr, IsErrAnd, IfSome, IsSomeAnd, Some, Err, vec_len, vec_capacity};
 ghost use Rattle.std.specs.List.{range_with_len};
 ghost use Rattle.sector_device.specs.Device.{AreCalls};
 ghost use Rattle.sector_device.specs.Crash.{OnlyLooks};
@@ -13,7 +13,7 @@ ghost use Rattle.line_lock.specs.Account.{IsBorneOut, seats_of, IsSeatMissing};
 ghost use Rattle.turn_ledger.specs.declared.limits.TheConstants.{BATCH_LIMIT};
 ghost use Rattle.journal_recovery.specs.Refused.{RecoveryRefuses};
 ghost use Rattle.line_lock.specs.Opening.{SayTheSame, WasOpenedOn};
-ghost use Rattle.line_lock.specs.Seat.{new_seat, EndsLegalHistory};
+ghost use Rattle.line_lock.specs.Seat.{new_seat, EndsLegalHistory, IsDeniedAfter};
 
 use crate::closing::{CloseRefusal, Closing, audited, gathered, look_at};
 use crate::locked::{Answer, Locked};
@@ -89,6 +89,8 @@ impl<D: Device, L: Ledger + Opening> Office<D, L> {
         ensures not_listed { OnErr result (seat.new.turns ≡ seat.old.turns) }
         ensures denied { result ≡ Err TurnRefusal.NotPrivileged
             → IsSomeAnd seat.new.denied (λ held. length seat.old.turns ≤ held) }
+        ensures rightly { result ≡ Err TurnRefusal.NotPrivileged
+            → IsSomeAnd seat.new.denied (IsDeniedAfter seat.old.station) }
         ensures not_denied { result ≢ Err TurnRefusal.NotPrivileged → seat.new.denied ≡ seat.old.denied }
         ensures too_many { result ≡ Err TurnRefusal.TooMany → BATCH_LIMIT < length entries.now }
         ensures there { result ≢ Err TurnRefusal.NoStation }
@@ -118,6 +120,7 @@ impl<D: Device, L: Ledger + Opening> Office<D, L> {
     ) -> Result<Turn, WithinRefusal>
         ensures station { seat.new.station ≡ seat.old.station }
         ensures reached { result ≡ Err WithinRefusal.Reached → limit ≤ seat.new.reached }
+        ensures no_more { (seat.new.reached ≡ limit) ⊎ (seat.new.reached ≡ seat.old.reached) }
         ensures not_reached { result ≢ Err WithinRefusal.Reached → seat.new.reached ≡ seat.old.reached }
         ensures never_falls { seat.old.reached ≤ seat.new.reached }
         ensures within { IfOk result (λ turn. turn.index < limit) }
@@ -129,6 +132,8 @@ impl<D: Device, L: Ledger + Opening> Office<D, L> {
         ensures not_listed { OnErr result (seat.new.turns ≡ seat.old.turns) }
         ensures denied { result ≡ Err (WithinRefusal.Turn TurnRefusal.NotPrivileged)
             → IsSomeAnd seat.new.denied (λ held. length seat.old.turns ≤ held) }
+        ensures rightly { result ≡ Err (WithinRefusal.Turn TurnRefusal.NotPrivileged)
+            → IsSomeAnd seat.new.denied (IsDeniedAfter seat.old.station) }
         ensures not_denied { result ≢ Err (WithinRefusal.Turn TurnRefusal.NotPrivileged)
             → seat.new.denied ≡ seat.old.denied }
         ensures too_many { result ≡ Err (WithinRefusal.Turn TurnRefusal.TooMany)

@@ -1,18 +1,22 @@
 -- What a run makes of its stations.
-use Rattle.std.specs.Prelude.{◌≡◌, ◌≢◌, ◌<◌, ◌≤◌, ℕ, List, length}
+use Rattle.std.specs.Prelude.{◌≡◌, ◌≢◌, ◌<◌, ◌≤◌, ℕ, List, length, IsSomeAnd}
 use Rattle.std.specs.List.{slice_index_or}
-use Rattle.line_lock.specs.Seat.{SeatState}
-use Rattle.turn_clerk.specs.declared.refusals.TurnRefusal.TheVariants.{Device}
+use Rattle.line_lock.specs.Seat.{SeatState, IsDeniedAfter}
+use Rattle.turn_clerk.specs.declared.refusals.TurnRefusal.TheVariants.{NoStation, NotPrivileged, Device}
 use Rattle.station_desk.specs.declared.end.End.{End}
-use Rattle.station_desk.specs.declared.end.End.TheVariants.{NotStarted, Reached, Refused}
+use Rattle.station_desk.specs.declared.end.End.TheVariants.{NotStarted, Reached, Tries, Refused}
 use Rattle.station_desk.specs.declared.stations.Station.{Station}
 use Rattle.station_desk.specs.Rings.{DeskState}
 use Rattle.station_desk.specs.Worked.{HasWorked}
 
--- A station has worked, and ended: as Reached only where its seat was told that the history holds so many turns.
+-- A station has worked, and ended: as Reached only where its seat was told that the history holds so many turns, as Tries
+-- only where it was told that it isn't its turn, and as Refused never for that, nor as no station of the line.
 pub record HasRun (old new : SeatState) (before after : DeskState) (end : End) (moves : ℕ) : Type 0 where
   pub worked : HasWorked old new before after (end ≡ Refused Device)
   pub reached : end ≡ Reached → moves ≤ new.reached
+  pub tries : end ≡ Tries → IsSomeAnd new.denied (IsDeniedAfter old.station)
+  pub not_denied : end ≢ Refused NotPrivileged
+  pub there : end ≢ Refused NoStation
   pub started : end ≢ NotStarted
 
 -- Each of the stations has run; there are as many, in the same order.

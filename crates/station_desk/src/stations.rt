@@ -1,5 +1,7 @@
 //! Stations that take turns, each in a thread of its own.
-ghost use Rattle.std.specs.Prelude.{◌≡◌, ◌≢◌, ◌+◌, ◌≤◌, ◌↔◌, length, OnOk, OnErr, Err, Some, None};
+ghost use Rattle.std.specs.Prelude.{◌≡◌, ◌≢◌, ◌+◌, ◌≤◌, ◌↔◌, length, OnOk, OnErr, IsSomeAnd, Err, Some, None};
+ghost use Rattle.turn_clerk.specs.declared.refusals.TurnRefusal.{TurnRefusal};
+ghost use Rattle.line_lock.specs.Seat.{IsDeniedAfter};
 ghost use Rattle.station_desk.specs.Worked.{HasWorked};
 ghost use Rattle.station_desk.specs.Run.{HasRun, HaveRun};
 
@@ -35,6 +37,9 @@ fn round<D: Device, L: Ledger + Opening, G: Gate, R: Wait>(
     ensures one_turn { OnOk result (length seat.new.turns ≡ length seat.old.turns + 1) }
     ensures no_turn { OnErr result (seat.new.turns ≡ seat.old.turns) }
     ensures reached { result ≡ Err WithinRefusal.Reached → moves ≤ seat.new.reached }
+    ensures denied { result ≡ Err (WithinRefusal.Turn TurnRefusal.NotPrivileged)
+        → IsSomeAnd seat.new.denied (IsDeniedAfter seat.old.station) }
+    ensures there { result ≢ Err (WithinRefusal.Turn TurnRefusal.NoStation) }
 {
     let entries = desk.gather();
     gate.gathered(seat.station());
@@ -60,7 +65,10 @@ fn end_of(refusal: WithinRefusal) -> Option<End>
     ensures reached { result ≡ Some End.Reached → refusal ≡ WithinRefusal.Reached }
     ensures device { (result ≡ Some (End.Refused TurnRefusal.Device)) ↔ (refusal ≡ WithinRefusal.Turn TurnRefusal.Device) }
     ensures started { result ≢ Some End.NotStarted }
-    ensures none { result ≡ None → refusal ≡ WithinRefusal.Turn TurnRefusal.NotPrivileged }
+    ensures none { (result ≡ None) ↔ (refusal ≡ WithinRefusal.Turn TurnRefusal.NotPrivileged) }
+    ensures refused { (why : TurnRefusal) → result ≡ Some (End.Refused why) → refusal ≡ WithinRefusal.Turn why }
+    ensures stopped { result ≢ Some End.Stopped }
+    ensures tries { result ≢ Some End.Tries }
 {
     match refusal {
         WithinRefusal::Reached => Some(End::Reached),
@@ -87,6 +95,9 @@ fn work<D: Device, L: Ledger + Opening, G: Gate, R: Wait>(
 ) -> End
     ensures worked { HasWorked seat.old seat.new desk.old desk.new (result ≡ End.Refused TurnRefusal.Device) }
     ensures reached { result ≡ End.Reached → moves ≤ seat.new.reached }
+    ensures tries { result ≡ End.Tries → IsSomeAnd seat.new.denied (IsDeniedAfter seat.old.station) }
+    ensures refused { result ≢ End.Refused TurnRefusal.NotPrivileged }
+    ensures there { result ≢ End.Refused TurnRefusal.NoStation }
     ensures started { result ≢ End.NotStarted }
 {
     let mut refused = 0;

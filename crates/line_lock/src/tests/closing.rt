@@ -190,3 +190,30 @@ fn a_list_with_another_turn_is_foreign(rt: HostRuntime) -> Result<(), Fail> {
     let alloc = rt.alloc();
     act::<AnotherTurnInTheList, _>(&rt, alloc, formatted(alloc)?, line(&rt, [0, 0], [1, 0]))
 }
+
+struct NobodyCloses;
+
+impl Scene for NobodyCloses {
+    fn play<L: Ledger + Send + Sync, R: Abort + Wait + Threads + Sync>(
+        rt: &R,
+        office: Office<MemoryDevice, L>,
+        mut seats: Vec<Seat<L>>,
+    ) -> Result<(), Fail> {
+        let mut top = seats.pop().ok_or("the seat of station 1")?;
+        let mut bottom = seats.pop().ok_or("the seat of station 0")?;
+        let first = office.turn(rt, &mut bottom, &[deposit(7)])?;
+        let second = office.turn(rt, &mut top, &[])?;
+
+        // it is the bottom station's turn again
+        let clerk = office.into_clerk();
+        assert!(rt; clerk.history() == [first, second].as_slice());
+        assert_eq!(rt; clerk.opening(), line(rt, [0, 0], [1, 0]));
+        Ok(())
+    }
+}
+
+#[test]
+fn the_clerk_of_an_office_that_nobody_closes_is_as_it_was(rt: HostRuntime) -> Result<(), Fail> {
+    let alloc = rt.alloc();
+    act::<NobodyCloses, _>(&rt, alloc, formatted(alloc)?, line(&rt, [0, 0], [1, 0]))
+}
