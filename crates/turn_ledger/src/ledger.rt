@@ -1,17 +1,21 @@
 //! The ledger.
 ghost use Rattle.std.specs.Prelude.{◌≡◌, ◌<◌, ◌≤◌, ◌↔◌, true, false, length, sum, IfOk, OnOk, OnErr, SomeIff};
 ghost use Rattle.turn_ledger.specs.State.{IsAccount, IsLedger, balance_of, total_of, empty_ledger};
+ghost use Rattle.turn_ledger.specs.AccountList.{accounts_of};
 ghost use Rattle.turn_ledger.specs.Entry.{verdict, posted};
 ghost use Rattle.turn_ledger.specs.Screen.{screened};
 
 use crate::accounts::{Accounts, is_account, post};
 use crate::scratch::Scratch;
-use crate::{ACCOUNTS, ALL_ACCOUNTS, BATCH_LIMIT, Entry, EntryRefusal, TOTAL_LIMIT, Verdicts};
+use crate::{
+    ACCOUNTS, ALL_ACCOUNTS, AccountBalances, BATCH_LIMIT, Entry, EntryRefusal, TOTAL_LIMIT,
+    Verdicts,
+};
 use std::alloc::{AllocError, Global};
 use std::marker::Model;
 
 /// The balances of all accounts, and their total.
-#[derive(Drop)]
+#[derive(Debug, Drop)]
 pub struct Ledger {
     balances: Vec<u64>,
     total: u64,
@@ -86,6 +90,13 @@ impl Ledger {
         } else {
             None
         }
+    }
+
+    /// All accounts, account 1 first, each with what it holds.
+    pub fn accounts(&self) -> AccountBalances<'_>
+        ensures { result ≡ accounts_of self.now }
+    {
+        AccountBalances::of(self)
     }
 
     /// What all accounts hold together.

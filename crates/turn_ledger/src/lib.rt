@@ -6,6 +6,7 @@
 //! [`EntryRefusal`] that holds, which changes nothing, or posted.
 #![tactic(auto)]
 
+mod account_balances;
 mod accounts;
 mod batch;
 mod entry;
@@ -19,6 +20,7 @@ mod scratch;
 mod tests;
 mod verdicts;
 
+pub use account_balances::AccountBalances;
 pub use batch::Batch;
 pub use entry::Entry;
 pub use laws::{
