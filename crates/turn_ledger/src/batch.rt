@@ -42,7 +42,7 @@ impl Model for Batch {
 }
 
 impl Batch {
-    /// The batch of these entries.
+    /// The batch of these entries, [`BATCH_LIMIT`] at most.
     pub fn of(entries: &[Entry]) -> Batch
         requires { length entries.now ≤ BATCH_LIMIT }
         ensures { result ≡ entries.now }
@@ -98,7 +98,7 @@ impl Batch {
         &self.entries[..self.count]
     }
 
-    /// The number of entries.
+    /// The number of entries: at most [`BATCH_LIMIT`].
     pub fn len(&self) -> usize
         ensures value { result ≡ length self.now }
         ensures small { length self.now ≤ BATCH_LIMIT }

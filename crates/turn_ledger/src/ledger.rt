@@ -33,7 +33,7 @@ impl Model for Ledger {
 }
 
 impl Ledger {
-    /// The empty ledger: every account at zero.
+    /// The empty ledger: every account at zero. It fails only for want of memory.
     #[tactic(auto, unfolding(crate::specs::State::empty_ledger))]
     pub fn new(alloc: Global) -> Result<Ledger, AllocError>
         ensures { IfOk result (λ ledger. ledger ≡ empty_ledger) }
@@ -99,7 +99,7 @@ impl Ledger {
         AccountBalances::of(self)
     }
 
-    /// What all accounts hold together.
+    /// What all accounts hold together: at most [`TOTAL_LIMIT`].
     pub fn total(&self) -> u64
         ensures value { result ≡ total_of self.now }
         ensures ledger { IsLedger self.now }
@@ -107,7 +107,7 @@ impl Ledger {
         self.held_by_all()
     }
 
-    /// Posts an entry, or refuses it with the first rule that it breaks.
+    /// Posts an entry, or refuses it with the first rule that it breaks, and then nothing has changed.
     pub fn post(&mut self, entry: &Entry) -> Result<(), EntryRefusal>
         ensures answer { result ≡ verdict self.old entry.now }
         ensures ok { OnOk result (self.new ≡ posted self.old entry.now) }
@@ -116,7 +116,7 @@ impl Ledger {
         post(self, entry)
     }
 
-    /// The verdicts of a list of entries, each judged after the accepted ones before it. Nothing is
+    /// The verdicts of a list of at most [`BATCH_LIMIT`] entries, each judged after the accepted ones before it. Nothing is
     /// posted.
     pub fn screen(&self, entries: &[Entry]) -> Verdicts
         requires { length entries.now ≤ BATCH_LIMIT }

@@ -4,6 +4,8 @@
 //! together never exceeds [`TOTAL_LIMIT`]. An [`Entry`] is a deposit, a withdrawal or a transfer;
 //! it is checked against the rules in their order, and either refused with the first
 //! [`EntryRefusal`] that holds, which changes nothing, or posted.
+//!
+//! The test `an_example_of_a_turn` in `src/tests.rt` is an example.
 #![tactic(auto)]
 
 mod account_balances;

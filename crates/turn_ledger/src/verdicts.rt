@@ -57,7 +57,7 @@ impl Verdicts {
         self.count += 1;
     }
 
-    /// The number of verdicts.
+    /// The number of verdicts: at most [`BATCH_LIMIT`].
     pub fn len(&self) -> usize
         ensures value { result ≡ length self.now }
         ensures small { length self.now ≤ BATCH_LIMIT }
