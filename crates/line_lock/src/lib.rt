@@ -1,4 +1,6 @@
 //! One office for several counters: a clerk behind one lock, and a seat for each station of the line.
+//!
+//! The test `turns_are_listed_and_refusals_noted` in `src/tests/turns.rt` is an example.
 #![tactic(auto)]
 
 mod closing;
@@ -6,6 +8,7 @@ mod locked;
 mod office;
 mod refusals;
 mod seat;
+mod shown;
 
 pub use closing::{CloseRefusal, Closing};
 pub use four_state::{Line, Rule};
