@@ -19,7 +19,7 @@ pub use sector_device::Device;
 pub use std::sync::ledger::{Blank, Ledger};
 pub use sweep_auditor::Audit;
 pub use turn_clerk::{Clerk, OpenRefusal, Turn, TurnRefusal};
-pub use turn_ledger::Entry;
+pub use turn_ledger::{BATCH_LIMIT, Entry};
 
 #[cfg(test)]
 mod tests;

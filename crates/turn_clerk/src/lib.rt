@@ -21,7 +21,7 @@ pub use laws::{lives_in_a_row, lives_join};
 pub use refusals::TurnRefusal;
 pub use sector_device::Device;
 pub use sweep_auditor::Move;
-pub use turn_ledger::{Batch, Entry, EntryRefusal, Ledger, Verdicts};
+pub use turn_ledger::{BATCH_LIMIT, Batch, Entry, EntryRefusal, Ledger, Verdicts};
 pub use turns::Turn;
 
 #[cfg(test)]
