@@ -11,7 +11,7 @@ use std::marker::Model;
 
 /// A device that fails from one call on: the k-th call of a kind, counted from 0 since it was made, and every later
 /// call of any kind fail without reaching the inner device. It is honest exactly where the inner device is.
-#[derive(Drop)]
+#[derive(Debug, Drop)]
 pub struct Fuse<D: Device> {
     inner: D,
     op: Op,

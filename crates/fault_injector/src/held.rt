@@ -19,7 +19,7 @@ const LOOKS: u32 = 10_000_000;
 const LOOKS_IN_A_ROW: u32 = 10_000;
 
 /// The two flags between a held sync and whoever lets it go. Nothing is claimed of them.
-#[derive(Drop)]
+#[derive(Debug, Default, Drop)]
 pub struct HeldFlags {
     /// The sync has begun.
     pub begun: AtomicBool,
@@ -30,10 +30,7 @@ pub struct HeldFlags {
 impl HeldFlags {
     /// Both flags down.
     pub fn new() -> HeldFlags {
-        HeldFlags {
-            begun: AtomicBool::new(false),
-            go: AtomicBool::new(false),
-        }
+        HeldFlags::default()
     }
 
     // Raises the one flag, and looks for the other.
@@ -54,7 +51,7 @@ impl HeldFlags {
 /// A device whose k-th sync, counted from 0 since it was made, waits for a leave: it raises the flag `begun`, and looks
 /// for the flag `go` at most 10,000,000 times. Where it sees it the sync is passed on, else it fails without reaching
 /// the inner device. Every other call is passed on. The device is honest exactly where the inner device is.
-#[derive(Drop)]
+#[derive(Debug, Drop)]
 pub struct Held<D: Device> {
     inner: D,
     at: u64,

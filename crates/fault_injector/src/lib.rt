@@ -1,4 +1,6 @@
 //! Devices that fail on demand, under the laws of devices, for tests of what stands above them.
+//!
+//! The test `a_fuse_fails_from_its_call_on` in `src/tests.rt` is an example.
 #![tactic(auto)]
 
 mod fuse;

@@ -11,7 +11,7 @@ use std::marker::Model;
 
 /// A device that fails once: the k-th call of a kind, counted from 0 since it was made, fails without reaching the inner
 /// device, and every other call is passed on. It is honest exactly where the inner device is.
-#[derive(Drop)]
+#[derive(Debug, Drop)]
 pub struct OneFault<D: Device> {
     inner: D,
     op: Op,

@@ -16,7 +16,9 @@ const BEFORE: u64 = 8;
 
 /// Room for the 256 sectors that a `ReadAhead` reads in one call.
 #[derive(Drop)]
+#[derive_where(Debug)]
 pub struct ReadBuffer {
+    #[derive_where(skip)]
     sectors: Vec<Sector>,
     first: u64,
     held: usize,

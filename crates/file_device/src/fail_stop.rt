@@ -13,7 +13,7 @@ use std::marker::Model;
 ///
 /// After a failed sync a system may have dropped what was written, keep showing it, and answer the next sync with
 /// success, so nothing that the inner device says from then on is handed on.
-#[derive(Drop)]
+#[derive(Debug, Drop)]
 pub struct FailStop<D: Device> {
     inner: D,
     stopped: bool,

@@ -3,6 +3,8 @@
 //! `FileDevice` is a device on a file of the system. No contract speaks of what a real file holds. What is promised is
 //! that every call is safe and ends, that failures are counted, and that after a failed sync every later call fails.
 //! `ReadAhead` is the buffer that its reads go through: over any device it gives what that device gives.
+//!
+//! The test `reads_see_what_was_written` in `src/tests.rt` is an example.
 #![tactic(auto)]
 
 mod buffer;

@@ -12,7 +12,7 @@ use std::marker::Model;
 /// A read of a sector that the buffer doesn't hold fills it with the 256 sectors from the eighth before that one on.
 /// Where they can't be read, that sector alone is. A write to a sector that the buffer holds empties it, and so does a
 /// call that fails. No call takes memory.
-#[derive(Drop)]
+#[derive(Debug, Drop)]
 pub struct ReadAhead<D: ReadRun> {
     inner: D,
     buffer: ReadBuffer,

@@ -11,7 +11,7 @@ use std::os::unix::fs::FileExt;
 
 /// The sectors of an open file: the system's own calls, with a count of their failures. Contracts know nothing else of
 /// the file; it is honest nowhere.
-#[derive(Drop)]
+#[derive(Debug, Drop)]
 pub struct SectorFile {
     file: File,
     sectors: u64,

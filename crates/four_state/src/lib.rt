@@ -4,6 +4,8 @@
 //!
 //! Contracts see a [`Line`] as a configuration: the list of the bits x and the list of the bits up,
 //! each from the bottom station to the top one.
+//!
+//! The test `an_example_of_a_move` in `src/tests.rt` is an example.
 #![tactic(auto)]
 
 mod bits;

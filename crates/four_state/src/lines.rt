@@ -12,6 +12,7 @@ ghost use Rattle.four_state.specs.declared.rules.Rule.{Rule};
 use crate::bits::{is_set, packed, with_bit};
 use crate::refusals::LineRefusal;
 use crate::rules::Rule;
+use std::fmt;
 use std::marker::Model;
 
 // The places of the two words.
@@ -21,7 +22,7 @@ const UP: usize = 1;
 
 /// A line of 2 to 64 stations, each with two bits. The bottom station's up is always true, and the
 /// top one's always false.
-#[derive(Clone, Copy, Debug, PartialEq, Eq)]
+#[derive(Clone, Copy, Debug, PartialEq, Eq, Hash)]
 pub struct Line {
     stations: u8,
     // the bits x in one word and the bits up in another: bit s is that of station s, all other bits
@@ -49,6 +50,9 @@ impl Model for Line {
 impl Line {
     /// The line of `n` stations with these bits, each list from the bottom station to the top one.
     /// The first and the last bit of `up` are ignored: they are set to true and false.
+    ///
+    /// # Errors
+    /// [`LineRefusal::Stations`] unless `n` is 2 to 64; then [`LineRefusal::Length`] unless each list has `n` bits.
     pub fn from_bits(n: u64, x: &[bool], up: &[bool]) -> Result<Line, LineRefusal>
         ensures stations { (result ≡ Err LineRefusal.Stations) ↔ ((n < 2) ⊎ (64 < n)) }
         ensures length { (result ≡ Err LineRefusal.Length)
@@ -95,7 +99,7 @@ impl Line {
         &self.words
     }
 
-    /// How many stations stand in the line.
+    /// How many stations stand in the line: 2 to 64. The bottom one has number 0.
     pub fn stations(&self) -> u8
         ensures count { result ≡ stations self.now }
         ensures line { IsLine self.now }
@@ -103,7 +107,7 @@ impl Line {
         self.stations
     }
 
-    /// The bit x of a station.
+    /// The bit x of a station of the line.
     pub fn x(&self, station: u8) -> bool
         requires { station < stations self.now }
         ensures { result ≡ x_at self.now station }
@@ -111,7 +115,7 @@ impl Line {
         is_set(self.words[X], station as usize)
     }
 
-    /// The bit up of a station.
+    /// The bit up of a station of the line.
     pub fn up(&self, station: u8) -> bool
         requires { station < stations self.now }
         ensures { result ≡ up_at self.now station }
@@ -154,7 +158,7 @@ impl Line {
         }
     }
 
-    /// How many privileges are present.
+    /// How many privileges are present: at least one.
     pub fn privileges(&self) -> u8
         ensures number { result ≡ length (privileges_of self.now) }
         ensures at_least_one { 1 ≤ result }
@@ -171,7 +175,7 @@ impl Line {
         self.privileges() == 1
     }
 
-    /// Makes the move of a station by a rule for which it has a privilege.
+    /// Makes the move of a station by a rule for which it has a privilege. The other bits stay.
     pub fn make_move(&mut self, station: u8, rule: Rule)
         requires { IsPrivilege self.old station rule }
         ensures moved { self.new ≡ moved self.old station rule }
@@ -253,4 +257,24 @@ impl Line {
     {
         (1 << (self.stations - 1)) - 1
     }
+}
+
+/// The bits x, a slash, and the bits up, each from the bottom station to the top one.
+impl fmt::Display for Line {
+    fn fmt<W: fmt::Write>(&self, f: &mut fmt::Formatter<W>) -> fmt::Result {
+        let [x, up] = self.words;
+        write_bits(x, self.stations(), f)?;
+        f.write_str("/")?;
+        write_bits(up, self.stations(), f)
+    }
+}
+
+// The first bits of a word as digits, bit 0 first.
+fn write_bits<W: fmt::Write>(word: u64, count: u8, f: &mut fmt::Formatter<W>) -> fmt::Result
+    requires { count ≤ 64 }
+{
+    for place in 0..count as usize {
+        f.write_str(if is_set(word, place) { "1" } else { "0" })?;
+    }
+    Ok(())
 }

@@ -104,6 +104,23 @@ fn refusals_read_as_sentences(rt: HostRuntime) -> Result<(), std::test::Fail> {
 }
 
 #[test]
+fn an_example_of_a_move(rt: HostRuntime) -> Result<(), std::test::Fail> {
+    let alloc = rt.alloc();
+    let bits = [false, false, false];
+    let mut line = Line::from_bits(3, &bits, &bits).expect(&rt, "three stations");
+    let before = format!(in alloc; "{line}")?;
+    assert_eq!(rt; before.as_str(), "000/100");
+    assert!(rt; line.stations() == 3 && line.is_legitimate());
+    let rule = line.privilege(0).expect(&rt, "the bottom station's turn");
+    let name = format!(in alloc; "{rule}")?;
+    assert_eq!(rt; name.as_str(), "Bottom");
+    line.make_move(0, rule);
+    let after = format!(in alloc; "{line}")?;
+    assert_eq!(rt; after.as_str(), "100/100");
+    Ok(())
+}
+
+#[test]
 fn three_stations_sweep_up_and_down(rt: HostRuntime) {
     let mut at = line(&rt, b"000", b"100");
     let sweep = [

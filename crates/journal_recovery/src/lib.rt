@@ -1,5 +1,7 @@
 //! What a device holds, as a ledger: the journal is opened, and its records are posted in order to the balances of its
 //! snapshot.
+//!
+//! The test `an_acknowledged_deposit_outlives_a_power_loss` in `src/tests.rt` is an example.
 #![tactic(auto)]
 
 mod laws;
@@ -7,11 +9,11 @@ mod recovery;
 mod refusals;
 mod replay;
 
-pub use gate_journal::{Journal, Record};
+pub use gate_journal::{Journal, JournalCause, JournalRefusal, Record};
 pub use laws::one_recovery;
 pub use recovery::{Recovered, recover};
 pub use refusals::{Cause, OpenRefusal};
-pub use sector_device::Device;
+pub use sector_device::{Device, DeviceFault};
 pub use turn_ledger::Ledger;
 
 #[cfg(test)]

@@ -8,16 +8,22 @@ use thiserror::Error;
 /// that holds of the device's image, and a device call that fails ends the opening where it is met.
 #[derive(Clone, Copy, Debug, PartialEq, Eq, Error)]
 pub enum OpenRefusal {
+    /// There is no memory for the ledger. The device wasn't called.
     #[error("out of memory")]
     Memory,
+    /// The first sector doesn't begin with `TLDG`, or it is of this layout and no superblock.
     #[error("the device is not formatted")]
     Unformatted,
+    /// The journal has another layout than 2: this one.
     #[error("the device has version {0}")]
     Version(u16),
+    /// The superblock tells of no slots or of more than 1,000,000, or the device has too few sectors for them.
     #[error("the number of slots is wrong for the device")]
     Size,
+    /// A slot, counted from 0 in the live bank, or a bank, is damaged: the first that is, for this cause.
     #[error("damage at {slot}: {cause}")]
     Damaged { slot: u64, cause: Cause },
+    /// A call of the device failed; nothing is known of the journal.
     #[error("the device failed")]
     Device,
 }
@@ -26,16 +32,23 @@ pub enum OpenRefusal {
 /// counted from 0.
 #[derive(Clone, Copy, Debug, PartialEq, Eq, Error)]
 pub enum Cause {
+    /// The gate is open and the body's bytes are no record.
     #[error("the slot's body is no record")]
     Header,
+    /// The body is a record, of another sequence number than the slot's own.
     #[error("the slot's record has another sequence")]
     Sequence,
+    /// The gate is open, and that of a slot before it isn't.
     #[error("the slot is open behind a closed one")]
     Tail,
+    /// No bank's gate is open, the head of an open one isn't sound, both are open with the same epoch, or the live one's
+    /// balances are over the limit together.
     #[error("no bank is live, or the one of this number isn't sound")]
     Bank,
+    /// The bytes at this place of the record are those of no entry.
     #[error("place {0} is no entry")]
     Entry(u8),
+    /// The entry at this place of the record has no yes on the ledger before it.
     #[error("the entry at place {0} breaks a rule of the ledger")]
     Verdict(u8),
 }

@@ -17,8 +17,11 @@ use turn_clerk::{Clerk, Turn};
 
 /// A closed office: the clerk that it had, and the audit of the clerk's opening line and all its moves.
 #[derive(Drop)]
+#[derive_where(Debug)]
 pub struct Closing<D: Device> {
+    /// The clerk, with the history of its whole life.
     pub clerk: Clerk<D>,
+    /// From which turn on one station alone was privileged, and the last line.
     pub audit: Audit,
 }
 

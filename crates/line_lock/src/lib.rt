@@ -1,4 +1,6 @@
 //! One office for several counters: a clerk behind one lock, and a seat for each station of the line.
+//!
+//! The test `turns_are_listed_and_refusals_noted` in `src/tests/turns.rt` is an example.
 #![tactic(auto)]
 
 mod closing;
@@ -7,6 +9,7 @@ mod office;
 mod opening;
 mod refusals;
 mod seat;
+mod shown;
 
 pub use closing::{CloseRefusal, Closing};
 pub use four_state::{Line, Rule};
@@ -18,7 +21,7 @@ pub use sector_device::Device;
 pub use std::sync::ledger::{Blank, Ledger};
 pub use sweep_auditor::Audit;
 pub use turn_clerk::{Clerk, OpenRefusal, Turn, TurnRefusal};
-pub use turn_ledger::Entry;
+pub use turn_ledger::{BATCH_LIMIT, Entry};
 
 #[cfg(test)]
 mod tests;

@@ -28,9 +28,13 @@ use std::thread::Threads;
 /// A day that is over: the clerk of the closed office, the audit of its opening line and all its moves, and what became
 /// of each station's requests, station 0 first.
 #[derive(Drop)]
+#[derive_where(Debug)]
 pub struct Day<D: Device> {
+    /// The clerk of the closed office, with the day's history.
     pub clerk: Clerk<D>,
+    /// From which turn on one station alone was privileged, and the last line.
     pub audit: Audit,
+    /// What became of each station's requests.
     pub stations: Vec<StationDay>,
 }
 

@@ -11,7 +11,7 @@ pub const HELD_LIMIT: usize = 16;
 
 /// What one station holds, seen as the list of its entries. Its places are reserved when it is made, so that keeping an
 /// entry takes no memory.
-#[derive(Drop)]
+#[derive(Debug, Drop)]
 pub struct HeldEntries {
     entries: Vec<Entry>,
 }

@@ -9,7 +9,7 @@ use station_desk::{Answer, Ask, End, Feed, reconcile};
 use std::alloc::{AllocError, Global};
 
 /// What became of a station's requests in a day.
-#[derive(Drop)]
+#[derive(Debug, Drop)]
 pub struct StationDay {
     /// How the station ended.
     pub end: End,

@@ -6,7 +6,7 @@ use thiserror::Error;
 #[derive(Clone, Copy, Debug, PartialEq, Eq, Error)]
 pub enum DayRefusal {
     /// There isn't enough memory.
-    #[error("not enough memory")]
+    #[error("out of memory")]
     Memory,
     /// The office can't be opened.
     #[error("{0}")]

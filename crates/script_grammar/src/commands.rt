@@ -18,7 +18,7 @@ use turn_ledger::Entry;
 pub const DAY_LIMIT: u64 = 100_000;
 
 /// What a line of a script asks for.
-#[derive(Clone, Copy)]
+#[derive(Clone, Copy, Debug)]
 pub enum Command {
     /// `format K`: make the device an empty journal of K slots.
     Format { slots: NonZeroU64 },

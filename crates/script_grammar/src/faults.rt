@@ -7,6 +7,7 @@ pub enum LineFault {
     /// The first word is no command, or the third word of `post` no kind of entry.
     #[error("unknown command")]
     UnknownCommand,
+    /// The command has fewer or more words than it takes.
     #[error("wrong number of words")]
     WrongNumberOfWords,
     /// A word that should be a number is none, or out of range.

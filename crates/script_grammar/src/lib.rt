@@ -2,6 +2,8 @@
 //!
 //! A script is bytes. [`Lines`] gives its lines one after another, and [`read_command`] reads a line: it answers the
 //! [`Command`], none where the line says nothing, or the first [`LineFault`] that holds.
+//!
+//! The test `each_command_is_read` in `src/tests.rt` is an example.
 #![tactic(auto)]
 
 mod commands;
@@ -14,4 +16,5 @@ mod words;
 pub use commands::{Command, DAY_LIMIT, read_command};
 pub use faults::LineFault;
 pub use numbers::Bits;
+pub use turn_ledger::Entry;
 pub use words::Lines;

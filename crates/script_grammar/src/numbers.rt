@@ -21,7 +21,7 @@ pub fn read_number(word: &[u8]) -> Option<u64>
 const MOST_BITS: usize = 65;
 
 /// A list of bits, of which the first 65 are kept: more than any line of stations has.
-#[derive(Clone, Copy)]
+#[derive(Clone, Copy, Debug)]
 pub struct Bits {
     places: [bool; MOST_BITS],
     count: usize,

@@ -7,7 +7,7 @@ use std::marker::Model;
 
 /// The lines of a script, seen as their list, without their ends: a line feed, and one carriage return before it. What
 /// stands behind the last line feed is a line too, unless it is empty.
-#[derive(Drop)]
+#[derive(Debug, Drop)]
 pub struct Lines<'a> {
     rest: &'a [u8],
 }
@@ -60,7 +60,7 @@ fn without_return(line: &[u8]) -> &[u8]
 }
 
 /// The words of a line, seen as their list: what stands between its spaces.
-#[derive(Drop)]
+#[derive(Debug, Drop)]
 pub struct Words<'a> {
     rest: &'a [u8],
 }

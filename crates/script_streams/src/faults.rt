@@ -11,6 +11,7 @@ pub enum StreamFault {
     /// Output couldn't be written: the writer took no byte, was interrupted too often, or met another fault.
     #[error("write failed")]
     Write,
+    /// There is no memory for the script or the output.
     #[error("out of memory")]
     Memory,
     /// The script has more than 16,777,216 bytes.

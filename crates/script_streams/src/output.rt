@@ -6,6 +6,7 @@ use crate::faults::StreamFault;
 use std::alloc::{AllocError, Global};
 use std::io::Write;
 use std::{fmt, io};
+use thiserror::Error;
 
 /// How many calls of a writer in a row may be interrupted: the first and those that try it again.
 const TRIES: u32 = 1_001;
@@ -14,7 +15,8 @@ const TRIES: u32 = 1_001;
 const FULL: usize = 65_536;
 
 /// The writer failed: it took no byte, was interrupted too often, or met another fault.
-#[derive(Clone, Copy)]
+#[derive(Clone, Copy, Debug, PartialEq, Eq, Error)]
+#[error("write failed")]
 pub struct WriteFault;
 
 impl From<WriteFault> for StreamFault {
@@ -63,7 +65,9 @@ fn write_some<W: Write>(writer: &mut W, bytes: &[u8]) -> Result<usize, WriteFaul
 
 /// Lines on their way to a writer.
 #[derive(Drop)]
+#[derive_where(Debug)]
 pub struct Output<'a, W: Write> {
+    #[derive_where(skip)]
     writer: &'a mut W,
     text: String,
 }

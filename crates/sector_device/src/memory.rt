@@ -31,6 +31,7 @@ impl fmt::Debug for Call {
 /// sector counts, and picks for sectors that aren't pending are ignored.
 #[derive(Debug, Drop)]
 pub struct Picks {
+    /// The number of a sector, counted from 0, and the bytes that it is to have.
     pub list: Vec<(u64, Sector)>,
 }
 

@@ -3,6 +3,8 @@
 //!
 //! A client has a [`Feed`]: it submits entries, each under a ticket, and collects the answers. A station has a [`Desk`]:
 //! it gathers requests, takes a turn with their entries, and answers each of them, once.
+//!
+//! The test `a_turn_answers_what_was_gathered` in `src/tests.rt` is an example.
 #![tactic(auto)]
 
 mod desk_end;
@@ -14,15 +16,18 @@ mod held;
 mod messages;
 mod reconciling;
 mod rings;
+mod shown;
 mod stations;
 
 pub use desk_end::Desk;
 pub use end::End;
 pub use feed::Feed;
 pub use gate::Gate;
+pub use line_lock::{Ledger, Office, Seat};
 pub use messages::{Answer, Ask, Outcome};
 pub use reconciling::{Reconciled, reconcile};
 pub use rings::desk;
+pub use sector_device::Device;
 pub use stations::{Station, run_stations};
 pub use turn_clerk::{Turn, TurnRefusal};
 pub use turn_ledger::{Entry, EntryRefusal};

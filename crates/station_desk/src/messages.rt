@@ -6,6 +6,7 @@ use turn_ledger::{Entry, EntryRefusal};
 pub struct Ask {
     /// How many requests its feed submitted before it.
     pub ticket: u64,
+    /// What the client asks.
     pub entry: Entry,
 }
 
@@ -16,6 +17,7 @@ pub struct Answer {
     pub ticket: u64,
     /// The entry of the request.
     pub entry: Entry,
+    /// What became of it.
     pub outcome: Outcome,
 }
 

@@ -12,7 +12,7 @@ use std::alloc::{AllocError, Global};
 use turn_ledger::BATCH_LIMIT;
 
 /// The requests of a feed and what its desk made of them.
-#[derive(Drop)]
+#[derive(Debug, Drop)]
 pub struct Reconciled {
     /// How many requests were submitted.
     pub submitted: u64,

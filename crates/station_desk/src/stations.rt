@@ -17,8 +17,11 @@ use turn_clerk::TurnRefusal;
 
 /// A station: its seat in the office, its desk, and how its last run ended.
 #[derive(Drop)]
+#[derive_where(Debug)]
 pub struct Station<L: Ledger> {
+    /// Its right to take turns, and those that it took.
     pub seat: Seat<L>,
+    /// Where its clients' requests come in and the answers go out.
     pub desk: Desk,
     /// [`End::NotStarted`] until a run sets it.
     pub end: End,

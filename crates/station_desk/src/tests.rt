@@ -51,6 +51,8 @@ fn full_rings_and_a_desk_that_gives_up(rt: HostRuntime) -> Result<(), Fail> {
     assert_eq!(rt; feed.submit(deposit(7)), Ok(2));
     // There are two places for answers, and both are spoken for.
     assert_eq!(rt; desk.gather(), both.as_slice());
+    let shown = format!(in alloc; "{feed:?} {desk:?}")?;
+    assert_eq!(rt; shown.as_str(), "Feed { next: 3, .. } Desk { held: 2, .. }");
     desk.give_up();
     assert_eq!(rt; feed.answer(), undecided(0, 5));
     assert_eq!(rt; feed.answer(), undecided(1, 6));

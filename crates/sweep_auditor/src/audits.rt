@@ -11,6 +11,9 @@ use four_state::Line;
 
 /// Goes through the moves from the start. The start has index 0, and the configuration after i moves
 /// has index i.
+///
+/// # Errors
+/// The first move that is no privilege of the configuration before it.
 // A call of its own, so that the loop has all registers wherever it is called from.
 #[inline(never)]
 pub fn audit(start: Line, moves: &[Move]) -> Result<Audit, AuditRefusal>

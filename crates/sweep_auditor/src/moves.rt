@@ -4,9 +4,11 @@ use four_state::{Line, Rule};
 use thiserror::Error;
 
 /// A station and the rule by which it moves.
-#[derive(Clone, Copy, Debug, PartialEq, Eq)]
+#[derive(Clone, Copy, Debug, PartialEq, Eq, Hash)]
 pub struct Move {
+    /// The station's number; the bottom station has number 0.
     pub station: u8,
+    /// The rule by which it moves.
     pub rule: Rule,
 }
 
@@ -22,6 +24,7 @@ pub struct Audit {
 /// Why a list of moves is no run.
 #[derive(Clone, Copy, Debug, PartialEq, Eq, Error)]
 pub enum AuditRefusal {
-    #[error("move {index} is no privilege at its place")]
+    /// The first move that can't be made: at its place the station has no privilege by that rule. Moves are counted from 0.
+    #[error("the station of move {index} may not move by its rule there")]
     NotEnabled { index: usize },
 }

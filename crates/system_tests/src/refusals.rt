@@ -59,7 +59,10 @@ fn refusals_of_formatting_appending_and_reading_have_texts(rt: HostRuntime) -> R
         &rt,
         rt.alloc(),
         &[
-            (FormatRefusal::TooManySlots, "more than 1000000 slots"),
+            (
+                FormatRefusal::TooManySlots,
+                "a bank has at most 1000000 slots",
+            ),
             (
                 FormatRefusal::TooSmall,
                 "the device has too few sectors for the slots",
@@ -79,7 +82,10 @@ fn refusals_of_formatting_appending_and_reading_have_texts(rt: HostRuntime) -> R
                 AppendRefusal::Exhausted,
                 "there are no more sequence numbers",
             ),
-            (AppendRefusal::Full, "no slot is free"),
+            (
+                AppendRefusal::Full,
+                "each slot of the live bank holds a record",
+            ),
             (AppendRefusal::Device, "the device failed"),
         ],
     )?;
@@ -213,7 +219,7 @@ fn refusals_of_a_day_have_texts(rt: HostRuntime) -> Result<(), Fail> {
         &rt,
         rt.alloc(),
         &[
-            (Memory, "not enough memory"),
+            (Memory, "out of memory"),
             (
                 Opening(OpenRefusal::Unformatted),
                 "the device is not formatted",

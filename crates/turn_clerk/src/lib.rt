@@ -1,5 +1,7 @@
 //! The clerk of one ledger: it takes the turns of stations, journals what it accepts before it answers, and keeps the
 //! history since its opening.
+//!
+//! The test `a_run_answers_each_event_in_order` in `src/tests.rt` is an example.
 #![tactic(auto)]
 
 mod batches;
@@ -19,7 +21,7 @@ pub use laws::{lives_in_a_row, lives_join};
 pub use refusals::TurnRefusal;
 pub use sector_device::Device;
 pub use sweep_auditor::Move;
-pub use turn_ledger::{Batch, Entry, EntryRefusal, Ledger, Verdicts};
+pub use turn_ledger::{BATCH_LIMIT, Batch, Entry, EntryRefusal, Ledger, Verdicts};
 pub use turns::Turn;
 
 #[cfg(test)]

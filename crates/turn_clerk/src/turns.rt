@@ -10,9 +10,11 @@ use turn_ledger::{BATCH_LIMIT, Batch, Entry, Verdicts};
 pub struct Turn {
     /// Its place in the history since the opening, counted from 0.
     pub index: u64,
+    /// The number of the station that took it; the bottom station has number 0.
     pub station: u8,
     /// The rule by which the station moved.
     pub rule: Rule,
+    /// What its clients asked, in order, the refused entries too.
     pub entries: Batch,
     /// What became of each entry, in order.
     pub verdicts: Verdicts,

@@ -20,7 +20,9 @@ use turn_ledger::Entry;
 /// The console where a script has come to: with its device alone, or with an office open on it.
 #[derive(Drop)]
 pub enum Console<D: Device> {
+    /// No office is open; this is the device.
     Closed(D),
+    /// An office is open, with its clerk.
     Open(ScriptedClerk<D>),
 }
 

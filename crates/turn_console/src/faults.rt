@@ -14,6 +14,7 @@ pub enum ScriptFault {
     /// Output couldn't be written.
     #[error("write failed")]
     Write,
+    /// There was no memory for what a command or the script needs.
     #[error("out of memory")]
     Memory,
     /// The script has more than 16,777,216 bytes.
@@ -30,6 +31,7 @@ pub enum ProgramFault {
     /// The file that is the device couldn't be opened, made or grown.
     #[error("device failed")]
     Device,
+    /// The script ended early.
     #[error("{0}")]
     Script(ScriptFault),
 }

@@ -1,14 +1,13 @@
 //! What commands print.
-use crate::names::{name_of_end, name_of_entry, name_of_rule};
+use crate::names::EndName;
 use crate::refusals::Refusal;
 use crate::script_day::DayReport;
 use four_state::Line;
 use office_day::{Answer, Outcome};
 use script_streams::{Output, StreamFault};
-use std::fmt;
 use std::io::Write;
 use turn_clerk::Turn;
-use turn_ledger::{ACCOUNTS, Ledger};
+use turn_ledger::Ledger;
 
 /// The line of a refusal.
 pub fn print_refusal<W: Write>(
@@ -28,19 +27,16 @@ pub fn print_turn<W: Write>(turn: &Turn, output: &mut Output<'_, W>) -> Result<(
         posted,
         ..
     } = *turn;
-    let rule = name_of_rule(rule);
     match posted {
         Some(sequence) => {
             output.line(format_args!("turn {index} station {station} {rule} posted {sequence}"))?;
         }
         None => output.line(format_args!("turn {index} station {station} {rule} empty"))?,
     }
-    for place in 0..verdicts.len() {
-        match verdicts.get(place) {
-            Some(Err(refusal)) => {
-                output.line(format_args!("entry {place} {}", name_of_entry(refusal)))?;
-            }
-            _ => output.line(format_args!("entry {place} ok"))?,
+    for (place, verdict) in verdicts.iter().enumerate() {
+        match verdict {
+            Ok(()) => output.line(format_args!("entry {place} ok"))?,
+            Err(refusal) => output.line(format_args!("entry {place} {refusal:?}"))?,
         }
     }
     Ok(())
@@ -61,7 +57,7 @@ pub fn print_day<W: Write>(
         None => output.line(format_args!("day {count} legitimate never"))?,
     }
     for (station, told) in day.stations.iter().enumerate() {
-        let end = name_of_end(told.end);
+        let end = EndName(told.end);
         output.line(format_args!("station {station} {end}"))?;
     }
     for (station, told) in day.stations.iter().enumerate() {
@@ -82,8 +78,7 @@ fn print_answers<W: Write>(
                 output.line(format_args!("answer {station} {ticket} posted {sequence}"))?;
             }
             Outcome::Refused(refusal) => {
-                let name = name_of_entry(refusal);
-                output.line(format_args!("answer {station} {ticket} {name}"))?;
+                output.line(format_args!("answer {station} {ticket} {refusal:?}"))?;
             }
             Outcome::Undecided => {
                 output.line(format_args!("answer {station} {ticket} undecided"))?;
@@ -96,7 +91,7 @@ fn print_answers<W: Write>(
 /// The bits of a line, and how many privileges it has.
 pub fn print_line<W: Write>(line: Line, output: &mut Output<'_, W>) -> Result<(), StreamFault> {
     let privileges = line.privileges();
-    output.line(format_args!("bits {} privileges {privileges}", ShownLine(line)))
+    output.line(format_args!("bits {line} privileges {privileges}"))
 }
 
 /// Each account that holds something, and what all of them hold together.
@@ -104,34 +99,11 @@ pub fn print_balances<W: Write>(
     ledger: &Ledger,
     output: &mut Output<'_, W>,
 ) -> Result<(), StreamFault> {
-    for account in 1..=ACCOUNTS {
-        let balance = ledger.balance(account).unwrap_or(0);
+    for (account, balance) in ledger.accounts() {
         if balance > 0 {
             output.line(format_args!("account {account} {balance}"))?;
         }
     }
     let total = ledger.total();
     output.line(format_args!("total {total}"))
-}
-
-// A line as its bits x, a slash, and its bits up, the bottom station's first.
-#[derive(Clone, Copy)]
-struct ShownLine(Line);
-
-impl fmt::Display for ShownLine {
-    fn fmt<W: fmt::Write>(&self, f: &mut fmt::Formatter<W>) -> fmt::Result {
-        let line = self.0;
-        for station in 0..line.stations() {
-            f.write_str(digit(line.x(station)))?;
-        }
-        f.write_str("/")?;
-        for station in 0..line.stations() {
-            f.write_str(digit(line.up(station)))?;
-        }
-        Ok(())
-    }
-}
-
-fn digit(bit: bool) -> &'static str {
-    if bit { "1" } else { "0" }
 }

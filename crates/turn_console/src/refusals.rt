@@ -1,5 +1,5 @@
 //! Why a line of a script was refused, and how that is printed.
-use crate::names::{name_of_close, name_of_format, name_of_line, name_of_turn, write_open};
+use crate::names::write_open;
 use four_state::LineRefusal;
 use gate_journal::FormatRefusal;
 use journal_recovery::OpenRefusal;
@@ -8,7 +8,7 @@ use std::fmt;
 use turn_clerk::TurnRefusal;
 
 /// Why a line of a script was refused. The script goes on.
-#[derive(Clone, Copy)]
+#[derive(Clone, Copy, Debug)]
 pub enum Refusal {
     /// There is no open office.
     NoOffice,
@@ -18,25 +18,30 @@ pub enum Refusal {
     NoStation,
     /// The station holds 16 entries.
     HeldFull,
+    /// The device was not formatted.
     Format(FormatRefusal),
+    /// The bits are no line's.
     Line(LineRefusal),
+    /// No ledger was opened.
     Open(OpenRefusal),
+    /// No turn was taken.
     Turn(TurnRefusal),
+    /// The office of a day was not closed.
     Close(CloseRefusal),
 }
 
+/// The name of the refusal: that of the inner one, where there is one, with its numbers behind it.
 impl fmt::Display for Refusal {
     fn fmt<W: fmt::Write>(&self, f: &mut fmt::Formatter<W>) -> fmt::Result {
         match self {
-            Refusal::NoOffice => f.write_str("NoOffice"),
-            Refusal::OfficeOpen => f.write_str("OfficeOpen"),
-            Refusal::NoStation => f.write_str("NoStation"),
-            Refusal::HeldFull => f.write_str("HeldFull"),
-            Refusal::Format(refusal) => f.write_str(name_of_format(*refusal)),
-            Refusal::Line(refusal) => f.write_str(name_of_line(*refusal)),
+            Refusal::NoOffice | Refusal::OfficeOpen | Refusal::NoStation | Refusal::HeldFull => {
+                write!(f, "{self:?}")
+            }
+            Refusal::Format(refusal) => write!(f, "{refusal:?}"),
+            Refusal::Line(refusal) => write!(f, "{refusal:?}"),
             Refusal::Open(refusal) => write_open(*refusal, f),
-            Refusal::Turn(refusal) => f.write_str(name_of_turn(*refusal)),
-            Refusal::Close(refusal) => f.write_str(name_of_close(*refusal)),
+            Refusal::Turn(refusal) => write!(f, "{refusal:?}"),
+            Refusal::Close(refusal) => write!(f, "{refusal:?}"),
         }
     }
 }

@@ -14,6 +14,7 @@ const TRIES: u64 = 100_000_000;
 /// What a day shows beside its turns.
 #[derive(Drop)]
 pub struct DayReport {
+    /// From which turn on one station alone was privileged.
     pub audit: Audit,
     /// What became of each station's requests, the lowest station first.
     pub stations: Vec<StationDay>,

@@ -13,3 +13,4 @@ pub mod ScreenLaws
 pub mod Laws
 pub mod PlaceLaws
 pub mod Equality
+pub mod AccountList

@@ -1,9 +1,11 @@
 //! The entries of one turn.
-ghost use Rattle.std.specs.Prelude.{◌≡◌, ◌≤◌, ◌<◌, [], ◌∷◌, ◌++◌, length, slice_get};
+ghost use Rattle.std.specs.Prelude.{◌≡◌, ◌↔◌, ◌≤◌, ◌<◌, [], ◌∷◌, ◌++◌, length, slice_get, IsTrue};
 ghost use Rattle.turn_ledger.specs.Screen.{with_yes};
+ghost use Rattle.std.specs.Slice.Iter.{iter_rest};
 
 use crate::{BATCH_LIMIT, Entry, Verdicts};
 use std::marker::Model;
+use std::slice;
 
 /// What stands at an unused place. No call shows it.
 const UNUSED: Entry = Entry::Deposit {
@@ -13,7 +15,7 @@ const UNUSED: Entry = Entry::Deposit {
 };
 
 /// At most [`BATCH_LIMIT`] entries in order, which lie in the value itself.
-#[derive(Clone, Copy, Debug, PartialEq, Eq)]
+#[derive(Clone, Copy, Debug, PartialEq, Eq, Hash)]
 pub struct Batch {
     entries: [Entry; BATCH_LIMIT],
     count: usize,
@@ -40,7 +42,7 @@ impl Model for Batch {
 }
 
 impl Batch {
-    /// The batch of these entries.
+    /// The batch of these entries, [`BATCH_LIMIT`] at most.
     pub fn of(entries: &[Entry]) -> Batch
         requires { length entries.now ≤ BATCH_LIMIT }
         ensures { result ≡ entries.now }
@@ -96,12 +98,27 @@ impl Batch {
         &self.entries[..self.count]
     }
 
-    /// The number of entries.
+    /// The number of entries: at most [`BATCH_LIMIT`].
     pub fn len(&self) -> usize
         ensures value { result ≡ length self.now }
         ensures small { length self.now ≤ BATCH_LIMIT }
     {
         self.as_slice().len()
+    }
+
+    /// Whether there are none.
+    pub fn is_empty(&self) -> bool
+        ensures { IsTrue result ↔ (self.now ≡ []) }
+    {
+        self.len() == 0
+    }
+
+    /// The entries, in order.
+    pub fn iter(&self) -> slice::Iter<'_, Entry>
+        ensures value { iter_rest result ≡ self.now }
+        ensures small { length self.now ≤ BATCH_LIMIT }
+    {
+        self.as_slice().iter()
     }
 
     /// The entry at a place, counted from 0, or None past the end.
@@ -110,5 +127,28 @@ impl Batch {
         ensures small { length self.now ≤ BATCH_LIMIT }
     {
         self.entries[..self.count].get(place).copied()
+    }
+}
+
+/// No entries.
+impl Default for Batch {
+    ghost is_default = { λ entries. entries ≡ [] };
+
+    fn default() -> Batch {
+        Batch::none()
+    }
+}
+
+impl<'a> IntoIterator for &'a Batch {
+    type Item = &'a Entry;
+
+    type IntoIter = slice::Iter<'a, Entry>;
+
+    ghost use Rattle.turn_ledger.specs.declared.limits.TheConstants.{BATCH_LIMIT};
+
+    ghost into_iter_gives = { λ entries all. (iter_rest all ≡ entries.now) × (length entries.now ≤ BATCH_LIMIT) };
+
+    fn into_iter(self) -> slice::Iter<'a, Entry> {
+        self.iter()
     }
 }

@@ -1,17 +1,21 @@
 //! The ledger.
 ghost use Rattle.std.specs.Prelude.{◌≡◌, ◌<◌, ◌≤◌, ◌↔◌, true, false, length, sum, IfOk, OnOk, OnErr, SomeIff};
 ghost use Rattle.turn_ledger.specs.State.{IsAccount, IsLedger, balance_of, total_of, empty_ledger};
+ghost use Rattle.turn_ledger.specs.AccountList.{accounts_of};
 ghost use Rattle.turn_ledger.specs.Entry.{verdict, posted};
 ghost use Rattle.turn_ledger.specs.Screen.{screened};
 
 use crate::accounts::{Accounts, is_account, post};
 use crate::scratch::Scratch;
-use crate::{ACCOUNTS, ALL_ACCOUNTS, BATCH_LIMIT, Entry, EntryRefusal, TOTAL_LIMIT, Verdicts};
+use crate::{
+    ACCOUNTS, ALL_ACCOUNTS, AccountBalances, BATCH_LIMIT, Entry, EntryRefusal, TOTAL_LIMIT,
+    Verdicts,
+};
 use std::alloc::{AllocError, Global};
 use std::marker::Model;
 
 /// The balances of all accounts, and their total.
-#[derive(Drop)]
+#[derive(Debug, Drop)]
 pub struct Ledger {
     balances: Vec<u64>,
     total: u64,
@@ -29,7 +33,7 @@ impl Model for Ledger {
 }
 
 impl Ledger {
-    /// The empty ledger: every account at zero.
+    /// The empty ledger: every account at zero. It fails only for want of memory.
     #[tactic(auto, unfolding(crate::specs::State::empty_ledger))]
     pub fn new(alloc: Global) -> Result<Ledger, AllocError>
         ensures { IfOk result (λ ledger. ledger ≡ empty_ledger) }
@@ -88,7 +92,14 @@ impl Ledger {
         }
     }
 
-    /// What all accounts hold together.
+    /// All accounts, account 1 first, each with what it holds.
+    pub fn accounts(&self) -> AccountBalances<'_>
+        ensures { result ≡ accounts_of self.now }
+    {
+        AccountBalances::of(self)
+    }
+
+    /// What all accounts hold together: at most [`TOTAL_LIMIT`].
     pub fn total(&self) -> u64
         ensures value { result ≡ total_of self.now }
         ensures ledger { IsLedger self.now }
@@ -96,7 +107,7 @@ impl Ledger {
         self.held_by_all()
     }
 
-    /// Posts an entry, or refuses it with the first rule that it breaks.
+    /// Posts an entry, or refuses it with the first rule that it breaks, and then nothing has changed.
     pub fn post(&mut self, entry: &Entry) -> Result<(), EntryRefusal>
         ensures answer { result ≡ verdict self.old entry.now }
         ensures ok { OnOk result (self.new ≡ posted self.old entry.now) }
@@ -105,7 +116,7 @@ impl Ledger {
         post(self, entry)
     }
 
-    /// The verdicts of a list of entries, each judged after the accepted ones before it. Nothing is
+    /// The verdicts of a list of at most [`BATCH_LIMIT`] entries, each judged after the accepted ones before it. Nothing is
     /// posted.
     pub fn screen(&self, entries: &[Entry]) -> Verdicts
         requires { length entries.now ≤ BATCH_LIMIT }

@@ -4,8 +4,11 @@
 //! together never exceeds [`TOTAL_LIMIT`]. An [`Entry`] is a deposit, a withdrawal or a transfer;
 //! it is checked against the rules in their order, and either refused with the first
 //! [`EntryRefusal`] that holds, which changes nothing, or posted.
+//!
+//! The test `an_example_of_a_turn` in `src/tests.rt` is an example.
 #![tactic(auto)]
 
+mod account_balances;
 mod accounts;
 mod batch;
 mod entry;
@@ -19,6 +22,7 @@ mod scratch;
 mod tests;
 mod verdicts;
 
+pub use account_balances::AccountBalances;
 pub use batch::Batch;
 pub use entry::Entry;
 pub use laws::{

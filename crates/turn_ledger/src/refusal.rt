@@ -3,7 +3,7 @@
 use thiserror::Error;
 
 /// The first rule, in this order, that an entry breaks.
-#[derive(Clone, Copy, Debug, Error, PartialEq, Eq)]
+#[derive(Clone, Copy, Debug, PartialEq, Eq, Hash, Error)]
 pub enum EntryRefusal {
     /// The amount is 0.
     #[error("the amount is zero")]

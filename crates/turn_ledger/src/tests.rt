@@ -1,6 +1,7 @@
 //! Worked examples: what is expected was worked out by hand from the rules.
 
-use crate::{Batch, Entry, EntryRefusal, Ledger, TOTAL_LIMIT};
+use crate::{Batch, Entry, EntryRefusal, Ledger, TOTAL_LIMIT, Verdicts};
+use std::fmt::Write;
 use std::test::Fail;
 
 fn deposit(to: u32, amount: u64) -> Entry {
@@ -200,7 +201,59 @@ fn a_batch_holds_its_entries(rt: HostRuntime) {
     assert_eq!(rt; batch.get(1), Some(transfer(1, 2, 40)));
     assert_eq!(rt; batch.get(2), None);
     assert_eq!(rt; Batch::of(&[]).get(0), None);
+    assert_eq!(rt; batch.iter().as_slice(), entries.as_slice());
+    assert_eq!(rt; batch.is_empty(), false);
+    assert_eq!(rt; Batch::default().is_empty(), true);
     assert_eq!(rt; Batch::of(&[entries[0]; 15]).len(), 15);
+}
+
+#[test]
+fn an_example_of_a_turn(rt: HostRuntime) -> Result<(), Fail> {
+    let alloc = rt.alloc();
+    let mut ledger = Ledger::new(alloc)?;
+    let entries = [deposit(1, 100), withdraw(1, 150), transfer(1, 2, 40)];
+    let verdicts = ledger.screen(&entries);
+    for (place, verdict) in verdicts.iter().enumerate() {
+        assert_eq!(rt; verdict.is_ok(), place != 1, "entry {place}");
+    }
+    for entry in &Batch::of_accepted(&entries, &verdicts) {
+        assert_eq!(rt; ledger.post(entry), Ok(()));
+    }
+    let mut text = String::new(alloc);
+    for (account, balance) in ledger.accounts() {
+        if balance > 0 {
+            write!(text, "{account}: {balance}, ")?;
+        }
+    }
+    assert_eq!(rt; text.as_str(), "1: 60, 2: 40, ");
+    assert_eq!(rt; ledger.accounts().count(), 64);
+
+    for verdict in &verdicts {
+        assert!(rt; *verdict != Err(EntryRefusal::OverLimit));
+    }
+    assert_eq!(rt; verdicts.is_empty(), false);
+    assert_eq!(rt; Verdicts::default().is_empty(), true);
+    Ok(())
+}
+
+#[test]
+fn entries_in_words(rt: HostRuntime) -> Result<(), Fail> {
+    let table = [
+        (deposit(1, 100), "deposit of 100 to account 1 (reference 3)"),
+        (
+            withdraw(2, 7),
+            "withdrawal of 7 from account 2 (reference 4)",
+        ),
+        (
+            transfer(1, 2, 40),
+            "transfer of 40 from account 1 to account 2 (reference 5)",
+        ),
+    ];
+    for (entry, wanted) in table {
+        let words = format!(in rt.alloc(); "{entry}")?;
+        assert_eq!(rt; words.as_str(), wanted);
+    }
+    Ok(())
 }
 
 #[test]

@@ -1,14 +1,16 @@
 //! The verdicts of the entries of one turn.
-ghost use Rattle.std.specs.Prelude.{◌≡◌, ◌≤◌, ◌<◌, [], ◌∷◌, ◌++◌, length, slice_get, count_by, is_ok};
+ghost use Rattle.std.specs.Prelude.{◌≡◌, ◌↔◌, ◌≤◌, ◌<◌, [], ◌∷◌, ◌++◌, length, slice_get, IsTrue, count_by, is_ok};
+ghost use Rattle.std.specs.Slice.Iter.{iter_rest};
 
 use crate::{BATCH_LIMIT, EntryRefusal};
 use std::marker::Model;
+use std::slice;
 
 /// What stands at an unused place. No call shows it.
 const UNUSED: Result<(), EntryRefusal> = Ok(());
 
 /// At most [`BATCH_LIMIT`] verdicts in order, which lie in the value itself.
-#[derive(Clone, Copy, Debug, PartialEq, Eq)]
+#[derive(Clone, Copy, Debug, PartialEq, Eq, Hash)]
 pub struct Verdicts {
     verdicts: [Result<(), EntryRefusal>; BATCH_LIMIT],
     count: usize,
@@ -55,12 +57,27 @@ impl Verdicts {
         self.count += 1;
     }
 
-    /// The number of verdicts.
+    /// The number of verdicts: at most [`BATCH_LIMIT`].
     pub fn len(&self) -> usize
         ensures value { result ≡ length self.now }
         ensures small { length self.now ≤ BATCH_LIMIT }
     {
         self.count
+    }
+
+    /// Whether there are none.
+    pub fn is_empty(&self) -> bool
+        ensures { IsTrue result ↔ (self.now ≡ []) }
+    {
+        self.len() == 0
+    }
+
+    /// The verdicts, in order.
+    pub fn iter(&self) -> slice::Iter<'_, Result<(), EntryRefusal>>
+        ensures value { iter_rest result ≡ self.now }
+        ensures small { length self.now ≤ BATCH_LIMIT }
+    {
+        self.verdicts[..self.count].iter()
     }
 
     /// The verdict at a place, counted from 0, or None past the end.
@@ -77,6 +94,29 @@ impl Verdicts {
         ensures small { length self.now ≤ BATCH_LIMIT }
     {
         count_ok(&self.verdicts[..self.count])
+    }
+}
+
+/// No verdicts.
+impl Default for Verdicts {
+    ghost is_default = { λ verdicts. verdicts ≡ [] };
+
+    fn default() -> Verdicts {
+        Verdicts::none()
+    }
+}
+
+impl<'a> IntoIterator for &'a Verdicts {
+    type Item = &'a Result<(), EntryRefusal>;
+
+    type IntoIter = slice::Iter<'a, Result<(), EntryRefusal>>;
+
+    ghost use Rattle.turn_ledger.specs.declared.limits.TheConstants.{BATCH_LIMIT};
+
+    ghost into_iter_gives = { λ verdicts all. (iter_rest all ≡ verdicts.now) × (length verdicts.now ≤ BATCH_LIMIT) };
+
+    fn into_iter(self) -> slice::Iter<'a, Result<(), EntryRefusal>> {
+        self.iter()
     }
 }
 

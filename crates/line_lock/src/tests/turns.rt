@@ -24,6 +24,11 @@ impl Scene for OneTurnAfterTheOther {
         let second = top_turn(rt, &office, &mut top)?;
         assert_eq!(rt; bottom.reached(), 0);
         assert!(rt; bottom.turns() == [first].as_slice() && top.turns() == [second].as_slice());
+        let shown = format!(in *seats.allocator(); "{office:?} {top:?}")?;
+        assert_eq!(rt;
+            shown.as_str(),
+            "Office { .. } Seat { station: 1, turns: 1, denied: Some(2), reached: 1, .. }"
+        );
 
         // in whatever order the seats are handed in
         seats.push(top)?;

@@ -9,6 +9,7 @@ use super::Clerk;
 use crate::turns::Turn;
 use four_state::Line;
 use sector_device::Device;
+use std::fmt;
 use sweep_auditor::Move;
 use turn_ledger::{Batch, Ledger};
 
@@ -84,5 +85,18 @@ impl<D: Device> Clerk<D> {
         ensures { result ≡ self.now.journal.faulted }
     {
         self.journal.is_faulted()
+    }
+}
+
+/// What the clerk tells of itself, with its ledger's total and the number of its turns, and nothing of its device.
+impl<D: Device> fmt::Debug for Clerk<D> {
+    fn fmt<W: fmt::Write>(&self, f: &mut fmt::Formatter<W>) -> fmt::Result {
+        f.debug_struct("Clerk")
+            .field("line", &self.line())
+            .field("total", &self.ledger().total())
+            .field("next", &self.next())
+            .field("turns", &self.history().len())
+            .field("is_faulted", &self.is_faulted())
+            .finish_non_exhaustive()
     }
 }

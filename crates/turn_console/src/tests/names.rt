@@ -1,5 +1,5 @@
 //! What refusals, verdicts and rules are printed as.
-use crate::names::{name_of_end, name_of_entry, name_of_rule};
+use crate::names::EndName;
 use crate::refusals::Refusal;
 use four_state::{LineRefusal, Rule};
 use gate_journal::FormatRefusal;
@@ -73,7 +73,7 @@ fn every_refusal_has_its_name(rt: HostRuntime) -> Result<(), Fail> {
 }
 
 #[test]
-fn every_rule_and_verdict_has_its_name(rt: HostRuntime) {
+fn every_rule_and_verdict_has_its_name(rt: HostRuntime) -> Result<(), Fail> {
     let rules = [
         (Rule::Bottom, "Bottom"),
         (Rule::Top, "Top"),
@@ -81,7 +81,7 @@ fn every_rule_and_verdict_has_its_name(rt: HostRuntime) {
         (Rule::Lower, "Lower"),
     ];
     for (rule, wanted) in rules {
-        assert_eq!(rt; name_of_rule(rule), wanted);
+        shows(&rt, rt.alloc(), rule, wanted)?;
     }
     let verdicts = [
         (EntryRefusal::ZeroAmount, "ZeroAmount"),
@@ -91,12 +91,14 @@ fn every_rule_and_verdict_has_its_name(rt: HostRuntime) {
         (EntryRefusal::OverLimit, "OverLimit"),
     ];
     for (refusal, wanted) in verdicts {
-        assert_eq!(rt; name_of_entry(refusal), wanted);
+        let name = format!(in rt.alloc(); "{refusal:?}")?;
+        assert_eq!(rt; name.as_str(), wanted);
     }
+    Ok(())
 }
 
 #[test]
-fn every_end_has_its_name(rt: HostRuntime) {
+fn every_end_has_its_name(rt: HostRuntime) -> Result<(), Fail> {
     let ends = [
         (End::NotStarted, "NotStarted"),
         (End::Reached, "Reached"),
@@ -106,6 +108,7 @@ fn every_end_has_its_name(rt: HostRuntime) {
         (End::Refused(TurnRefusal::Device), "Device"),
     ];
     for (end, wanted) in ends {
-        assert_eq!(rt; name_of_end(end), wanted);
+        shows(&rt, rt.alloc(), EndName(end), wanted)?;
     }
+    Ok(())
 }
