@@ -126,7 +126,10 @@ fn three_stations_find_one_privilege_within_seven_moves(rt: HostRuntime) {
 #[test]
 fn a_refusal_reads_as_a_sentence(rt: HostRuntime) -> Result<(), std::test::Fail> {
     let refusal = format!(in rt.alloc(); "{}", AuditRefusal::NotEnabled { index: 7 })?;
-    assert_eq!(rt; refusal.as_str(), "the station of move 7 may not move by its rule there");
+    assert_eq!(rt;
+        refusal.as_str(),
+        "the station of move 7 may not move by its rule there"
+    );
     Ok(())
 }
 
