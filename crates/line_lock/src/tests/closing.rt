@@ -194,7 +194,7 @@ fn a_list_with_another_turn_is_foreign(rt: HostRuntime) -> Result<(), Fail> {
 struct NobodyCloses;
 
 impl Scene for NobodyCloses {
-    fn play<L: Ledger + Send + Sync, R: Abort + Wait + Threads + Sync>(
+    fn play<L: Ledger + Opening + Send + Sync, R: Abort + Wait + Threads + Sync>(
         rt: &R,
         office: Office<MemoryDevice, L>,
         mut seats: Vec<Seat<L>>,
