@@ -11,6 +11,8 @@ mod engine;
 mod entry;
 #[path = "console/faults.rs"]
 mod faults;
+#[path = "console/history.rs"]
+mod history;
 #[path = "console/journal.rs"]
 mod journal;
 #[path = "console/ledger.rs"]

@@ -14,10 +14,11 @@ def measure(runs, entries, ratios, memory):
     count, folder = TURNS[entries], runs.folder
     script = scripts.write(folder / "turns", scripts.in_memory(count, entries))
     sectors = ["--sectors", str(4 * count + 7)]
-    times = runs.taking_turns({
-        "proved": Work([folder / "proved", *sectors], script),
-        "plain": Work([folder / "plain", *sectors], script),
-    }, [("proved", "plain")], TIMES)
-    work = f"turns in memory, {entries} a batch"
-    ratios.speed(work, count, times["proved"], "plain Rust", times["plain"], Aim(least=0.8))
-    memory.add(f"{count:,} {work}", times["proved"], times["plain"])
+    programs = ("proved", "plain", "plain_with_history")
+    times = runs.taking_turns(
+        {program: Work([folder / program, *sectors], script) for program in programs},
+        [("proved", plain) for plain in programs[1:]], TIMES)
+    work, kept = f"turns in memory, {entries} a batch", times["plain_with_history"]
+    ratios.speed(work, count, times["proved"], "plain Rust with the history", kept, Aim(least=0.9))
+    ratios.speed(work, count, times["proved"], "plain Rust without", times["plain"], Aim(least=0.8))
+    memory.add(f"{count:,} {work}", times["proved"], times["plain"], f"with the history {kept.megabytes()}")

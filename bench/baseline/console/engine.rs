@@ -109,7 +109,7 @@ impl<D: Device, W: Write> Console<D, W> {
             return self.refuse(Refusal::NoOffice);
         };
         match office.turn(&mut self.device, station) {
-            Ok(turn) => print_turn(&mut self.output, station, &turn)?,
+            Ok(turn) => print_turn(&mut self.output, &turn)?,
             Err(refusal) => self.refuse(Refusal::Turn(refusal))?,
         }
         // an answer is worth little while it lies in a buffer
@@ -136,8 +136,8 @@ impl<D: Device, W: Write> Console<D, W> {
     }
 }
 
-fn print_turn<W: Write>(output: &mut W, station: u64, turn: &Turn) -> Result<(), Fault> {
-    let Turn { index, rule, .. } = turn;
+fn print_turn<W: Write>(output: &mut W, turn: &Turn) -> Result<(), Fault> {
+    let Turn { index, station, rule, .. } = turn;
     match turn.posted {
         Some(sequence) => writeln!(output, "turn {index} station {station} {rule:?} posted {sequence}")?,
         None => writeln!(output, "turn {index} station {station} {rule:?} empty")?,
