@@ -4,14 +4,16 @@ Word: the gate's log, or that of `rt must-fail`; without one the document is com
 import re
 import sys
 from collections import defaultdict
+from dataclasses import dataclass
 from pathlib import Path
 
 DOCUMENT = Path("docs/WRONG_BODIES.md")
 TOP = """# Wrong bodies
 
-Each line is a body that was made wrong on purpose: the name says what it does, then the function that was changed, and what the prover can't prove of it then. The files are `crates/*/must-fail/*.edit`; the gate tries each of them, and fails where one is taken. This page is made by `docs/checking/wrong_bodies.py`.
+Each line is a body that was made wrong on purpose: the name says what it does, then the function that was changed, and what the prover can't prove of it then. Where a line says "gate", the file is `crates/*/must-fail/*.edit`: the gate tries each of them, and fails where one is taken. The others are `wrong-bodies/*/*.edit`: second and third ones of the same function or its helpers, which `wrong-bodies/try.sh` tries, since the gate would take half as long again with them; the gate looks whether they can still be made. This page is made by `docs/checking/wrong_bodies.py`.
 """
-ROW = re.compile(r"^\| (.*?) \| `(.*?)` \| (.*?) \|$")
+HEAD = ["| The wrong body | In | Not proved | Tried by |", "|---|---|---|---|"]
+ROW = re.compile(r"^\| (.*?) \| `(.*?)` \| (.*?) \| (?:gate|hand) \|$")
 REFUSED = re.compile(r"must-fail (\w+)/(\w+)\.edit: refused, as it must be: (.*)")
 
 
@@ -25,14 +27,32 @@ def function_of(source, text):
     return f"{owner[1]}::{name}" if owner else name
 
 
+@dataclass(order=True)
+class Edit:
+    """A wrong body: its crate and its name, the function that it changes, and who tries it."""
+
+    crate: str
+    name: str
+    function: str
+    tried_by: str
+
+
+def edit_of(path, crate, tried_by):
+    """The edit in a file. Its first old text has to stand once in the file that it names."""
+    lines = path.read_text(encoding="utf-8").splitlines()
+    file = next(line[6:] for line in lines if line.startswith("file: "))
+    old = next(line[5:] for line in lines if line.startswith("old: "))
+    source = (Path("crates") / crate / file).read_text(encoding="utf-8")
+    if source.count(old) != 1:
+        raise ValueError(f"{path}: its old text stands {source.count(old)} times in {file}")
+    return Edit(crate, path.stem, function_of(source, old), tried_by)
+
+
 def edits():
-    """Each edit: its crate, its name, and the function that it changes."""
-    for edit in sorted(Path("crates").glob("*/must-fail/*.edit")):
-        lines = edit.read_text(encoding="utf-8").splitlines()
-        file = next(line[6:] for line in lines if line.startswith("file: "))
-        old = next(line[5:] for line in lines if line.startswith("old: "))
-        source = (edit.parent.parent / file).read_text(encoding="utf-8")
-        yield edit.parent.parent.name, edit.stem, function_of(source, old)
+    """All edits, by crate and name."""
+    gate = [edit_of(path, path.parent.parent.name, "gate") for path in Path("crates").glob("*/must-fail/*.edit")]
+    hand = [edit_of(path, path.parent.name, "hand") for path in Path("wrong-bodies").glob("*/*.edit")]
+    return sorted(gate + hand)
 
 
 def told_of(refusal):
@@ -71,18 +91,25 @@ def rows_of(document):
 def page(known):
     """The document, with what is known of each edit."""
     by_crate = defaultdict(list)
-    for crate, name, function in edits():
-        by_crate[crate].append(f"| {name.replace('_', ' ')} | `{function}` | {known.get((crate, name), '')} |")
+    for edit in edits():
+        refused = known.get((edit.crate, edit.name), "")
+        row = f"| {edit.name.replace('_', ' ')} | `{edit.function}` | {refused} | {edit.tried_by} |"
+        by_crate[edit.crate].append(row)
     parts = [TOP]
     for crate, rows in by_crate.items():
-        parts.append("\n".join([f"## `{crate}`", "", "| The wrong body | In | Not proved |", "|---|---|---|", *rows, ""]))
+        parts.append("\n".join([f"## `{crate}`", "", *HEAD, *rows, ""]))
     return "\n".join(parts)
 
 
 def faults():
     """What is wrong with the document that is there."""
     there = DOCUMENT.read_text(encoding="utf-8")
-    if page(rows_of(there)) != there:
+    try:
+        listed = page(rows_of(there)) == there
+    except ValueError as fault:
+        yield str(fault)
+        return
+    if not listed:
         yield "it doesn't list the edits that are there: docs/checking/wrong_bodies.py LOG makes it again"
 
 

@@ -8,20 +8,17 @@ ghost use Rattle.sweep_auditor.specs.Stabilization.{top_of, LegitimateFrom, IsSt
 ghost use Rattle.turn_clerk.specs.Clerk.{KeepsHistory, LeavesAcknowledged, LeftPrefixEver};
 ghost use Rattle.turn_clerk.specs.History.{moves_of};
 ghost use Rattle.journal_recovery.specs.Refused.{RecoveryRefuses};
-ghost use Rattle.line_lock.specs.Opening.{SayTheSame, WasOpenedOn, WasLeftByClerk};
-ghost use Rattle.office_day.specs.Day.{HadTheirDay, HaveServed};
+ghost use Rattle.line_lock.specs.Opening.{WasOpenedOn, WasLeftByClerk};
+ghost use Rattle.office_day.specs.Day.{HadTheirDay};
 ghost use Rattle.office_day.specs.Refusal.{IfOpening, UnlessOpening};
 
-use crate::counters::counters;
 use crate::held_entries::HeldEntries;
-use crate::reconciled::{StationDay, all_reconciled};
+use crate::named::named_day;
+use crate::reconciled::StationDay;
 use crate::refusals::DayRefusal;
-use crate::seated::{Left, risen, seated};
-use line_lock::{
-    Audit, Blank, Clerk, Closing, Device, Ledger, Line, Office, OpenRefusal, Opening, Seat,
-};
-use station_desk::{Desk, Gate, run_stations};
-use std::alloc::{AllocError, Global};
+use line_lock::{Audit, Blank, Clerk, Device, Line, OpenRefusal};
+use std::alloc::Global;
+use std::marker::Brand;
 use std::sync::Wait;
 use std::thread::Threads;
 
@@ -38,15 +35,6 @@ pub struct Day<D: Device> {
     pub stations: Vec<StationDay>,
 }
 
-// Nobody looks on.
-struct NobodyLooks;
-
-impl Gate for NobodyLooks {
-    fn gathered(&self, _station: u8) {}
-
-    fn answered(&self, _station: u8) {}
-}
-
 /// Opens an office on the device, with this line, and hands each station what it holds, the lowest station first. The
 /// stations take turns, each in a thread of its own, until `moves` turns are taken; one that isn't privileged tries again,
 /// at most `tries` times in a row. Then the office is closed. The call may wait.
@@ -55,21 +43,15 @@ impl Gate for NobodyLooks {
 /// The device comes back. [`DayRefusal::Opening`]: it can't be opened, for another reason than want of memory; nobody
 /// took a turn. [`DayRefusal::Memory`]: turns may have been taken, and what they journaled stands.
 /// [`DayRefusal::Closing`]: the same; an office whose seats are its own never answers it.
-pub fn run_day<D: Device + Send, L: Ledger + Opening + Send + Sync, R: Threads + Wait + Sync>(
+pub fn run_day<D: Device + Send, R: Threads + Wait + Sync>(
     rt: &R,
     alloc: Global,
     device: D,
     line: Line,
-    blank: Blank,
     held: &[HeldEntries],
     moves: u64,
     tries: u64,
 ) -> Result<Day<D>, (D, DayRefusal)>
-    requires name { blank.name ≡ L.name }
-    requires parts { blank.parts ≡ L.parts }
-    requires one_each { L.parts ≡ stations line }
-    requires device { SayTheSame L.device (D.state device) }
-    requires line { L.line ≡ line }
     requires held { length held.now ≡ stations line }
 
     // What became of what the stations held.
@@ -77,7 +59,7 @@ pub fn run_day<D: Device + Send, L: Ledger + Opening + Send + Sync, R: Threads +
 
     // The clerk, over its whole life.
     ensures stations { IfOk result (λ day. stations day.clerk.line ≡ stations line) }
-    ensures opened { IfOk result (λ day. WasOpenedOn D.state L.device L.line day.clerk) }
+    ensures opened { IfOk result (λ day. WasOpenedOn D.state (D.state device) line day.clerk) }
     ensures legal { IfOk result (λ day. KeepsHistory day.clerk) }
     ensures run { IfOk result (λ day. IsRun day.clerk.opening.line (moves_of day.clerk.history)) }
     ensures acknowledged { IfOk result (λ day.
@@ -99,7 +81,7 @@ pub fn run_day<D: Device + Send, L: Ledger + Opening + Send + Sync, R: Threads +
         (λ i. ComesRound day.clerk.opening.line (moves_of day.clerk.history) i)) }
 
     // What a day that isn't told leaves.
-    ensures left { IfErr result (λ e. UnlessOpening e.1 ((e.0 ≡ device) ⊎ WasLeftByClerk D.state L.device L.line e.0)) }
+    ensures left { IfErr result (λ e. UnlessOpening e.1 ((e.0 ≡ device) ⊎ WasLeftByClerk D.state (D.state device) line e.0)) }
 
     // A refused opening.
     ensures call { IfErr result (λ e. IfOpening e.1 (λ refusal.
@@ -109,67 +91,7 @@ pub fn run_day<D: Device + Send, L: Ledger + Opening + Send + Sync, R: Threads +
         refusal ≢ OpenRefusal.Device → RecoveryRefuses (D.state device).reads refusal)) }
     ensures not_memory { IfErr result (λ e. e.1 ≢ DayRefusal.Opening OpenRefusal.Memory) }
 {
-    let Ok((feeds, desks)) = counters(alloc, held) else {
-        return Err((device, DayRefusal::Memory));
-    };
-    let (office, seats) = match Office::<D, L>::open(alloc, device, line, blank) {
-        Ok(opened) => opened,
-        Err((device, refusal)) => return Err((device, of_opening(refusal))),
-    };
-    let Ok((seats, left)) = served(rt, alloc, &office, seats, desks, moves, tries) else {
-        return Err((office.into_clerk().into_device(), DayRefusal::Memory));
-    };
-    let (clerk, audit) = match office.close(seats) {
-        Ok(Closing { clerk, audit }) => (clerk, audit),
-        Err((office, _, refusal)) => {
-            return Err((
-                office.into_clerk().into_device(),
-                DayRefusal::Closing(refusal),
-            ));
-        }
-    };
-    match all_reconciled(alloc, feeds, left) {
-        Ok(stations) => Ok(Day {
-            clerk,
-            audit,
-            stations,
-        }),
-        Err(_) => Err((clerk.into_device(), DayRefusal::Memory)),
-    }
-}
-
-// The stations take their seats, run, and rise again.
-fn served<D: Device + Send, L: Ledger + Opening + Send + Sync, R: Threads + Wait + Sync>(
-    rt: &R,
-    alloc: Global,
-    office: &Office<D, L>,
-    seats: Vec<Seat<L>>,
-    desks: Vec<Desk>,
-    moves: u64,
-    tries: u64,
-) -> Result<(Vec<Seat<L>>, Vec<Left>), AllocError>
-    requires as_many { length desks.items ≡ length seats.items }
-    ensures { IfOk result (λ both. HaveServed seats.items desks.items both.0.items both.1.items moves) }
-{
-    let mut stations = seated(alloc, seats, desks)?;
-    run_stations(
-        rt,
-        office,
-        stations.as_mut_slice(),
-        &NobodyLooks,
-        moves,
-        tries,
-    );
-    risen(alloc, stations)
-}
-
-// Why there was no day, where the office can't be opened.
-fn of_opening(refusal: OpenRefusal) -> DayRefusal
-    ensures memory { refusal ≡ OpenRefusal.Memory → result ≡ DayRefusal.Memory }
-    ensures opening { refusal ≢ OpenRefusal.Memory → result ≡ DayRefusal.Opening refusal }
-{
-    match refusal {
-        OpenRefusal::Memory => DayRefusal::Memory,
-        refusal => DayRefusal::Opening(refusal),
-    }
+    let blank = Blank::new(line.stations() as u64);
+    // the name is this call's own: the device and the line as they were handed in
+    named_day::<D, Brand, R>(rt, alloc, device, line, blank, held, moves, tries)
 }

@@ -7,15 +7,14 @@
 mod counters;
 mod day;
 mod held_entries;
+mod named;
 mod reconciled;
 mod refusals;
 mod seated;
 
 pub use day::{Day, run_day};
 pub use held_entries::{HELD_LIMIT, HeldEntries};
-pub use line_lock::{
-    Audit, Blank, Clerk, CloseRefusal, Device, Ledger, Line, OpenRefusal, Opening,
-};
+pub use line_lock::{Audit, Clerk, CloseRefusal, Device, Line, OpenRefusal};
 pub use reconciled::StationDay;
 pub use refusals::DayRefusal;
 pub use station_desk::{Answer, Ask, End, Entry, EntryRefusal, Outcome, TurnRefusal};

@@ -1,10 +1,9 @@
 //! A day of the stations, from a script.
 use crate::refusals::Refusal;
 use crate::scripted_clerk::ScriptedClerk;
-use office_day::{Audit, Blank, Day, DayRefusal, HeldEntries, StationDay, run_day};
+use office_day::{Audit, Day, DayRefusal, HeldEntries, StationDay, run_day};
 use sector_device::Device;
 use std::alloc::Global;
-use std::marker::Brand;
 use std::sync::Wait;
 use std::thread::Threads;
 
@@ -40,10 +39,9 @@ impl<D: Device + Send + Drop> ScriptedClerk<D> {
     ) -> Result<(ScriptedClerk<D>, DayReport), NoDay<D>> {
         let ScriptedClerk { clerk, mut held } = self;
         let line = clerk.line();
-        let blank = Blank::new(line.stations() as u64);
         let device = Box::into_inner(clerk).into_device();
         let entries = held.as_slice();
-        match run_day::<D, Brand, R>(rt, alloc, device, line, blank, entries, moves, TRIES) {
+        match run_day(rt, alloc, device, line, entries, moves, TRIES) {
             Ok(day) => {
                 let Day {
                     clerk,

@@ -1,11 +1,9 @@
 //! Days as a library has them.
 use super::{TRIES, deposit, line};
 use crate::devices::formatted;
-use line_lock::Blank;
 use office_day::{Ask, Day, DayRefusal, End, HeldEntries, OpenRefusal, Outcome, run_day};
 use sector_device::{Device, MemoryDevice};
 use std::alloc::Global;
-use std::marker::Brand;
 use std::test::Fail;
 
 // What two stations hold: the bottom one a deposit.
@@ -19,13 +17,10 @@ fn held(alloc: Global) -> Result<[HeldEntries; 2], Fail> {
 fn a_day_accounts_for_each_request(rt: HostRuntime) -> Result<(), Fail> {
     let alloc = rt.alloc();
     let line = line(&rt, [0, 0], [1, 0]);
-    let blank = Blank::new(line.stations() as u64);
     let device = formatted(alloc)?;
     let held = held(alloc)?;
     assert_eq!(rt; held.len(), line.stations() as usize);
-    let day = match run_day::<MemoryDevice, Brand, _>(
-        &rt, alloc, device, line, blank, &held, 3, TRIES,
-    ) {
+    let day = match run_day(&rt, alloc, device, line, &held, 3, TRIES) {
         Ok(day) => day,
         Err((_, refusal)) => panic!(rt; "{refusal}"),
     };
@@ -54,11 +49,10 @@ fn a_day_accounts_for_each_request(rt: HostRuntime) -> Result<(), Fail> {
 fn a_day_that_can_not_be_opened_gives_the_device_back(rt: HostRuntime) -> Result<(), Fail> {
     let alloc = rt.alloc();
     let line = line(&rt, [0, 0], [1, 0]);
-    let blank = Blank::new(line.stations() as u64);
     let device = MemoryDevice::new(alloc, 9)?;
     let held = held(alloc)?;
     assert_eq!(rt; held.len(), line.stations() as usize);
-    match run_day::<MemoryDevice, Brand, _>(&rt, alloc, device, line, blank, &held, 3, TRIES) {
+    match run_day(&rt, alloc, device, line, &held, 3, TRIES) {
         Ok(_) => panic!(rt; "a day on a device without a journal"),
         Err((device, refusal)) => {
             assert_eq!(rt; refusal, DayRefusal::Opening(OpenRefusal::Unformatted));

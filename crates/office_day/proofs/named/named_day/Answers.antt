@@ -14,7 +14,7 @@ use Rattle.office_day.proofs.RefusedOpening.{refused_opening}
 use Rattle.office_day.proofs.LeftDevice.{left_by}
 use Rattle.office_day.proofs.Served.{stay_together}
 use Rattle.office_day.proofs.Days.{had_their_day}
-use Rattle.office_day.proofs.day.run_day.Goals as goal
+use Rattle.office_day.proofs.named.named_day.Goals as goal
 
 pub returns-in-Err-clause-refused : goal.returns-in-Err-clause-refused
 returns-in-Err-clause-refused g c = λ honest.
