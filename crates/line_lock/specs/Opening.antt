@@ -1,10 +1,13 @@
 -- What an office was opened on, and what its clerk keeps of it.
-use Rattle.std.specs.Prelude.{◌≡◌, ◌↔◌, ℕ, [], length}
+use Rattle.std.specs.Prelude.{◌≡◌, ◌↔◌, ℕ, List, [], length}
 use Rattle.sector_device.specs.Image.{Image}
 use Rattle.sector_device.specs.Device.{DeviceState}
 use Rattle.sector_device.specs.Crash.{OnlyLooks}
 use Rattle.four_state.specs.Configuration.{Configuration}
+use Rattle.journal_recovery.specs.State.{State}
 use Rattle.journal_recovery.specs.Recovery.{RecoversTo}
+use Rattle.turn_clerk.specs.declared.turns.Turn.{Turn}
+use Rattle.turn_clerk.specs.History.{IsLegal}
 use Rattle.turn_clerk.specs.Clerk.{ClerkState, KeepsHistory, LeavesAcknowledged, opening_state}
 
 -- Two descriptions of a device say the same of it.
@@ -36,6 +39,13 @@ pub record WasLeftByClerk {D : Type 0} (state : D → DeviceState) (device : Dev
   pub opened : WasOpenedOn state device from clerk
   pub legal : KeepsHistory clerk
   pub acknowledged : device.honest → LeavesAcknowledged state clerk
+
+-- The turns are a legal history from the opening on that device with that line: from that line on, and from a state that on
+-- an honest device is what its image recovers to.
+pub record IsHistoryOf (device : DeviceState) (from : Configuration) (turns : List Turn) : Type 0 where
+  pub found : State
+  pub recovers : device.honest → RecoversTo found device.reads
+  pub legal : IsLegal from found turns
 
 -- What stands for a device and a line where nothing was opened: who opens an office says what is there instead.
 abbrev pub no_device : DeviceState

@@ -1,10 +1,11 @@
 -- A seat at one moment, and what a turn that it is told of is.
 use Rattle.std.specs.Prelude.{◌≡◌, ℕ, List, [], ◌∷◌, ◌++◌, length, Option, None}
+use Rattle.sector_device.specs.Device.{DeviceState}
 use Rattle.four_state.specs.Configuration.{Configuration}
-use Rattle.journal_recovery.specs.State.{State}
 use Rattle.turn_clerk.specs.declared.turns.Turn.{Turn}
 use Rattle.turn_clerk.specs.Turn.{HasPrivilege}
-use Rattle.turn_clerk.specs.History.{IsLegal, line_after}
+use Rattle.turn_clerk.specs.History.{line_after}
+use Rattle.line_lock.specs.Opening.{IsHistoryOf}
 
 pub record SeatState : Type 0 where
   pub station : ℕ
@@ -19,18 +20,15 @@ pub record SeatState : Type 0 where
 abbrev pub new_seat : ℕ → SeatState
 new_seat station = record { station = station; turns = []; denied = None; reached = 0 }
 
--- The turn is the last one of a legal history.
-pub record EndsLegalHistory (turn : Turn) : Type 0 where
-  pub line : Configuration
-  pub state : State
+-- The turn is the last one of a legal history from the opening on that device with that line.
+pub record EndsHistoryOf (device : DeviceState) (from : Configuration) (turn : Turn) : Type 0 where
   pub before : List Turn
-  pub legal : IsLegal line state (before ++ turn ∷ [])
+  pub history : IsHistoryOf device from (before ++ turn ∷ [])
 
--- So many turns are a legal history, after which the station has no privilege.
-pub record IsDeniedAfter (station held : ℕ) : Type 0 where
-  pub line : Configuration
-  pub state : State
+-- So many turns are a legal history from the opening on that device with that line, after which the station has no
+-- privilege.
+pub record IsDeniedAfter (device : DeviceState) (from : Configuration) (station held : ℕ) : Type 0 where
   pub turns : List Turn
-  pub legal : IsLegal line state turns
+  pub history : IsHistoryOf device from turns
   pub many : length turns ≡ held
-  pub no_privilege : ¬ HasPrivilege (line_after line turns) station
+  pub no_privilege : ¬ HasPrivilege (line_after from turns) station

@@ -13,7 +13,7 @@ ghost use Rattle.line_lock.specs.Account.{IsBorneOut, seats_of, IsSeatMissing};
 ghost use Rattle.turn_ledger.specs.declared.limits.TheConstants.{BATCH_LIMIT};
 ghost use Rattle.journal_recovery.specs.Refused.{RecoveryRefuses};
 ghost use Rattle.line_lock.specs.Opening.{SayTheSame, WasOpenedOn};
-ghost use Rattle.line_lock.specs.Seat.{new_seat, EndsLegalHistory, IsDeniedAfter};
+ghost use Rattle.line_lock.specs.Seat.{new_seat, EndsHistoryOf, IsDeniedAfter};
 
 use crate::closing::{CloseRefusal, Closing, audited, gathered, look_at};
 use crate::locked::{Answer, Locked};
@@ -85,12 +85,12 @@ impl<D: Device, L: Ledger + Opening> Office<D, L> {
         ensures by { IfOk result (λ turn. turn.station ≡ seat.old.station) }
         ensures asked { IfOk result (λ turn. turn.entries ≡ entries.now) }
         ensures index { IfOk result (λ turn. length seat.old.turns ≤ turn.index) }
-        ensures last { IfOk result EndsLegalHistory }
+        ensures last { IfOk result (EndsHistoryOf L.device L.line) }
         ensures not_listed { OnErr result (seat.new.turns ≡ seat.old.turns) }
         ensures denied { result ≡ Err TurnRefusal.NotPrivileged
             → IsSomeAnd seat.new.denied (λ held. length seat.old.turns ≤ held) }
         ensures rightly { result ≡ Err TurnRefusal.NotPrivileged
-            → IsSomeAnd seat.new.denied (IsDeniedAfter seat.old.station) }
+            → IsSomeAnd seat.new.denied (IsDeniedAfter L.device L.line seat.old.station) }
         ensures not_denied { result ≢ Err TurnRefusal.NotPrivileged → seat.new.denied ≡ seat.old.denied }
         ensures too_many { result ≡ Err TurnRefusal.TooMany → BATCH_LIMIT < length entries.now }
         ensures there { result ≢ Err TurnRefusal.NoStation }
@@ -128,12 +128,12 @@ impl<D: Device, L: Ledger + Opening> Office<D, L> {
         ensures by { IfOk result (λ turn. turn.station ≡ seat.old.station) }
         ensures asked { IfOk result (λ turn. turn.entries ≡ entries.now) }
         ensures index { IfOk result (λ turn. length seat.old.turns ≤ turn.index) }
-        ensures last { IfOk result EndsLegalHistory }
+        ensures last { IfOk result (EndsHistoryOf L.device L.line) }
         ensures not_listed { OnErr result (seat.new.turns ≡ seat.old.turns) }
         ensures denied { result ≡ Err (WithinRefusal.Turn TurnRefusal.NotPrivileged)
             → IsSomeAnd seat.new.denied (λ held. length seat.old.turns ≤ held) }
         ensures rightly { result ≡ Err (WithinRefusal.Turn TurnRefusal.NotPrivileged)
-            → IsSomeAnd seat.new.denied (IsDeniedAfter seat.old.station) }
+            → IsSomeAnd seat.new.denied (IsDeniedAfter L.device L.line seat.old.station) }
         ensures not_denied { result ≢ Err (WithinRefusal.Turn TurnRefusal.NotPrivileged)
             → seat.new.denied ≡ seat.old.denied }
         ensures too_many { result ≡ Err (WithinRefusal.Turn TurnRefusal.TooMany)

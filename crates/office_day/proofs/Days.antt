@@ -5,6 +5,7 @@ use Rattle.std.proofs.Common.{sym, ◌∙◌, ap, subst, arith}
 use Rattle.std.proofs.lemmas.List.{length-map}
 use Rattle.std.proofs.lemmas.List.FromFn.{get_or-map-range_with_len, length-range_with_len}
 use Rattle.std.proofs.lemmas.Slice.Zip.{AllZip-long}
+use Rattle.sector_device.specs.Device.{DeviceState}
 use Rattle.turn_ledger.specs.declared.entry.Entry.{Entry}
 use Rattle.four_state.specs.Configuration.{Configuration}
 use Rattle.turn_clerk.specs.declared.turns.Turn.{Turn}
@@ -26,8 +27,8 @@ use Rattle.office_day.specs.Day.{IsAccountedFor, HadDay, HadTheirDay, IsReconcil
 use Rattle.office_day.proofs.Lists.{AllZip-at}
 
 -- one station's
-pub had_day : (history : List Turn) (opening : Configuration) (moves i : ℕ) (entries : List Entry) (feed : FeedState) (before : DeskState) (seat after : SeatState) (left : Left) (day : StationDay)
-    → seat ≡ new_seat i → HasHandedIn entries feed → IsFresh before → HasRun seat after before left.desk left.end moves
+pub had_day : {device : DeviceState} {from : Configuration} (history : List Turn) (opening : Configuration) (moves i : ℕ) (entries : List Entry) (feed : FeedState) (before : DeskState) (seat after : SeatState) (left : Left) (day : StationDay)
+    → seat ≡ new_seat i → HasHandedIn entries feed → IsFresh before → HasRun device from seat after before left.desk left.end moves
     → IsBorneOut opening history after → IsReconciled feed left day → HadDay history moves i entries day
 had_day history opening moves i entries feed before seat after left day sat handed fresh ran out done =
     let worked = ran.worked in
@@ -58,11 +59,11 @@ first : {A : Type 0} (xs : List A) → 0 < length xs → A
 first [] some = absurd (omega (arith, some))
 first (x ∷ xs) some = x
 
-pub had_their_day : (held : List (List Entry)) (n : ℕ) (feeds : List FeedState) (desks : List DeskState) (seats after : List SeatState) (left : List Left) (days : List StationDay)
+pub had_their_day : {device : DeviceState} {from : Configuration} (held : List (List Entry)) (n : ℕ) (feeds : List FeedState) (desks : List DeskState) (seats after : List SeatState) (left : List Left) (days : List StationDay)
     (opening : Configuration) (history : List Turn) (moves : ℕ)
     → length held ≡ n → seats ≡ map new_seat (range_with_len 0 n)
     → AllZip HasHandedIn held feeds → length desks ≡ length feeds → All IsFresh desks
-    → HaveServed seats desks after left moves → All (IsBorneOut opening history) after
+    → HaveServed device from seats desks after left moves → All (IsBorneOut opening history) after
     → AreReconciled feeds left days → HadTheirDay history moves held days
 had_their_day held n feeds desks seats after left days opening history moves many sat handed at_desks fresh served out done =
     let as_many : length feeds ≡ length held = AllZip-long HasHandedIn held feeds handed in

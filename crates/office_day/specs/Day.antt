@@ -1,7 +1,9 @@
 -- What became of the entries that stations held, in a day of their office.
 use Rattle.std.specs.Prelude.{◌≡◌, ◌≢◌, ◌<◌, ◌≤◌, ℕ, List, [], ◌++◌, length}
 use Rattle.std.specs.List.{slice_index_or}
+use Rattle.sector_device.specs.Device.{DeviceState}
 use Rattle.turn_ledger.specs.declared.entry.Entry.{Entry}
+use Rattle.four_state.specs.Configuration.{Configuration}
 use Rattle.turn_clerk.specs.declared.turns.Turn.{Turn}
 use Rattle.turn_clerk.specs.declared.refusals.TurnRefusal.TheVariants.{Device}
 use Rattle.line_lock.specs.Account.{turns_of}
@@ -54,8 +56,8 @@ pub record AreReconciled (feeds : List FeedState) (left : List Left) (days : Lis
       → IsReconciled (slice_index_or feeds i feed) (slice_index_or left i part) (slice_index_or days i day)
 
 -- The stations at these seats and desks have run, and left what they then had.
-pub record HaveServed (seats : List SeatState) (desks : List DeskState) (after : List SeatState) (left : List Left) (moves : ℕ) : Type 0 where
+pub record HaveServed (device : DeviceState) (from : Configuration) (seats : List SeatState) (desks : List DeskState) (after : List SeatState) (left : List Left) (moves : ℕ) : Type 0 where
   pub seats_as_many : length after ≡ length seats
   pub left_as_many : length left ≡ length seats
   pub each : (i : ℕ) (seat : SeatState) (desk : DeskState) (part : Left) → i < length seats
-      → HasRun (slice_index_or seats i seat) (slice_index_or after i seat) (slice_index_or desks i desk) (slice_index_or left i part).desk (slice_index_or left i part).end moves
+      → HasRun device from (slice_index_or seats i seat) (slice_index_or after i seat) (slice_index_or desks i desk) (slice_index_or left i part).desk (slice_index_or left i part).end moves

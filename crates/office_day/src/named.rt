@@ -133,7 +133,7 @@ fn served<D: Device + Send, L: Ledger + Opening + Send + Sync, R: Threads + Wait
     tries: u64,
 ) -> Result<(Vec<Seat<L>>, Vec<Left>), AllocError>
     requires as_many { length desks.items ≡ length seats.items }
-    ensures { IfOk result (λ both. HaveServed seats.items desks.items both.0.items both.1.items moves) }
+    ensures { IfOk result (λ both. HaveServed L.device L.line seats.items desks.items both.0.items both.1.items moves) }
 {
     let mut stations = seated(alloc, seats, desks)?;
     run_stations(

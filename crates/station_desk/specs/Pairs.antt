@@ -4,6 +4,8 @@ use Rattle.std.specs.List.{slice_index_or}
 use Rattle.std.proofs.Common.{sym, ◌∙◌, subst}
 use Rattle.station_desk.specs.declared.stations.Station.{Station}
 use Rattle.station_desk.specs.Rings.{FeedState, AreTogether}
+use Rattle.sector_device.specs.Device.{DeviceState}
+use Rattle.four_state.specs.Configuration.{Configuration}
 use Rattle.station_desk.specs.Run.{HaveRun}
 
 -- There are as many feeds as stations, and each feed stands at the other ends of its station's rings.
@@ -12,7 +14,7 @@ pub record ArePaired {X : Type 0} (feeds : List FeedState) (stations : List (Sta
   pub each : (i : ℕ) (f : FeedState) (s : Station X) → i < length stations → AreTogether (slice_index_or feeds i f) (slice_index_or stations i s).desk
 
 -- A run leaves each feed with its station.
-pub stay_paired : {X : Type 0} (feeds : List FeedState) (old new : List (Station X)) (moves : ℕ) → HaveRun old new moves → ArePaired feeds old → ArePaired feeds new
+pub stay_paired : {X : Type 0} {device : DeviceState} {from : Configuration} (feeds : List FeedState) (old new : List (Station X)) (moves : ℕ) → HaveRun device from old new moves → ArePaired feeds old → ArePaired feeds new
 stay_paired feeds old new moves ran paired = record {
   as_many = paired.as_many ∙ sym ran.as_many;
   each = λ i f s low.

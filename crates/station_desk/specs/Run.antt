@@ -1,6 +1,8 @@
 -- What a run makes of its stations.
 use Rattle.std.specs.Prelude.{◌≡◌, ◌≢◌, ◌<◌, ◌≤◌, ℕ, List, length, IsSomeAnd}
 use Rattle.std.specs.List.{slice_index_or}
+use Rattle.sector_device.specs.Device.{DeviceState}
+use Rattle.four_state.specs.Configuration.{Configuration}
 use Rattle.line_lock.specs.Seat.{SeatState, IsDeniedAfter}
 use Rattle.turn_clerk.specs.declared.refusals.TurnRefusal.TheVariants.{NoStation, NotPrivileged, Device}
 use Rattle.station_desk.specs.declared.end.End.{End}
@@ -9,18 +11,18 @@ use Rattle.station_desk.specs.declared.stations.Station.{Station}
 use Rattle.station_desk.specs.Rings.{DeskState}
 use Rattle.station_desk.specs.Worked.{HasWorked}
 
--- A station has worked, and ended: as Reached only where its seat was told that the history holds so many turns, as Tries
+-- A station of an office that was opened on that device with that line has worked, and ended: as Reached only where its seat was told that the history holds so many turns, as Tries
 -- only where it was told that it isn't its turn, and as Refused never for that, nor as no station of the line.
-pub record HasRun (old new : SeatState) (before after : DeskState) (end : End) (moves : ℕ) : Type 0 where
+pub record HasRun (device : DeviceState) (from : Configuration) (old new : SeatState) (before after : DeskState) (end : End) (moves : ℕ) : Type 0 where
   pub worked : HasWorked old new before after (end ≡ Refused Device)
   pub reached : end ≡ Reached → moves ≤ new.reached
-  pub tries : end ≡ Tries → IsSomeAnd new.denied (IsDeniedAfter old.station)
+  pub tries : end ≡ Tries → IsSomeAnd new.denied (IsDeniedAfter device from old.station)
   pub not_denied : end ≢ Refused NotPrivileged
   pub there : end ≢ Refused NoStation
   pub started : end ≢ NotStarted
 
 -- Each of the stations has run; there are as many, in the same order.
-pub record HaveRun {X : Type 0} (old new : List (Station X)) (moves : ℕ) : Type 0 where
+pub record HaveRun {X : Type 0} (device : DeviceState) (from : Configuration) (old new : List (Station X)) (moves : ℕ) : Type 0 where
   pub as_many : length new ≡ length old
   pub each : (i : ℕ) (d : Station X) → i < length old
-      → HasRun (slice_index_or old i d).seat (slice_index_or new i d).seat (slice_index_or old i d).desk (slice_index_or new i d).desk (slice_index_or new i d).end moves
+      → HasRun device from (slice_index_or old i d).seat (slice_index_or new i d).seat (slice_index_or old i d).desk (slice_index_or new i d).desk (slice_index_or new i d).end moves

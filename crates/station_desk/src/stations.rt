@@ -41,7 +41,7 @@ fn round<D: Device, L: Ledger + Opening, G: Gate, R: Wait>(
     ensures no_turn { OnErr result (seat.new.turns ≡ seat.old.turns) }
     ensures reached { result ≡ Err WithinRefusal.Reached → moves ≤ seat.new.reached }
     ensures denied { result ≡ Err (WithinRefusal.Turn TurnRefusal.NotPrivileged)
-        → IsSomeAnd seat.new.denied (IsDeniedAfter seat.old.station) }
+        → IsSomeAnd seat.new.denied (IsDeniedAfter L.device L.line seat.old.station) }
     ensures there { result ≢ Err (WithinRefusal.Turn TurnRefusal.NoStation) }
 {
     let entries = desk.gather();
@@ -98,7 +98,7 @@ fn work<D: Device, L: Ledger + Opening, G: Gate, R: Wait>(
 ) -> End
     ensures worked { HasWorked seat.old seat.new desk.old desk.new (result ≡ End.Refused TurnRefusal.Device) }
     ensures reached { result ≡ End.Reached → moves ≤ seat.new.reached }
-    ensures tries { result ≡ End.Tries → IsSomeAnd seat.new.denied (IsDeniedAfter seat.old.station) }
+    ensures tries { result ≡ End.Tries → IsSomeAnd seat.new.denied (IsDeniedAfter L.device L.line seat.old.station) }
     ensures refused { result ≢ End.Refused TurnRefusal.NotPrivileged }
     ensures there { result ≢ End.Refused TurnRefusal.NoStation }
     ensures started { result ≢ End.NotStarted }
@@ -134,7 +134,7 @@ fn run_station<D: Device, L: Ledger + Opening, G: Gate, R: Wait>(
     moves: u64,
     tries: u64,
 )
-    ensures { HasRun station.old.seat station.new.seat station.old.desk station.new.desk station.new.end moves }
+    ensures { HasRun L.device L.line station.old.seat station.new.seat station.old.desk station.new.desk station.new.end moves }
 {
     let Station { seat, desk, end } = station;
     *end = work(rt, office, seat, desk, gate, stop, moves, tries);
@@ -155,7 +155,7 @@ pub fn run_stations<
     G: Gate + Sync,
     R: Threads + Wait + Sync,
 >(rt: &R, office: &Office<D, L>, stations: &mut [Station<L>], gate: &G, moves: u64, tries: u64)
-    ensures { HaveRun stations.old stations.new moves }
+    ensures { HaveRun L.device L.line stations.old stations.new moves }
 {
     if stations.is_empty() {
         return;

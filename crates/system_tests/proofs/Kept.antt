@@ -3,6 +3,8 @@ use Rattle.std.proofs.Common.{◌≡◌, ◌∙◌, ℕ, List, ◌++◌, length,
 use Rattle.std.proofs.lemmas.List.{append-nil, take_all, drop_all}
 use Rattle.station_desk.specs.declared.stations.Station.{Station}
 use Rattle.station_desk.specs.Rings.{FeedState}
+use Rattle.sector_device.specs.Device.{DeviceState}
+use Rattle.four_state.specs.Configuration.{Configuration}
 use Rattle.station_desk.specs.Run.{HaveRun}
 use Rattle.station_desk.specs.Pairs.{ArePaired, stay_paired}
 use Rattle.station_desk.specs.PairLaws.{AllStandAt, stay_together}
@@ -36,10 +38,10 @@ kept-feeds {n = n} {m = m} {feeds = feeds} {new = new} {stations = stations} kep
     })
 
 -- the stations were lent, and have run
-pub kept-stations : {X : Type 0} {n m moves : ℕ} {feeds : List FeedState} {stations slice new : List (Station X)} → Kept n m feeds stations
-    → slice ≡ stations → HaveRun slice new moves → Kept n m feeds (lent m stations new)
-kept-stations {n = n} {m = m} {moves = moves} {feeds = feeds} {stations = stations} {new = new} kept is ran =
-    let ran : HaveRun stations new moves = subst (λ stations. HaveRun stations new moves) is ran in
+pub kept-stations : {X : Type 0} {device : DeviceState} {from : Configuration} {n m moves : ℕ} {feeds : List FeedState} {stations slice new : List (Station X)} → Kept n m feeds stations
+    → slice ≡ stations → HaveRun device from slice new moves → Kept n m feeds (lent m stations new)
+kept-stations {device = device} {from = from} {n = n} {m = m} {moves = moves} {feeds = feeds} {stations = stations} {new = new} kept is ran =
+    let ran : HaveRun device from stations new moves = subst (λ stations. HaveRun device from stations new moves) is ran in
     let back = sym (lent-whole m stations new kept.all_stations ran.as_many) in
     subst (λ stations. Kept n m feeds stations) back (record {
       all_feeds = kept.all_feeds;

@@ -106,7 +106,7 @@ fn run_beside<D: Device + Send, L: Ledger + Opening + Send + Sync, R: Wait + Thr
     stations: &mut [Station<L>],
     clients: &mut [Client],
 )
-    ensures ran { HaveRun stations.old stations.new MOVES }
+    ensures ran { HaveRun L.device L.line stations.old stations.new MOVES }
     ensures stand { AllStandAt (map (λ client. client.feed) clients.old) (map (λ client. client.feed) clients.new) }
 {
     let ended = AtomicBool::new(false);
@@ -117,7 +117,7 @@ fn run_beside<D: Device + Send, L: Ledger + Opening + Send + Sync, R: Wait + Thr
             ensures { AllStandAt (map (λ client. client.feed) clients.entry.now) (map (λ client. client.feed) clients.exit.now) }
         { work_all(rt, clients, &ended) },
         &mut ||
-            ensures { HaveRun stations.entry.now stations.exit.now MOVES }
+            ensures { HaveRun L.device L.line stations.entry.now stations.exit.now MOVES }
         {
             run_stations(rt, office, stations, &NoGate, MOVES, TRIES);
             ended.store(true, Ordering::SeqCst);
