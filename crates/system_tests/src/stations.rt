@@ -8,6 +8,7 @@ mod beside;
 mod clients;
 mod day;
 mod days;
+mod tries;
 
 use line_lock::{Ledger, Line, Office, Opening, Seat};
 use sector_device::Device;
