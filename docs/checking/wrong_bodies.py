@@ -10,7 +10,7 @@ from pathlib import Path
 DOCUMENT = Path("docs/WRONG_BODIES.md")
 TOP = """# Wrong bodies
 
-Each line is a body that was made wrong on purpose: the name says what it does, then the function that was changed, and what the prover can't prove of it then. Where a line says "gate", the file is `crates/*/must-fail/*.edit`: the gate tries each of them, and fails where one is taken. The others are `wrong-bodies/*/*.edit`: second and third ones of the same function or its helpers, which `wrong-bodies/try.sh` tries, since the gate takes too long with them; it looks whether they can still be made. This page is made by `docs/checking/wrong_bodies.py`.
+Each line is a body that was made wrong on purpose: the name says what it does, then the function that was changed, and what the prover can't prove of it then. Where a line says "gate", the file is `crates/*/must-fail/*.edit`: the gate tries each of them, and fails where one is taken. The others are `wrong-bodies/*/*.edit`: second and third ones of the same function or its helpers, which `wrong-bodies/try.sh` tries, since the gate takes too long with them; of these the gate looks only whether they can still be made, and the third column says what was seen when they were last tried. This page is made by `docs/checking/wrong_bodies.py`.
 """
 HEAD = ["| The wrong body | In | Not proved | Tried by |", "|---|---|---|---|"]
 ROW = re.compile(r"^\| (.*?) \| `(.*?)` \| (.*?) \| (?:gate|hand) \|$")
