@@ -1,0 +1,30 @@
+#!/usr/bin/env bash
+# Runs each example, and compares what it prints with the file NAME.out beside it: one line for each, and status 1 at the
+# first difference. Word: the program that was built.
+set -euo pipefail
+program=$(realpath "${1:?the word is the program that was built}")
+cd "$(dirname "$0")/.."
+work=$(mktemp -d)
+trap 'rm -rf "$work"' EXIT
+
+# Runs the example NAME, the first word, with the other words as those of the program.
+example() {
+    local name=$1
+    shift
+    if ! "$program" "$@" < "examples/$name" > "$work/printed" 2> "$work/told" || [ -s "$work/told" ]; then
+        echo "$name: the program failed"
+        cat "$work/printed" "$work/told"
+        exit 1
+    fi
+    diff "examples/$name.out" "$work/printed" || { echo "$name: prints something else than examples/$name.out"; exit 1; }
+    echo "$name: prints examples/$name.out"
+}
+
+example first_day --device "$work/ledger" --sectors 23
+example second_day --device "$work/ledger" --sectors 23
+bash examples/damage.sh "$work/ledger" $((4 * 512))
+example damaged_file --device "$work/ledger"
+example full_bank
+example healing
+example two_stations
+example three_stations

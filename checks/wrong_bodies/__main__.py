@@ -1,0 +1,125 @@
+"""Tries the wrong bodies of `crates/*/must-fail`: the prover must refuse each, at a goal of the function that it changes.
+
+    python3 checks/wrong_bodies                   all of them
+    python3 checks/wrong_bodies CRATE ..          those of these crates
+    python3 checks/wrong_bodies CRATE/NAME ..     these alone: a minute, once the libraries below are built
+    --built TREE    take the libraries that were built in this tree, and build none
+    --page          write docs/WRONG_BODIES.md of what became of all of them
+    --itself        try the edits beside this program, of which `cases/expected` says what must become
+
+An edit is refused where the prover doesn't prove the function that it changes, at a goal that the line names. Where that
+isn't so, all of the crate is proved with it. An edit that can't be made, that doesn't compile, or that takes away what a
+proof names fails as one that is proved does. Needed beside the toolchain: Python, and `sh`.
+"""
+import argparse
+import os
+import sys
+import time
+from pathlib import Path
+
+import page
+from edits import BadEdit, edits_below, read_edit
+from lanes import try_all
+from toolchain import build_libraries
+from trials import Aimed, Outcome, aimed_at, batches
+
+CASES = Path(__file__).parent / "cases"
+
+
+def words_given():
+    parser = argparse.ArgumentParser(prog="python3 checks/wrong_bodies", usage=__doc__)
+    parser.add_argument("names", nargs="*")
+    parser.add_argument("--built", type=Path)
+    parser.add_argument("--page", action="store_true")
+    parser.add_argument("--itself", action="store_true")
+    return parser.parse_args()
+
+
+def wanted(edits, names):
+    """The edits of these names, all without any."""
+    chosen = [edit for edit in edits if not names or edit.crate in names or str(edit) in names]
+    unknown = [name for name in names if name not in {edit.crate for edit in edits} | {str(edit) for edit in edits}]
+    if unknown:
+        sys.exit(f"no crate and no wrong body has this name: {', '.join(unknown)}")
+    return chosen
+
+
+def tell(outcome):
+    """A line for what became of an edit."""
+    one = outcome.aimed.edit
+    if outcome.is_refused:
+        by = ", by the whole crate" if outcome.by_whole_crate else ""
+        print(f"{one}: refused in {outcome.aimed.shown} at {outcome.told} ({outcome.seconds:.0f} s{by})", flush=True)
+    else:
+        alone = f"python3 checks/wrong_bodies {one}"
+        print(f"{one}: {outcome.told} ({outcome.seconds:.0f} s). Alone: {alone}", flush=True)
+
+
+def try_edits(edits, tree):
+    """The outcomes of edits of a tree."""
+    aimed, outcomes = [], []
+
+    def note(outcome):
+        outcomes.append(outcome)
+        tell(outcome)
+
+    for edit in edits:
+        try:
+            aimed.append(aimed_at(edit, tree))
+        except BadEdit as bad:
+            note(Outcome(Aimed(edit, (), ()), False, f"BAD EDIT: {bad}", 0.0))
+    try_all(batches(aimed, tree), tree, note)
+    return outcomes
+
+
+def try_itself(tree):
+    """Whether what becomes of each case is what is expected of it."""
+    cases = [read_edit(path, path.parent.name) for path in sorted(CASES.glob("*/*.edit"))]
+    expected = dict(line.split(": ", 1) for line in (CASES / "expected").read_text().splitlines())
+    build_unless_built(cases, tree)
+    told = {str(outcome.aimed.edit): outcome for outcome in try_edits(cases, tree or Path.cwd())}
+    wrong = []
+    for name, beginning in expected.items():
+        outcome = told.pop(name)
+        said = f"refused in {outcome.aimed.shown} at {outcome.told}" if outcome.is_refused else outcome.told
+        if not said.startswith(beginning):
+            wrong.append(f"{name}: {said}\nand not\n  {beginning}")
+    wrong += [f"{name}: nothing is expected of it" for name in told]
+    print("\n".join(wrong) if wrong else f"{len(expected)} cases: as expected")
+    return not wrong
+
+
+def build_unless_built(edits, tree):
+    if tree is None:
+        build_libraries(Path.cwd(), dict.fromkeys(edit.crate for edit in edits))
+
+
+def main():
+    words = words_given()
+    tree = words.built and words.built.resolve()
+    os.chdir(Path(__file__).resolve().parent.parent.parent)
+    if words.itself:
+        sys.exit(0 if try_itself(tree) else 1)
+    start = time.monotonic()
+    edits = wanted(edits_below("crates"), words.names)
+    build_unless_built(edits, tree)
+    outcomes = try_edits(edits, tree or Path.cwd())
+    refused = [outcome for outcome in outcomes if outcome.is_refused]
+    whole = sorted(str(outcome.aimed.edit) for outcome in outcomes if outcome.by_whole_crate)
+    if whole:
+        print(f"tried on the whole crate: {', '.join(whole)}")
+    is_well = len(refused) == len(outcomes)
+    if words.page and not words.names and is_well:
+        page.write(outcomes)
+    elif not words.names and (fault := page.fault(tree or Path.cwd())):
+        print(fault)
+        is_well = False
+    minutes = (time.monotonic() - start) / 60
+    print(f"{len(refused)} wrong bodies refused, {len(outcomes) - len(refused)} not, in {minutes:.0f} minutes")
+    sys.exit(0 if is_well else 1)
+
+
+try:
+    main()
+except BadEdit as bad:
+    sys.exit(f"BAD EDIT: {bad}")
