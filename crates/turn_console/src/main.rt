@@ -2,26 +2,10 @@
 //!
 //! The script comes on standard input, and answers go to standard output. It is read whole, each line is parsed into a
 //! command, and commands run over a clerk on a device: a file, or memory, which a line of the script can take the power
-//! from.
+//! from. The crate `console_engine` does all of that; here it is handed the words and the streams of the system.
 #![tactic(auto)]
 
-mod command_line;
-mod console;
-mod engine;
-mod faults;
-mod names;
-mod power;
-mod printing;
-mod program;
-mod refusals;
-mod script_day;
-mod scripted_clerk;
-mod settings;
-#[cfg(test)]
-mod tests;
-
-use faults::ProgramFault;
-use program::{run_program, tell, tell_not_text};
+use console_engine::{ProgramFault, run_program, tell, tell_not_text};
 use std::alloc::{AllocError, Global};
 use std::io::ErrorKind;
 use std::process::ExitCode;

@@ -1,0 +1,119 @@
+//! The whole program, over the words and streams that it is handed.
+ghost use Rattle.std.specs.Prelude.{◌≡◌, ◌≢◌, ◌⊎◌, ◌≤◌, None, IfSome, OnOk};
+ghost use Rattle.std.specs.Str.Lines.{lines};
+ghost use Rattle.console_engine.specs.Lines.{first_fault};
+ghost use Rattle.clap.specs.Values.{kind_of};
+ghost use Rattle.clap.specs.declared.error.kind.ErrorKind.TheVariants.{DisplayHelp, DisplayVersion};
+
+use crate::command_line::{not_text, options};
+use crate::engine::run_script;
+use crate::faults::{ProgramFault, ScriptFault};
+use crate::settings::Options;
+use clap::Error;
+use clap::error::ErrorKind;
+use file_device::FileDevice;
+use script_streams::write_all;
+use sector_device::MemoryDevice;
+use std::alloc::Global;
+use std::fs::{File, Files};
+use std::io::{Read, Write};
+use std::sync::Wait;
+use std::thread::Threads;
+
+/// The status of a program that ran its script to the end.
+const DONE: u8 = 0;
+
+/// The status of a program that met a fault.
+const FAULT: u8 = 1;
+
+/// The status of a program that was given wrong words.
+const WRONG_WORDS: u8 = 2;
+
+/// Runs the program and gives its status: 0 where the script ran to its end, or help was asked for, 1 after a fault, 2
+/// after wrong words. The first of the words is the program's name. A file that is the device is opened, made and grown
+/// before the script is read. Answers go to the writer, what is told of faults and wrong words to `errors`, of which a
+/// fault is ignored. It may wait where the script has a day.
+pub fn run_program<F: Files<File = File> + Threads + Wait + Sync, R: Read, W: Write, E: Write>(
+    rt: &F,
+    alloc: Global,
+    words: &[&str],
+    reader: &mut R,
+    writer: &mut W,
+    errors: &mut E,
+) -> u8
+    ensures status { result ≤ 2 }
+    // of a reader whose bytes are known: no line of the script is wrong, or nothing was read, as where help was asked for
+    ensures sound { result ≡ 0 → (reader.new ≡ reader.old)
+        ⊎ IfSome (R.remaining reader.old) (λ bytes. first_fault 1 (lines bytes) ≡ None) }
+{
+    match options(alloc, words) {
+        Ok(options) => match run_options(rt, alloc, options, reader, writer) {
+            Ok(()) => DONE,
+            Err(fault) => tell(alloc, fault, errors),
+        },
+        Err(error) => tell_words(alloc, error, writer, errors),
+    }
+}
+
+fn run_options<F: Files<File = File> + Threads + Wait + Sync, R: Read, W: Write>(
+    rt: &F,
+    alloc: Global,
+    options: Options<'_>,
+    reader: &mut R,
+    writer: &mut W,
+) -> Result<(), ProgramFault>
+    ensures sound { OnOk result (IfSome (R.remaining reader.old) (λ bytes. first_fault 1 (lines bytes) ≡ None)) }
+{
+    match options.device {
+        Some(path) => {
+            let device = FileDevice::open(rt, alloc, path, options.sectors)?;
+            run_script(rt, alloc, reader, writer, device)?;
+        }
+        None => {
+            let device = MemoryDevice::new(alloc, options.sectors).map_err(ScriptFault::from)?;
+            run_script(rt, alloc, reader, writer, device)?;
+        }
+    }
+    Ok(())
+}
+
+/// Tells a fault on one line of its own, and gives the status that it ends with. A fault of `errors` is ignored.
+pub fn tell<E: Write>(alloc: Global, fault: ProgramFault, errors: &mut E) -> u8
+    ensures { result ≡ 1 }
+{
+    let _ = match format!(in alloc; "{fault}\n") {
+        Ok(text) => write_all(errors, text.as_bytes()),
+        Err(_) => write_all(errors, b"out of memory\n"),
+    };
+    FAULT
+}
+
+/// Tells that a word of the command line isn't UTF-8, and gives the status that it ends with: 2, or 1 where there is no
+/// memory for the text. A fault of `errors` is ignored.
+pub fn tell_not_text<W: Write, E: Write>(alloc: Global, writer: &mut W, errors: &mut E) -> u8
+    ensures { (result ≡ 1) ⊎ (result ≡ 2) }
+{
+    let (Ok(error) | Err(error)) = not_text(alloc);
+    tell_words(alloc, error, writer, errors)
+}
+
+// Writes what `clap` answers to wrong words, or to the wish for help.
+fn tell_words<W: Write, E: Write>(alloc: Global, error: Error, writer: &mut W, errors: &mut E) -> u8
+    ensures status { result ≤ 2 }
+    ensures wrong { kind_of error ≢ DisplayHelp → kind_of error ≢ DisplayVersion → (result ≡ 1) ⊎ (result ≡ 2) }
+{
+    if error.kind() == ErrorKind::OutOfMemory {
+        return tell(alloc, ProgramFault::MEMORY, errors);
+    }
+    let Ok(text) = error.to_string(alloc) else {
+        return tell(alloc, ProgramFault::MEMORY, errors);
+    };
+    if error.use_stderr() {
+        let _ = write_all(errors, text.as_bytes());
+        return WRONG_WORDS;
+    }
+    match write_all(writer, text.as_bytes()) {
+        Ok(()) => DONE,
+        Err(_) => tell(alloc, ProgramFault::Script(ScriptFault::Write), errors),
+    }
+}

@@ -1,0 +1,226 @@
+//! Days of station threads, from scripts. Each test holds whatever thread runs when.
+use crate::scripts::{prints, told};
+use console_engine::{Device, LineFault, MemoryDevice, PowerLoss, ScriptFault, run_script};
+use fault_injector::{OneFault, Op};
+use gate_journal::format;
+use sector_device::{DeviceFault, Sector};
+use std::alloc::Global;
+use std::process::Abort;
+use std::sync::Wait;
+use std::test::Fail;
+use std::thread::Threads;
+
+// A device from which a power loss takes nothing.
+#[derive(Drop)]
+struct Steady<D: Device> {
+    inner: D,
+}
+
+impl<D: Device> Device for Steady<D> {
+    ghost state = { λ steady. D.state steady.inner };
+
+    fn sectors(&self) -> u64 {
+        self.inner.sectors()
+    }
+
+    fn read(&mut self, at: u64, into: &mut Sector) -> Result<(), DeviceFault> {
+        self.inner.read(at, into)
+    }
+
+    fn write(&mut self, at: u64, from: &Sector) -> Result<(), DeviceFault> {
+        self.inner.write(at, from)
+    }
+
+    fn sync(&mut self) -> Result<(), DeviceFault> {
+        self.inner.sync()
+    }
+
+    ghost sound = { λ steady honest. D.sound steady.inner honest };
+}
+
+impl<D: Device + Send> PowerLoss for Steady<D> {
+    fn lose_power(self, _: Global) -> Self {
+        self
+    }
+}
+
+#[test]
+fn a_day_of_three_stations(rt: HostRuntime) -> Result<(), Fail> {
+    prints(
+        &rt,
+        rt.alloc(),
+        "format 4\nopen 3 000 100\npost 0 deposit 1 100\npost 1 deposit 2 50\npost 2 transfer 1 2 30\npost 0 withdraw 2 500\nday 8\nbalances\n",
+        "formatted 4\nopened 3 next 0 total 0\nheld 0 1\nheld 1 1\nheld 2 1\nheld 0 2\nturn 0 station 0 Bottom posted 0\nentry 0 ok\nentry 1 Short\nturn 1 station 1 Raise posted 1\nentry 0 ok\nturn 2 station 2 Top posted 2\nentry 0 ok\nturn 3 station 1 Lower empty\nturn 4 station 0 Bottom empty\nturn 5 station 1 Raise empty\nturn 6 station 2 Top empty\nturn 7 station 1 Lower empty\nday 8 legitimate at 0\nstation 0 Reached\nstation 1 Reached\nstation 2 Reached\nanswer 0 0 posted 0\nanswer 0 1 Short\nanswer 1 0 posted 1\nanswer 2 0 posted 2\naccount 1 70\naccount 2 80\ntotal 150\n",
+    )
+}
+
+#[test]
+fn a_day_needs_an_office_and_some_turns(rt: HostRuntime) -> Result<(), Fail> {
+    prints(&rt, rt.alloc(), "day 3\n", "refused NoOffice\n")?;
+    for script in ["day 0", "day 100001"] {
+        let (output, end) = told(&rt, rt.alloc(), script)?;
+        let cause = LineFault::BadNumber;
+        assert_eq!(rt; end, Err(ScriptFault::Line { line: 1, cause }), "{script}");
+        assert_eq!(rt; output.len(), 0);
+    }
+    Ok(())
+}
+
+// The next turn goes on from the day's, and the next day begins anew.
+#[test]
+fn turns_go_on_from_a_day(rt: HostRuntime) -> Result<(), Fail> {
+    prints(
+        &rt,
+        rt.alloc(),
+        "format 1\nopen 2 00 10\nturn 0\nday 2\nturn 1\nday 1\nbits\n",
+        "formatted 1\nopened 2 next 0 total 0\nturn 0 station 0 Bottom empty\nturn 0 station 1 Top empty\nturn 1 station 0 Bottom empty\nday 2 legitimate at 0\nstation 0 Reached\nstation 1 Reached\nturn 2 station 1 Top empty\nturn 0 station 0 Bottom empty\nday 1 legitimate at 0\nstation 0 Reached\nstation 1 Reached\nbits 10/10 privileges 1\n",
+    )
+}
+
+// Each station's deposit takes a bank of one slot.
+#[test]
+fn a_day_on_banks_of_one_slot(rt: HostRuntime) -> Result<(), Fail> {
+    prints(
+        &rt,
+        rt.alloc(),
+        "format 1\nopen 2 00 10\npost 0 deposit 1 5\npost 1 deposit 1 7\nday 4\npost 0 deposit 1 1\npost 1 deposit 1 1\nbalances\n",
+        "formatted 1\nopened 2 next 0 total 0\nheld 0 1\nheld 1 1\nturn 0 station 0 Bottom posted 0\nentry 0 ok\nturn 1 station 1 Top posted 1\nentry 0 ok\nturn 2 station 0 Bottom empty\nturn 3 station 1 Top empty\nday 4 legitimate at 0\nstation 0 Reached\nstation 1 Reached\nanswer 0 0 posted 0\nanswer 1 0 posted 1\nheld 0 1\nheld 1 1\naccount 1 12\ntotal 12\n",
+    )
+}
+
+// A day takes sixteen entries in two turns, of which one turn takes fifteen.
+#[test]
+fn a_day_takes_what_one_turn_refuses(rt: HostRuntime) -> Result<(), Fail> {
+    let alloc = rt.alloc();
+    let mut script = String::new(alloc);
+    script.push_str("format 4\nopen 2 00 10\n")?;
+    for _ in 0..16 {
+        script.push_str("post 0 deposit 1 1\n")?;
+    }
+    script.push_str("turn 0\nday 3\npost 0 deposit 1 1\nbalances\n")?;
+    let (output, end) = told(&rt, alloc, script.as_str())?;
+    assert_eq!(rt; end, Ok(()));
+    let output = output.as_slice();
+    for part in [
+        "held 0 16\nrefused TooMany\nturn 0 station 0 Bottom posted 0\nentry 0 ok\n",
+        "entry 14 ok\nturn 1 station 1 Top empty\nturn 2 station 0 Bottom posted 1\nentry 0 ok\nday 3 ",
+        "answer 0 14 posted 0\nanswer 0 15 posted 1\nheld 0 1\naccount 1 16\ntotal 16\n",
+    ] {
+        assert!(rt; has(output, part), "{part}");
+    }
+    Ok(())
+}
+
+pub fn has(output: &[u8], part: &str) -> bool {
+    std::str::from_utf8(output).is_ok_and(|text| text.contains(part))
+}
+
+// What a script prints on a formatted device whose sync of this number fails.
+fn told_with_a_fault<R: Threads + Wait + Sync>(
+    rt: &R,
+    alloc: Global,
+    sync: u64,
+    script: &str,
+) -> Result<Vec<u8>, Fail> {
+    let mut device = MemoryDevice::new(alloc, 64)?;
+    format(&mut device, 4)?;
+    let mut output = Vec::new(alloc);
+    let mut reader = script.as_bytes();
+    let inner = OneFault::new(device, Op::Sync, sync);
+    let device = Steady { inner };
+    run_script(rt, alloc, &mut reader, &mut output, device)?;
+    Ok(output)
+}
+
+// Station 0 meets the fault, and its answer is undecided; what the others held stays held.
+#[test]
+fn a_day_on_a_device_that_fails(rt: HostRuntime) -> Result<(), Fail> {
+    let script =
+        "open 3 000 100\npost 0 deposit 1 5\npost 1 deposit 2 6\nday 8\npost 0 deposit 1 1\npost 1 deposit 2 7\nday 1\nturn 0\nbalances\n";
+    let alloc = rt.alloc();
+    let output = told_with_a_fault(&rt, alloc, 2, script)?;
+    let output = output.as_slice();
+    for part in [
+        "held 1 1\nday 0 legitimate at 0\nstation 0 Device\nstation 1 ",
+        "\nanswer 0 0 undecided\nheld 0 1\nheld 1 2\nrefused Faulted\nrefused Faulted\ntotal 0\n",
+    ] {
+        assert!(rt; has(output, part), "{part}");
+    }
+    for station in 1..3 {
+        let stopped = format!(in alloc; "station {station} Stopped\n")?;
+        let faulted = format!(in alloc; "station {station} Faulted\n")?;
+        assert!(rt; has(output, stopped.as_str()) || has(output, faulted.as_str()));
+    }
+    Ok(())
+}
+
+// Station 1 has the privilege, and its two requests are in the batch that meets the fault.
+#[test]
+fn each_undecided_answer_has_its_station_and_ticket(rt: HostRuntime) -> Result<(), Fail> {
+    let script = "open 3 100 100\npost 1 deposit 1 5\npost 1 deposit 1 6\nday 3\n";
+    let output = told_with_a_fault(&rt, rt.alloc(), 2, script)?;
+    assert!(rt;
+        output
+            .as_slice()
+            .ends_with(b"\nanswer 1 0 undecided\nanswer 1 1 undecided\n")
+    );
+    Ok(())
+}
+
+// The device fails as the day's office is opened: there is no office any more, and what was held is dropped.
+#[test]
+fn a_day_that_can_not_begin(rt: HostRuntime) -> Result<(), Fail> {
+    let script =
+        "open 2 00 10\npost 0 deposit 1 5\nday 4\nturn 0\nopen 2 00 10\npost 0 deposit 1 5\nturn 0\n";
+    let output = told_with_a_fault(&rt, rt.alloc(), 1, script)?;
+    let wanted =
+        "opened 2 next 0 total 0\nheld 0 1\nrefused Device\nrefused NoOffice\nopened 2 next 0 total 0\nheld 0 1\nturn 0 station 0 Bottom posted 0\nentry 0 ok\n";
+    assert_eq!(rt; output.as_slice(), wanted.as_bytes());
+    Ok(())
+}
+
+// The index from which the one day of this output is legitimate.
+fn legitimate_at(output: &[u8]) -> Option<u64> {
+    let text = std::str::from_utf8(output).ok()?;
+    let line = text.lines().find(|line| line.starts_with("day "))?;
+    let (_, index) = line.split_once(" legitimate at ")?;
+    index.parse().ok()
+}
+
+// Bits of a line of so many stations, taken from a number.
+fn bits_from(alloc: Global, stations: u64, number: u64) -> Result<String, Fail> {
+    let mut bits = String::new(alloc);
+    let mut rest = number;
+    for _ in 0..stations {
+        bits.push(if rest % 2 == 1 { '1' } else { '0' })?;
+        rest /= 2;
+    }
+    Ok(bits)
+}
+
+#[test]
+fn a_day_from_any_bits_becomes_legitimate(rt: HostRuntime) -> Result<(), Fail> {
+    let alloc = rt.alloc();
+    let (output, end) = told(&rt, alloc, "format 4\nopen 4 0101 1000\nday 26\n")?;
+    assert_eq!(rt; end, Ok(()));
+    assert!(rt; has(output.as_slice(), "\nday 26 legitimate at "));
+    assert!(rt; legitimate_at(output.as_slice()).is_some_and(|index| index <= 7));
+    let mut number = 1u64;
+    for stations in 2..9u64 {
+        let top = stations - 1;
+        let bound = top * top - top + 1;
+        for _ in 0..8 {
+            number = number
+                .wrapping_mul(6364136223846793005)
+                .wrapping_add(1442695040888963407);
+            let x = bits_from(alloc, stations, number >> 20)?;
+            let up = bits_from(alloc, stations, number >> 40)?;
+            let script = format!(in alloc; "format 4\nopen {stations} {x} {up}\nday {bound}\n")?;
+            let (output, end) = told(&rt, alloc, script.as_str())?;
+            assert_eq!(rt; end, Ok(()));
+            let index = legitimate_at(output.as_slice());
+            assert!(rt; index.is_some_and(|index| index <= bound), "{script}");
+        }
+    }
+    Ok(())
+}

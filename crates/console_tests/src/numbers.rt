@@ -1,0 +1,66 @@
+//! Numbers that are printed: where a line has two of them, with two different values.
+use crate::day::has;
+use crate::fakes::Refusing;
+use crate::scripts::{prints, told};
+use console_engine::{MemoryDevice, ScriptFault, run_script};
+use std::test::Fail;
+
+// One unit is something; an account that was emptied holds nothing.
+#[test]
+fn each_account_that_holds_something_is_listed(rt: HostRuntime) -> Result<(), Fail> {
+    prints(
+        &rt,
+        rt.alloc(),
+        "format 1\nopen 2 00 10\npost 0 deposit 1 1\npost 0 deposit 2 5\npost 0 withdraw 2 5\npost 0 deposit 64 3\nturn 0\nbalances\n",
+        "formatted 1\nopened 2 next 0 total 0\nheld 0 1\nheld 0 2\nheld 0 3\nheld 0 4\nturn 0 station 0 Bottom posted 0\nentry 0 ok\nentry 1 ok\nentry 2 ok\nentry 3 ok\naccount 1 1\naccount 64 3\ntotal 4\n",
+    )
+}
+
+// Stations 1, 2 and 3 differ from those below them.
+#[test]
+fn as_many_privileges_are_told_as_a_line_has(rt: HostRuntime) -> Result<(), Fail> {
+    prints(
+        &rt,
+        rt.alloc(),
+        "format 1\nopen 4 0101 1000\nbits\n",
+        "formatted 1\nopened 4 next 0 total 0\nbits 0101/1000 privileges 3\n",
+    )
+}
+
+// Whichever station moves first: one privilege alone is left after so many turns.
+#[test]
+fn a_day_tells_when_its_line_became_legitimate(rt: HostRuntime) -> Result<(), Fail> {
+    let table = [
+        ("open 3 011 110\nday 5", "day 5 legitimate at 1"),
+        ("open 4 0111 1110\nday 5", "day 5 legitimate at 2"),
+        ("open 5 01111 11110\nday 4", "day 4 legitimate at 3"),
+        ("open 5 01111 11110\nday 2", "day 2 legitimate never"),
+        ("open 4 0101 1000\nday 1", "day 1 legitimate never"),
+    ];
+    let alloc = rt.alloc();
+    for (lines, wanted) in table {
+        let script = format!(in alloc; "format 1\n{lines}\n")?;
+        let (output, end) = told(&rt, alloc, script.as_str())?;
+        assert_eq!(rt; end, Ok(()), "{script}");
+        let wanted = format!(in alloc; "\n{wanted}\nstation 0 Reached\n")?;
+        assert!(rt; has(output.as_slice(), wanted.as_str()), "{script}");
+    }
+    Ok(())
+}
+
+// The writer takes one call, and fails at the next one.
+#[test]
+fn a_day_is_acknowledged_at_once(rt: HostRuntime) -> Result<(), Fail> {
+    let alloc = rt.alloc();
+    let device = MemoryDevice::new(alloc, 64)?;
+    let mut script = b"format 1\nopen 2 00 10\npost 0 deposit 1 5\nday 1\nbits\n".as_slice();
+    let mut writer = Refusing::after(alloc, 1);
+    let end = run_script(&rt, alloc, &mut script, &mut writer, device);
+    assert_eq!(rt; end, Err(ScriptFault::Write));
+    assert!(rt;
+        writer
+            .taken()
+            .ends_with(b"station 1 Reached\nanswer 0 0 posted 0\n")
+    );
+    Ok(())
+}

@@ -1,0 +1,385 @@
+//! Whole scripts, with all that they print and how they end.
+use crate::fakes::{Endless, Failing, Interrupted, OneByte, Refusing};
+use console_engine::{LineFault, MemoryDevice, ScriptFault, run_program, run_script};
+use std::alloc::Global;
+use std::fs::{File, Files};
+use std::io::{Read, Write};
+use std::process::Abort;
+use std::sync::Wait;
+use std::test::Fail;
+use std::thread::Threads;
+
+// What a script prints on a device of 64 sectors, and how it ends.
+pub fn told<R: Threads + Wait + Sync>(
+    rt: &R,
+    alloc: Global,
+    script: &str,
+) -> Result<(Vec<u8>, Result<(), ScriptFault>), Fail> {
+    let device = MemoryDevice::new(alloc, 64)?;
+    let mut output = Vec::new(alloc);
+    let mut reader = script.as_bytes();
+    let end = run_script(rt, alloc, &mut reader, &mut output, device);
+    Ok((output, end))
+}
+
+pub fn prints<R: Abort + Threads + Wait + Sync>(
+    rt: &R,
+    alloc: Global,
+    script: &str,
+    wanted: &str,
+) -> Result<(), Fail> {
+    let (output, end) = told(rt, alloc, script)?;
+    assert_eq!(rt; end, Ok(()), "{script}");
+    assert_eq!(rt; output.as_slice(), wanted.as_bytes(), "{script}");
+    Ok(())
+}
+
+pub const DEPOSIT: &str =
+    "format 4\nopen 3 000 100\npost 0 deposit 1 500\nturn 0\nbalances\ncrash\nopen 3 111 110\nbalances\n";
+
+pub const DEPOSIT_PRINTS: &str =
+    "formatted 4\nopened 3 next 0 total 0\nheld 0 1\nturn 0 station 0 Bottom posted 0\nentry 0 ok\naccount 1 500\ntotal 500\ncrashed\nopened 3 next 1 total 500\naccount 1 500\ntotal 500\n";
+
+#[test]
+fn a_deposit_survives_a_power_loss(rt: HostRuntime) -> Result<(), Fail> {
+    prints(&rt, rt.alloc(), DEPOSIT, DEPOSIT_PRINTS)
+}
+
+#[test]
+fn a_batch_of_three_kinds(rt: HostRuntime) -> Result<(), Fail> {
+    prints(
+        &rt,
+        rt.alloc(),
+        "format 4\nopen 2 00 10\npost 0 deposit 1 100\npost 0 withdraw 1 150\npost 0 transfer 1 2 40\nturn 0\nbalances",
+        "formatted 4\nopened 2 next 0 total 0\nheld 0 1\nheld 0 2\nheld 0 3\nturn 0 station 0 Bottom posted 0\nentry 0 ok\nentry 1 Short\nentry 2 ok\naccount 1 60\naccount 2 40\ntotal 100\n",
+    )
+}
+
+#[test]
+fn turns_sweep_from_the_bottom_to_the_top_and_back(rt: HostRuntime) -> Result<(), Fail> {
+    prints(
+        &rt,
+        rt.alloc(),
+        "format 4\nopen 3 000 100\npost 0 deposit 1 100\npost 1 deposit 2 50\npost 2 transfer 1 2 30\npost 0 withdraw 2 500\nturn 0\nturn 1\nturn 2\nturn 1\nturn 0\nturn 1\nturn 2\nturn 1\nbalances\n",
+        "formatted 4\nopened 3 next 0 total 0\nheld 0 1\nheld 1 1\nheld 2 1\nheld 0 2\nturn 0 station 0 Bottom posted 0\nentry 0 ok\nentry 1 Short\nturn 1 station 1 Raise posted 1\nentry 0 ok\nturn 2 station 2 Top posted 2\nentry 0 ok\nturn 3 station 1 Lower empty\nturn 4 station 0 Bottom empty\nturn 5 station 1 Raise empty\nturn 6 station 2 Top empty\nturn 7 station 1 Lower empty\naccount 1 70\naccount 2 80\ntotal 150\n",
+    )
+}
+
+#[test]
+fn a_line_with_two_privileges_settles(rt: HostRuntime) -> Result<(), Fail> {
+    prints(
+        &rt,
+        rt.alloc(),
+        "format 4\nopen 3 011 011\nbits\nturn 1\nbits\n",
+        "formatted 4\nopened 3 next 0 total 0\nbits 011/110 privileges 2\nturn 0 station 1 Raise empty\nbits 001/110 privileges 1\n",
+    )
+}
+
+// What follows `format 1`, `open 2 00 10` and `crash`; and what it prints after those.
+#[test]
+fn refusals_come_in_their_order(rt: HostRuntime) -> Result<(), Fail> {
+    let table = [
+        // before an office is open
+        ("turn 0", "refused NoOffice\n"),
+        ("post 9 deposit 0 0", "refused NoOffice\n"),
+        ("bits\nbalances", "refused NoOffice\nrefused NoOffice\n"),
+        ("crash", "crashed\n"),
+        ("format 1000001", "refused TooManySlots\n"),
+        ("format 15", "refused TooSmall\n"),
+        ("format 14", "formatted 14\n"),
+        ("open 1 0 1", "refused Stations\n"),
+        ("open 65 0 1", "refused Stations\n"),
+        ("open 3 00 100", "refused Length\n"),
+        ("open 3 000 10", "refused Length\n"),
+        ("open 2 00 10", "refused Unformatted\n"),
+        // with an open office
+        (
+            "format 1\nopen 2 00 10\nformat 1000001",
+            "refused OfficeOpen\n",
+        ),
+        ("format 1\nopen 2 00 10\nopen 1 0 1", "refused OfficeOpen\n"),
+        (
+            "format 1\nopen 2 00 10\npost 2 deposit 1 1",
+            "refused NoStation\n",
+        ),
+        ("format 1\nopen 2 00 10\nturn 2", "refused NoStation\n"),
+        (
+            "format 1\nopen 2 00 10\nturn 18446744073709551615",
+            "refused NoStation\n",
+        ),
+        ("format 1\nopen 2 00 10\nturn 256", "refused NoStation\n"),
+        (
+            "format 1\nopen 2 00 10\npost 256 deposit 1 1",
+            "refused NoStation\n",
+        ),
+        ("format 1\nopen 2 00 10\nturn 1", "refused NotPrivileged\n"),
+        // an office that is forgotten, and a device that is kept
+        (
+            "format 1\nopen 2 00 10\ncrash\nturn 0",
+            "crashed\nrefused NoOffice\n",
+        ),
+        (
+            "format 1\nopen 2 00 10\ncrash\nopen 1 0 1\nopen 2 00 10",
+            "crashed\nrefused Stations\nopened 2 next 0 total 0\n",
+        ),
+    ];
+    for (script, wanted) in table {
+        let (output, end) = told(&rt, rt.alloc(), script)?;
+        assert_eq!(rt; end, Ok(()), "{script}");
+        let opened = "formatted 1\nopened 2 next 0 total 0\n";
+        let output = output.as_slice();
+        let rest = output.strip_prefix(opened.as_bytes()).unwrap_or(output);
+        assert_eq!(rt; rest, wanted.as_bytes(), "{script}");
+    }
+    Ok(())
+}
+
+#[test]
+fn a_full_bank_makes_a_checkpoint(rt: HostRuntime) -> Result<(), Fail> {
+    prints(
+        &rt,
+        rt.alloc(),
+        "format 1\nopen 2 00 10\npost 0 deposit 1 5\nturn 0\npost 1 deposit 1 5\nturn 1\nbalances\ncrash\nopen 2 00 10\nbalances\n",
+        "formatted 1\nopened 2 next 0 total 0\nheld 0 1\nturn 0 station 0 Bottom posted 0\nentry 0 ok\nheld 1 1\nturn 1 station 1 Top posted 1\nentry 0 ok\naccount 1 10\ntotal 10\ncrashed\nopened 2 next 2 total 10\naccount 1 10\ntotal 10\n",
+    )
+}
+
+#[test]
+fn a_station_holds_sixteen_entries(rt: HostRuntime) -> Result<(), Fail> {
+    let alloc = rt.alloc();
+    let mut script = String::from_str(alloc, "format 4\nopen 2 00 10\n")?;
+    for _ in 0..17 {
+        script.push_str("post 0 deposit 1 1\n")?;
+    }
+    script.push_str("turn 0\npost 1 deposit 1 1\n")?;
+    let (output, end) = told(&rt, alloc, script.as_str())?;
+    assert_eq!(rt; end, Ok(()));
+    let wanted = b"held 0 16\nrefused HeldFull\nrefused TooMany\nheld 1 1\n";
+    assert!(rt; output.as_slice().ends_with(wanted));
+    Ok(())
+}
+
+#[test]
+fn each_verdict_is_printed(rt: HostRuntime) -> Result<(), Fail> {
+    prints(
+        &rt,
+        rt.alloc(),
+        "format 1\nopen 2 00 10\npost 0 deposit 1 0\npost 0 deposit 65 1\npost 0 transfer 1 1 5\npost 0 withdraw 1 1\npost 0 deposit 1 1000000000000000001\npost 0 deposit 64 5\nturn 0\n",
+        "formatted 1\nopened 2 next 0 total 0\nheld 0 1\nheld 0 2\nheld 0 3\nheld 0 4\nheld 0 5\nheld 0 6\nturn 0 station 0 Bottom posted 0\nentry 0 ZeroAmount\nentry 1 NoAccount\nentry 2 SameAccount\nentry 3 Short\nentry 4 OverLimit\nentry 5 ok\n",
+    )
+}
+
+#[test]
+fn an_empty_script_prints_nothing(rt: HostRuntime) -> Result<(), Fail> {
+    prints(&rt, rt.alloc(), "", "")?;
+    prints(&rt, rt.alloc(), "\n \r\n# frob\n  #\n", "")
+}
+
+#[test]
+fn a_wrong_line_ends_the_script(rt: HostRuntime) -> Result<(), Fail> {
+    let (output, end) = told(&rt, rt.alloc(), "\n# x\nformat 4\n  \nfrob\nformat 2\n")?;
+    let (line, cause) = (5, LineFault::UnknownCommand);
+    assert_eq!(rt; end, Err(ScriptFault::Line { line, cause }));
+    assert_eq!(rt; output.as_slice(), b"formatted 4\n".as_slice());
+    Ok(())
+}
+
+#[test]
+fn spaces_returns_and_zeros_are_taken(rt: HostRuntime) -> Result<(), Fail> {
+    prints(
+        &rt,
+        rt.alloc(),
+        "  format   0004  \r\nopen 2 00 10\r\npost 0 deposit 0000000000000000000001 07\nbits",
+        "formatted 4\nopened 2 next 0 total 0\nheld 0 1\nbits 00/10 privileges 1\n",
+    )
+}
+
+#[test]
+fn readers_and_writers_of_one_byte(rt: HostRuntime) -> Result<(), Fail> {
+    let alloc = rt.alloc();
+    let device = MemoryDevice::new(alloc, 64)?;
+    let mut reader = OneByte::over(alloc, DEPOSIT.as_bytes());
+    let mut writer = OneByte::over(alloc, &[]);
+    let end = run_script(&rt, alloc, &mut reader, &mut writer, device);
+    assert_eq!(rt; end, Ok(()));
+    assert_eq!(rt; writer.taken(), DEPOSIT_PRINTS.as_bytes());
+    Ok(())
+}
+
+#[test]
+fn a_reader_that_fails_at_each_call(rt: HostRuntime) -> Result<(), Fail> {
+    let alloc = rt.alloc();
+    for calls in 0..DEPOSIT.len() as u64 {
+        let device = MemoryDevice::new(alloc, 64)?;
+        let mut reader = Failing::over(alloc, DEPOSIT.as_bytes(), calls);
+        let mut output = Vec::new(alloc);
+        let end = run_script(&rt, alloc, &mut reader, &mut output, device);
+        assert_eq!(rt; end, Err(ScriptFault::Read));
+        assert_eq!(rt; output.len(), 0);
+    }
+    Ok(())
+}
+
+#[test]
+fn a_writer_that_fails_at_each_call(rt: HostRuntime) -> Result<(), Fail> {
+    let alloc = rt.alloc();
+    for calls in 0..2 {
+        let device = MemoryDevice::new(alloc, 64)?;
+        let mut reader = DEPOSIT.as_bytes();
+        let mut writer = Refusing::after(alloc, calls);
+        let end = run_script(&rt, alloc, &mut reader, &mut writer, device);
+        assert_eq!(rt; end, Err(ScriptFault::Write));
+        assert!(rt; DEPOSIT_PRINTS.as_bytes().starts_with(writer.taken()));
+    }
+    Ok(())
+}
+
+// The lines of a turn are handed to the writer before the next line runs.
+#[test]
+fn a_turn_is_acknowledged_at_once(rt: HostRuntime) -> Result<(), Fail> {
+    let alloc = rt.alloc();
+    let device = MemoryDevice::new(alloc, 64)?;
+    let mut reader = DEPOSIT.as_bytes();
+    let mut writer = Refusing::after(alloc, 1);
+    let end = run_script(&rt, alloc, &mut reader, &mut writer, device);
+    assert_eq!(rt; end, Err(ScriptFault::Write));
+    assert!(rt; writer.taken().ends_with(b"posted 0\nentry 0 ok\n"));
+    Ok(())
+}
+
+#[test]
+fn interrupted_for_ever(rt: HostRuntime) -> Result<(), Fail> {
+    let alloc = rt.alloc();
+    let mut script = DEPOSIT.as_bytes();
+    let device = MemoryDevice::new(alloc, 64)?;
+    let end = run_script(&rt, alloc, &mut script, &mut Interrupted, device);
+    assert_eq!(rt; end, Err(ScriptFault::Write));
+    Ok(())
+}
+
+#[test]
+fn a_script_that_never_ends_is_too_long(rt: HostRuntime) -> Result<(), Fail> {
+    let alloc = rt.alloc();
+    let device = MemoryDevice::new(alloc, 64)?;
+    let mut output = Vec::new(alloc);
+    let end = run_script(&rt, alloc, &mut Endless, &mut output, device);
+    assert_eq!(rt; end, Err(ScriptFault::TooLong));
+    Ok(())
+}
+
+// The words, the script, and what the program ends with: its status, output and errors.
+#[test]
+fn the_program_tells_how_it_ended(rt: HostRuntime) -> Result<(), Fail> {
+    let alloc = rt.alloc();
+    let table: [(&[&str], &str, u8, &str, &str); 9] = [
+        (&["console"], "", 0, "", ""),
+        (&["console"], "turn 0", 0, "refused NoOffice\n", ""),
+        (
+            &["console"],
+            "format 4\nfrob\n",
+            1,
+            "formatted 4\n",
+            "line 2: unknown command\n",
+        ),
+        (
+            &["console"],
+            "turn",
+            1,
+            "",
+            "line 1: wrong number of words\n",
+        ),
+        (&["console"], "format x", 1, "", "line 1: bad number\n"),
+        (&["console"], "open 2 0x 10", 1, "", "line 1: bad bits\n"),
+        (
+            &["console"],
+            "format 14\nformat 15",
+            0,
+            "formatted 14\nrefused TooSmall\n",
+            "",
+        ),
+        (
+            &["console", "--sectors", "23"],
+            "format 4\nformat 5",
+            0,
+            "formatted 4\nrefused TooSmall\n",
+            "",
+        ),
+        (
+            &["console", "--sectors=1"],
+            "format 1",
+            0,
+            "refused TooSmall\n",
+            "",
+        ),
+    ];
+    for (words, script, wanted, prints, tells) in table {
+        let (mut reader, mut writer, mut errors) = (
+            script.as_bytes(),
+            Vec::new(alloc),
+            Vec::new(alloc),
+        );
+        let status = run_program(&rt, alloc, words, &mut reader, &mut writer, &mut errors);
+        assert_eq!(rt; status, wanted, "{script}");
+        assert_eq!(rt; writer.as_slice(), prints.as_bytes(), "{script}");
+        assert_eq!(rt; errors.as_slice(), tells.as_bytes(), "{script}");
+    }
+    Ok(())
+}
+
+// How the program ends over a reader and a writer: its status, and what it tells on its errors.
+fn fails_with<S: Abort + Files<File = File> + Threads + Wait + Sync, R: Read, W: Write>(
+    rt: &S,
+    alloc: Global,
+    words: &[&str],
+    reader: &mut R,
+    writer: &mut W,
+    tells: &str,
+) {
+    let mut errors = Vec::new(alloc);
+    let status = run_program(rt, alloc, words, reader, writer, &mut errors);
+    assert_eq!(rt; status, 1);
+    assert_eq!(rt; errors.as_slice(), tells.as_bytes());
+}
+
+#[test]
+fn streams_that_fail_are_told(rt: HostRuntime) {
+    let alloc = rt.alloc();
+    let words = ["console"];
+    let help = ["console", "--help"];
+    let mut output = Vec::new(alloc);
+    let mut failing = Failing::over(alloc, b"crash", 0);
+    fails_with(
+        &rt,
+        alloc,
+        &words,
+        &mut failing,
+        &mut output,
+        "read failed\n",
+    );
+    fails_with(
+        &rt,
+        alloc,
+        &words,
+        &mut Endless,
+        &mut output,
+        "script too long\n",
+    );
+    let mut script = b"crash".as_slice();
+    let mut refusing = Refusing::after(alloc, 0);
+    fails_with(
+        &rt,
+        alloc,
+        &help,
+        &mut script,
+        &mut refusing,
+        "write failed\n",
+    );
+    fails_with(
+        &rt,
+        alloc,
+        &words,
+        &mut script,
+        &mut refusing,
+        "write failed\n",
+    );
+}

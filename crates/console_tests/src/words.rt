@@ -1,0 +1,108 @@
+//! The words of the command line.
+use crate::scripts::DEPOSIT;
+use console_engine::{options, run_program, tell_not_text};
+use std::alloc::Global;
+use std::fs::{File, Files};
+use std::sync::Wait;
+use std::test::Fail;
+use std::thread::Threads;
+
+// The sectors that these words ask for, where they aren't refused.
+#[test]
+fn the_sectors_are_1_to_4000039(rt: HostRuntime) {
+    let table = [
+        ("0", None),
+        ("1", Some(1)),
+        ("4000039", Some(4_000_039)),
+        ("4000040", None),
+    ];
+    for (sectors, wanted) in table {
+        let words = ["console", "--device", "office.ledger", "--sectors", sectors];
+        let asked = options(rt.alloc(), &words).ok();
+        assert_eq!(rt; asked.map(|options| options.sectors), wanted, "{sectors}");
+        let device = asked.and_then(|options| options.device);
+        assert_eq!(rt; device, wanted.map(|_| "office.ledger"), "{sectors}");
+    }
+    let alone = options(rt.alloc(), &["console"]).ok();
+    assert_eq!(rt;
+        alone.map(|options| (options.sectors, options.device)),
+        Some((64, None))
+    );
+}
+
+#[test]
+fn a_word_that_is_no_text_is_wrong(rt: HostRuntime) {
+    let alloc = rt.alloc();
+    let (mut writer, mut errors) = (Vec::new(alloc), Vec::new(alloc));
+    let status = tell_not_text(alloc, &mut writer, &mut errors);
+    assert_eq!(rt; (status, writer.len()), (2, 0));
+    assert_eq!(rt;
+        errors.as_slice(),
+        b"error: invalid UTF-8 was detected in one or more arguments\n\nUsage: turn_console [OPTIONS]\n\nFor more information, try '--help'.\n".as_slice()
+    );
+}
+
+// The words that are wrong, and what is told of them.
+#[test]
+fn wrong_words_are_told(rt: HostRuntime) -> Result<(), Fail> {
+    let alloc = rt.alloc();
+    let wrong: [(&[&str], &str); 6] = [
+        (
+            &["console", "--sectors", "0"],
+            "invalid value '0' for '--sectors <K>'",
+        ),
+        (
+            &["console", "--sectors", "4000040"],
+            "invalid value '4000040' for '--sectors <K>'",
+        ),
+        (
+            &["console", "--sectors", "x"],
+            "invalid value 'x' for '--sectors <K>'",
+        ),
+        (
+            &["console", "--sectors"],
+            "a value is required for '--sectors <K>'",
+        ),
+        (&["console", "frob"], "unexpected argument 'frob' found"),
+        (&["console", "--frob"], "unexpected argument '--frob' found"),
+    ];
+    for (words, wanted) in wrong {
+        let (status, writer, errors) = program(&rt, alloc, words);
+        assert_eq!(rt; (status, writer.len()), (2, 0), "{words:?}");
+        let told = errors.as_slice().strip_prefix(b"error: ").unwrap_or(b"");
+        assert!(rt; told.starts_with(wanted.as_bytes()), "{words:?}");
+    }
+    Ok(())
+}
+
+#[test]
+fn help_tells_what_a_script_may_say(rt: HostRuntime) {
+    let (status, writer, errors) = program(&rt, rt.alloc(), &["console", "--help"]);
+    assert_eq!(rt; (status, errors.len()), (0, 0));
+    let help = writer.as_slice();
+    assert!(rt; help.ends_with(b"  balances\n"));
+    for text in [
+        "and is read to its end before its first line runs:\n",
+        "  post S withdraw A M         the same: M units from account A\n",
+        "  day M                       the stations take M turns, 1 to 100000, each",
+        "which takes 4K + 7 sectors;\n                              what is there is erased\n",
+        "How many sectors of 512 bytes the device has, 1 to 4000039 [default: 64]",
+    ] {
+        assert!(rt;
+            help.windows(text.len()).any(|part| part == text.as_bytes()),
+            "{text}"
+        );
+    }
+}
+
+// The status of the program with these words, and what it writes to its output and its errors.
+fn program<S: Files<File = File> + Threads + Wait + Sync>(
+    rt: &S,
+    alloc: Global,
+    words: &[&str],
+) -> (u8, Vec<u8>, Vec<u8>) {
+    let (mut output, mut errors) = (Vec::new(alloc), Vec::new(alloc));
+    let mut reader = DEPOSIT.as_bytes();
+    let status = run_program(rt, alloc, words, &mut reader, &mut output, &mut errors);
+    (status, output, errors)
+}

@@ -1,3 +1,0 @@
-pub mod CommandLine
-pub mod Faults
-pub mod Clerk
