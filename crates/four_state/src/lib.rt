@@ -5,7 +5,7 @@
 //! Contracts see a [`Line`] as a configuration: the list of the bits x and the list of the bits up,
 //! each from the bottom station to the top one.
 //!
-//! The test `an_example_of_a_move` in `src/tests.rt` is an example.
+//! The test `an_example_of_a_move` in `src/lines.rt` of the crate `line_tests` is an example.
 #![tactic(auto)]
 
 mod bits;
@@ -13,8 +13,6 @@ pub mod laws;
 mod lines;
 mod refusals;
 mod rules;
-#[cfg(test)]
-mod tests;
 
 pub use lines::Line;
 pub use refusals::LineRefusal;

@@ -3,14 +3,12 @@
 //! A script is bytes. [`Lines`] gives its lines one after another, and [`read_command`] reads a line: it answers the
 //! [`Command`], none where the line says nothing, or the first [`LineFault`] that holds.
 //!
-//! The test `each_command_is_read` in `src/tests.rt` is an example.
+//! The test `each_command_is_read` in `src/grammar.rt` of the crate `ledger_tests` is an example.
 #![tactic(auto)]
 
 mod commands;
 mod faults;
 mod numbers;
-#[cfg(test)]
-mod tests;
 mod words;
 
 pub use commands::{Command, DAY_LIMIT, read_command};

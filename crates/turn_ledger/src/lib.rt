@@ -5,7 +5,7 @@
 //! it is checked against the rules in their order, and either refused with the first
 //! [`EntryRefusal`] that holds, which changes nothing, or posted.
 //!
-//! The test `an_example_of_a_turn` in `src/tests.rt` is an example.
+//! The test `an_example_of_a_turn` in `src/ledgers.rt` of the crate `ledger_tests` is an example.
 #![tactic(auto)]
 
 mod account_balances;
@@ -18,8 +18,6 @@ mod limits;
 mod place;
 mod refusal;
 mod scratch;
-#[cfg(test)]
-mod tests;
 mod verdicts;
 
 pub use account_balances::AccountBalances;

@@ -1,6 +1,6 @@
 //! Worked examples: lines, and what the grammar says of each.
-use crate::LineFault::{BadBits, BadNumber, UnknownCommand, WrongNumberOfWords};
-use crate::{Bits, Command, LineFault, Lines, read_command};
+use script_grammar::LineFault::{BadBits, BadNumber, UnknownCommand, WrongNumberOfWords};
+use script_grammar::{Bits, Command, LineFault, Lines, read_command};
 use std::test::Fail;
 use turn_ledger::Entry;
 

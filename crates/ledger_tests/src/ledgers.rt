@@ -1,8 +1,8 @@
 //! Worked examples: what is expected was worked out by hand from the rules.
 
-use crate::{Batch, Entry, EntryRefusal, Ledger, TOTAL_LIMIT, Verdicts};
 use std::fmt::Write;
 use std::test::Fail;
+use turn_ledger::{Batch, Entry, EntryRefusal, Ledger, TOTAL_LIMIT, Verdicts};
 
 fn deposit(to: u32, amount: u64) -> Entry {
     Entry::Deposit {

@@ -1,5 +1,6 @@
-use crate::{Output, SCRIPT_LIMIT, StreamFault, read_script, write_all};
+//! Scripts that are read, and what is printed, also beside a reader or a writer that pauses or fails.
 use fakes::{Giving, Interrupted, Taking};
+use script_streams::{Output, StreamFault, read_script, write_all};
 use std::alloc::Global;
 use std::test::Fail;
 

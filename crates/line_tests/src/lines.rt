@@ -1,7 +1,8 @@
-use super::{Line, LineRefusal, Rule};
+//! Lines and their moves, beside worked examples and the plain table.
+use four_state::{Line, LineRefusal, Rule};
 use std::process::Abort;
 
-const RULES: [Rule; 4] = [Rule::Bottom, Rule::Top, Rule::Raise, Rule::Lower];
+pub const RULES: [Rule; 4] = [Rule::Bottom, Rule::Top, Rule::Raise, Rule::Lower];
 
 // The bits that a text of 0 and 1 shows, and false past them.
 fn bits(rt: &impl Abort, text: &[u8]) -> [bool; 64] {
@@ -18,7 +19,8 @@ fn try_line(rt: &impl Abort, n: u64, x: &[u8], up: &[u8]) -> Result<Line, LineRe
     Line::from_bits(n, &bits(rt, x)[..x.len()], &bits(rt, up)[..up.len()])
 }
 
-fn line(rt: &impl Abort, x: &[u8], up: &[u8]) -> Line {
+// The line with these bits, written station 0 first.
+pub fn line(rt: &impl Abort, x: &[u8], up: &[u8]) -> Line {
     try_line(rt, x.len() as u64, x, up).expect(rt, "a line")
 }
 

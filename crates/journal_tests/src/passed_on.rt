@@ -1,0 +1,182 @@
+//! What reaches a device behind another one: each call that is passed on, once and in order, and no other.
+use fault_injector::{Call, Fuse, Held, HeldFlags, Noting, OneFault, Op};
+use file_device::FailStop;
+use sector_device::{Device, DeviceFault, MemoryDevice, SECTOR};
+use std::alloc::{AllocError, Global};
+use std::process::Abort;
+use std::sync::Arc;
+use std::sync::atomic::Ordering;
+use std::test::Fail;
+use std::thread::{join_mut, yield_now};
+
+/// The calls that `ask` makes.
+const ASKED: [Call; 5] = [
+    Call::Write(2),
+    Call::Read(1),
+    Call::Sync,
+    Call::Read(3),
+    Call::Write(0),
+];
+
+/// No call of `ask` has this number.
+const NEVER: u64 = 5;
+
+/// More than `ask` makes, so that a call too many is noted.
+const ROOM: usize = 16;
+
+const LOOKS: u32 = 10_000_000;
+
+type Behind = Noting<Fuse<MemoryDevice>>;
+
+// A device that notes what reaches it, and fails from call number `at` on.
+fn behind(alloc: Global, at: u64) -> Result<Behind, AllocError> {
+    let fuse = Fuse::new(MemoryDevice::new(alloc, 4)?, Op::Any, at);
+    Ok(Noting::new(alloc, fuse, ROOM)?)
+}
+
+// Makes the five calls, whatever each answers.
+fn ask<D: Device>(rt: &impl Abort, device: &mut D) {
+    assert!(rt; device.sectors() == 4);
+    let mut bytes = [0; SECTOR];
+    let _ = device.write(2, &[1; SECTOR]);
+    let _ = device.read(1, &mut bytes);
+    let _ = device.sync();
+    let _ = device.read(3, &mut bytes);
+    let _ = device.write(0, &[2; SECTOR]);
+}
+
+// The calls of `ask` but for this one.
+fn asked_without(alloc: Global, number: u64) -> Result<Vec<Call>, AllocError> {
+    let mut calls = Vec::new(alloc);
+    for (index, call) in ASKED.iter().enumerate() {
+        if index as u64 != number {
+            calls.push(*call)?;
+        }
+    }
+    Ok(calls)
+}
+
+#[test]
+fn a_fuse_hands_on_each_call_before_its_own(rt: HostRuntime) -> Result<(), Fail> {
+    for broken in 0..=NEVER {
+        for at in 0..=NEVER {
+            let mut device = Fuse::new(behind(rt.alloc(), broken)?, Op::Any, at);
+            ask(&rt, &mut device);
+            let calls = device.into_inner();
+            assert_eq!(rt; calls.calls(), &ASKED[..at as usize], "{broken} {at}");
+        }
+    }
+    Ok(())
+}
+
+#[test]
+fn one_fault_hands_on_each_call_but_its_own(rt: HostRuntime) -> Result<(), Fail> {
+    for broken in 0..=NEVER {
+        for at in 0..=NEVER {
+            let mut device = OneFault::new(behind(rt.alloc(), broken)?, Op::Any, at);
+            ask(&rt, &mut device);
+            let expected = asked_without(rt.alloc(), at)?;
+            assert_eq!(rt;
+                device.into_inner().calls(),
+                expected.as_slice(),
+                "{broken} {at}"
+            );
+        }
+    }
+    Ok(())
+}
+
+#[test]
+fn a_wrapper_for_calls_of_one_kind_hands_on_all_before_them(rt: HostRuntime) -> Result<(), Fail> {
+    for op in [Op::Any, Op::Read, Op::Write, Op::Sync] {
+        let mut fuse = Fuse::new(behind(rt.alloc(), NEVER)?, op, NEVER);
+        ask(&rt, &mut fuse);
+        assert_eq!(rt; fuse.into_inner().calls(), ASKED.as_slice(), "{op:?}");
+        let mut one_fault = OneFault::new(behind(rt.alloc(), NEVER)?, op, NEVER);
+        ask(&rt, &mut one_fault);
+        assert_eq!(rt; one_fault.into_inner().calls(), ASKED.as_slice(), "{op:?}");
+    }
+    Ok(())
+}
+
+// No sync is held, or the one that is has its leave before it.
+#[test]
+fn a_held_device_hands_on_each_call(rt: HostRuntime) -> Result<(), Fail> {
+    let alloc = rt.alloc();
+    for broken in 0..=NEVER {
+        for at in [NEVER, 0] {
+            let flags = Arc::new(alloc, HeldFlags::new())?;
+            flags.go.store(true, Ordering::SeqCst);
+            let mut device = Held::new(behind(alloc, broken)?, at, Arc::try_clone(&flags)?);
+            ask(&rt, &mut device);
+            assert_eq!(rt;
+                device.into_inner().calls(),
+                ASKED.as_slice(),
+                "{broken} {at}"
+            );
+            assert_eq!(rt; flags.begun.load(Ordering::SeqCst), at == 0);
+            assert!(rt; flags.go.load(Ordering::SeqCst));
+        }
+    }
+    Ok(())
+}
+
+// The last call that is handed on: a sync that fails stops it.
+#[test]
+fn a_device_that_stops_hands_on_each_call_before(rt: HostRuntime) -> Result<(), Fail> {
+    for broken in 0..=NEVER {
+        let mut device = FailStop::new(behind(rt.alloc(), broken)?);
+        ask(&rt, &mut device);
+        let expected = if broken <= 2 { 3 } else { ASKED.len() };
+        assert_eq!(rt; device.into_inner().calls(), &ASKED[..expected], "{broken}");
+    }
+    Ok(())
+}
+
+#[test]
+fn a_noting_device_hands_on_each_call(rt: HostRuntime) -> Result<(), Fail> {
+    let alloc = rt.alloc();
+    for broken in 0..=NEVER {
+        for room in [0, 2, ROOM] {
+            let inner = behind(alloc, broken)?;
+            let mut device = Noting::new(alloc, inner, room).map_err(AllocError::from)?;
+            ask(&rt, &mut device);
+            let noted = ASKED.len().min(room);
+            assert_eq!(rt; device.calls(), &ASKED[..noted], "{broken} {room}");
+            assert_eq!(rt;
+                device.into_inner().calls(),
+                ASKED.as_slice(),
+                "{broken} {room}"
+            );
+        }
+    }
+    Ok(())
+}
+
+// Waits until the sync has begun, and gives it its leave. The answer is whether it had begun by then.
+fn give_leave(flags: &HeldFlags) -> bool {
+    for look in 0..LOOKS {
+        if flags.begun.load(Ordering::SeqCst) {
+            flags.go.store(true, Ordering::SeqCst);
+            return true;
+        }
+        if look % 10_000 == 0 {
+            yield_now();
+        }
+    }
+    false
+}
+
+// It needs threads at once.
+#[test]
+fn a_sync_that_has_begun_goes_on_when_its_leave_comes(rt: HostRuntime) -> Result<(), Fail> {
+    let alloc = rt.alloc();
+    let flags = Arc::new(alloc, HeldFlags::new())?;
+    let mut device = Held::new(behind(alloc, NEVER)?, 0, Arc::try_clone(&flags)?);
+    let (outcome, begun) = join_mut(&rt, &mut || device.sync(), &mut || give_leave(&flags));
+    assert!(rt; begun);
+    assert_eq!(rt; outcome, Ok::<(), DeviceFault>(()));
+    assert!(rt; flags.go.load(Ordering::SeqCst));
+    assert_eq!(rt; device.into_inner().calls(), [Call::Sync].as_slice());
+    Ok(())
+}

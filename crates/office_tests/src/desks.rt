@@ -1,0 +1,143 @@
+//! The two sides of a desk.
+ghost use Rattle.station_desk.specs.Rings.{AreTogether};
+
+use crate::beginnings::{formatted, line};
+use station_desk::{
+    Answer, Ask, Desk, Entry, EntryRefusal, Feed, Outcome, Reconciled, desk, reconcile,
+};
+use std::alloc::Global;
+use std::process::Abort;
+use std::test::Fail;
+use turn_clerk::Clerk;
+
+// A deposit to account 1.
+fn deposit(amount: u64) -> Entry {
+    Entry::Deposit {
+        to: 1,
+        amount,
+        reference: 0,
+    }
+}
+
+fn answer(ticket: u64, entry: Entry, outcome: Outcome) -> Answer {
+    Answer {
+        ticket,
+        entry,
+        outcome,
+    }
+}
+
+fn undecided(ticket: u64, amount: u64) -> Option<Answer> {
+    Some(answer(ticket, deposit(amount), Outcome::Undecided))
+}
+
+fn reconciled(rt: &impl Abort, alloc: Global, feed: Feed, desk: Desk) -> Reconciled
+    requires { AreTogether feed desk }
+{
+    match reconcile(alloc, feed, desk) {
+        Ok(all) => all,
+        Err((_, _, refused)) => panic!(rt; "{refused}"),
+    }
+}
+
+#[test]
+fn full_rings_and_a_desk_that_gives_up(rt: HostRuntime) -> Result<(), Fail> {
+    let alloc = rt.alloc();
+    let (mut feed, mut desk) = desk(alloc, 2)?;
+    assert_eq!(rt; feed.submit(deposit(5)), Ok(0));
+    assert_eq!(rt; feed.submit(deposit(6)), Ok(1));
+    assert_eq!(rt; feed.submit(deposit(7)), Err(deposit(7)));
+    let both = [deposit(5), deposit(6)];
+    assert_eq!(rt; desk.gather(), both.as_slice());
+    assert_eq!(rt; feed.submit(deposit(7)), Ok(2));
+    // There are two places for answers, and both are spoken for.
+    assert_eq!(rt; desk.gather(), both.as_slice());
+    let shown = format!(in alloc; "{feed:?} {desk:?}")?;
+    assert_eq!(rt; shown.as_str(), "Feed { next: 3, .. } Desk { held: 2, .. }");
+    desk.give_up();
+    assert_eq!(rt; feed.answer(), undecided(0, 5));
+    assert_eq!(rt; feed.answer(), undecided(1, 6));
+    assert_eq!(rt; feed.answer(), None);
+    let all = reconciled(&rt, alloc, feed, desk);
+    let left = [Ask {
+        ticket: 2,
+        entry: deposit(7),
+    }];
+    assert_eq!(rt; (all.submitted, all.collected), (3, 2));
+    assert_eq!(rt; all.answers.as_slice(), [].as_slice());
+    assert_eq!(rt; all.unanswered.as_slice(), left.as_slice());
+    Ok(())
+}
+
+// Of three requests that were answered one answer is collected, so of two more the desk can hold one.
+#[test]
+fn what_is_left_is_reconciled_in_order(rt: HostRuntime) -> Result<(), Fail> {
+    let alloc = rt.alloc();
+    let (mut feed, mut desk) = desk(alloc, 3)?;
+    assert_eq!(rt; feed.submit(deposit(10)), Ok(0));
+    assert_eq!(rt; feed.submit(deposit(11)), Ok(1));
+    assert_eq!(rt; feed.submit(deposit(12)), Ok(2));
+    assert_eq!(rt; desk.gather().len(), 3);
+    desk.give_up();
+    assert_eq!(rt; feed.answer(), undecided(0, 10));
+    assert_eq!(rt; feed.submit(deposit(13)), Ok(3));
+    assert_eq!(rt; feed.submit(deposit(14)), Ok(4));
+    assert_eq!(rt; desk.gather(), [deposit(13)].as_slice());
+    let all = reconciled(&rt, alloc, feed, desk);
+    assert_eq!(rt; (all.submitted, all.collected), (5, 1));
+    let answers = all.answers.iter().map(|answer| answer.ticket);
+    assert!(rt; answers.eq([1, 2]));
+    let unanswered = all.unanswered.iter().map(|ask| (ask.ticket, ask.entry));
+    assert!(rt; unanswered.eq([(3, deposit(13)), (4, deposit(14))]));
+    Ok(())
+}
+
+#[test]
+fn a_turn_answers_what_was_gathered(rt: HostRuntime) -> Result<(), Fail> {
+    let alloc = rt.alloc();
+    let line = line(&rt, [0, 0], [1, 0]);
+    let Ok(mut clerk) = Clerk::open(alloc, formatted(alloc, 4)?, line) else {
+        panic!(rt; "a clerk");
+    };
+    let withdrawal = Entry::Withdraw {
+        from: 1,
+        amount: 500,
+        reference: 0,
+    };
+    let (mut feed, mut desk) = desk(alloc, 4)?;
+    for entry in [deposit(100), withdrawal, deposit(20)] {
+        let _ = feed.submit(entry);
+    }
+    let turn = clerk.turn(0, desk.gather())?;
+    desk.settle(&turn);
+    assert_eq!(rt; desk.gather(), [].as_slice());
+    let refused = Outcome::Refused(EntryRefusal::Short);
+    assert_eq!(rt;
+        feed.answer(),
+        Some(answer(0, deposit(100), Outcome::Posted(0)))
+    );
+    assert_eq!(rt; feed.answer(), Some(answer(1, withdrawal, refused)));
+    assert_eq!(rt;
+        feed.answer(),
+        Some(answer(2, deposit(20), Outcome::Posted(0)))
+    );
+    assert_eq!(rt; feed.answer(), None);
+    Ok(())
+}
+
+#[test]
+fn the_largest_rings_and_fifteen_at_a_time(rt: HostRuntime) -> Result<(), Fail> {
+    let (mut feed, mut desk) = desk(rt.alloc(), 4_096)?;
+    for ticket in 0..4_096 {
+        assert_eq!(rt; feed.submit(deposit(ticket)), Ok(ticket));
+    }
+    assert_eq!(rt; feed.submit(deposit(1)), Err(deposit(1)));
+    let mut gathered = 0usize;
+    for _ in 0..274 {
+        gathered = gathered.saturating_add(desk.gather().len());
+        desk.give_up();
+    }
+    // 273 times 15, and one more
+    assert_eq!(rt; gathered, 4_096);
+    Ok(())
+}

@@ -1,0 +1,97 @@
+//! Two threads of a caller.
+ghost use Rattle.std.specs.Prelude.{◌≡◌, ◌<◌, length};
+ghost use Rattle.four_state.specs.Configuration.{stations};
+ghost use Rattle.sector_device.specs.MemoryDevice.{memory_device_state};
+ghost use Rattle.line_lock.specs.Opening.{SayTheSame};
+
+use crate::beginnings::{formatted, line};
+use line_lock::{Blank, Closing, Ledger, Line, Office, Opening, Seat, TurnRefusal};
+use sector_device::{Device, MemoryDevice};
+use std::alloc::Global;
+use std::marker::Brand;
+use std::process::Abort;
+use std::sync::Wait;
+use std::sync::atomic::{AtomicBool, Ordering};
+use std::test::Fail;
+use std::thread::{Threads, for_each_mut, yield_now};
+
+const TURNS: usize = 50;
+
+const MOST_REFUSALS: u32 = 10_000_000;
+
+// Takes turns until the seat has all of them; a station whose turn it isn't lets others go on, and one that is refused
+// for another reason stops them.
+fn take_turns<D: Device, L: Ledger + Opening, R: Wait>(
+    rt: &R,
+    office: &Office<D, L>,
+    seat: &mut Seat<L>,
+    stop: &AtomicBool,
+) {
+    for _ in 0..MOST_REFUSALS {
+        if seat.turns().len() >= TURNS || stop.load(Ordering::SeqCst) {
+            return;
+        }
+        match office.turn(rt, seat, &[]) {
+            Ok(_) => {}
+            Err(TurnRefusal::NotPrivileged) => yield_now(),
+            Err(_) => stop.store(true, Ordering::SeqCst),
+        }
+    }
+}
+
+// Each seat's turns in a thread of its own.
+fn take_all_turns<D: Device + Send, L: Ledger + Opening + Send + Sync, R: Wait + Threads + Sync>(
+    rt: &R,
+    office: &Office<D, L>,
+    seats: &mut [Seat<L>],
+)
+    requires { 0 < length seats.old }
+{
+    let stop = AtomicBool::new(false);
+    let threads = seats.len();
+    for_each_mut(
+        rt,
+        seats,
+        threads,
+        &|_, seat| { take_turns(rt, office, seat, &stop) },
+    );
+}
+
+fn two_callers_in<L: Ledger + Opening + Send + Sync, R: Abort + Wait + Threads + Sync>(
+    rt: &R,
+    alloc: Global,
+    device: MemoryDevice,
+    line: Line,
+    blank: Blank,
+) -> Result<(), Fail>
+    requires name { blank.name ≡ L.name }
+    requires parts { blank.parts ≡ L.parts }
+    requires one_each { blank.parts ≡ stations line }
+    requires device { SayTheSame L.device (memory_device_state device) }
+    requires line { L.line ≡ line }
+{
+    let (office, mut seats) = match Office::<MemoryDevice, L>::open(alloc, device, line, blank) {
+        Ok(opened) => opened,
+        Err((_, refusal)) => panic!(rt; "{refusal}"),
+    };
+    take_all_turns(rt, &office, seats.as_mut_slice());
+    match office.close(seats) {
+        Ok(Closing { clerk, audit }) => {
+            assert_eq!(rt; clerk.history().len(), 2 * TURNS);
+            for (index, turn) in clerk.history().iter().enumerate() {
+                assert_eq!(rt; turn.station as usize, index % 2);
+            }
+            assert_eq!(rt; audit.first_legitimate, Some(0));
+            Ok(())
+        }
+        Err((_, _, refusal)) => panic!(rt; "{refusal}"),
+    }
+}
+
+#[test]
+fn two_callers(rt: HostRuntime) -> Result<(), Fail> {
+    let alloc = rt.alloc();
+    let line = line(&rt, [0, 0], [1, 0]);
+    let blank = Blank::new(line.stations() as u64);
+    two_callers_in::<Brand, _>(&rt, alloc, formatted(alloc, 4)?, line, blank)
+}

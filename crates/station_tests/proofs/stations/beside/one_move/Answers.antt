@@ -1,0 +1,12 @@
+use Rattle.std.proofs.Common.{rules}
+use Rattle.station_tests.proofs.Kept.{Kept, kept-feeds, kept-stations}
+use Rattle.station_tests.proofs.stations.beside.one_move.Goals as goal
+
+pub reconciled-requires : goal.reconciled-requires
+reconciled-requires g c =
+    let feeds = c.in_ok-feeds.feeds in
+    let stations = c.in_ok-feeds.stations in
+    let first : Kept feeds.len stations.len feeds.items stations.items =
+    record { all_feeds = search rules; all_stations = search rules; paired = c.in_ok-feeds.ensures } in
+    let filled = kept-feeds first c.as_mut_slice.ensures.value c.submit.ensures in
+    (kept-stations filled c.as_mut_slice-2.ensures.value c.run_stations.ensures).paired

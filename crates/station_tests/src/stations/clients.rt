@@ -1,0 +1,220 @@
+//! Clients that submit and collect while the stations take turns. Like its neighbour it needs threads at once.
+ghost use Rattle.std.specs.Prelude.{◌≡◌, map, IfOk};
+ghost use Rattle.sector_device.specs.MemoryDevice.{memory_device_state};
+ghost use Rattle.four_state.specs.Configuration.{stations};
+ghost use Rattle.line_lock.specs.Opening.{SayTheSame};
+ghost use Rattle.station_desk.specs.Pairs.{ArePaired};
+ghost use Rattle.station_desk.specs.PairLaws.{AllStandAt};
+ghost use Rattle.station_desk.specs.Rings.{StandsAt};
+ghost use Rattle.station_desk.specs.Run.{HaveRun};
+
+use super::{NoGate, Remains, TRIES, closed, deposit, line, reconciled, seated};
+use gate_journal::format;
+use line_lock::{Blank, Closing, Ledger, Line, Office, Opening};
+use sector_device::{Device, MemoryDevice};
+use station_desk::{Answer, End, Feed, Outcome, Reconciled, Station, run_stations};
+use std::alloc::Global;
+use std::marker::Brand;
+use std::process::Abort;
+use std::sync::Wait;
+use std::sync::atomic::{AtomicBool, Ordering};
+use std::test::Fail;
+use std::thread::{Threads, for_each_mut, join_mut, yield_now};
+
+const REQUESTS: u64 = 200;
+
+const MOVES: u64 = 20_000;
+
+// How many requests a client submitted, and how many answers it collected: those that were posted, and others.
+#[derive(Clone, Copy)]
+struct Tally {
+    submitted: u64,
+    posted: u64,
+    others: u64,
+}
+
+impl Tally {
+    fn count(&mut self, answer: Answer) {
+        match answer.outcome {
+            Outcome::Posted(_) => self.posted = self.posted.saturating_add(1),
+            Outcome::Refused(_) | Outcome::Undecided => {
+                self.others = self.others.saturating_add(1);
+            }
+        }
+    }
+}
+
+#[derive(Drop)]
+struct Client {
+    feed: Feed,
+    tally: Tally,
+}
+
+impl Client {
+    // A client that has submitted as many requests as its ring has places.
+    fn at(feed: Feed) -> Client
+        ensures { StandsAt feed result.feed }
+    {
+        let tally = Tally {
+            submitted: 0,
+            posted: 0,
+            others: 0,
+        };
+        let mut client = Client { feed, tally };
+        for _ in 0..4 {
+            client.submit();
+        }
+        client
+    }
+
+    // Submits one more deposit, where there is a place for it.
+    fn submit(&mut self)
+        ensures { StandsAt self.old.feed self.new.feed }
+    {
+        if self.tally.submitted < REQUESTS && self.feed.submit(deposit(1, 1)).is_ok() {
+            self.tally.submitted = self.tally.submitted.saturating_add(1);
+        }
+    }
+
+    // Submits and collects until the stations have ended.
+    fn work<R: Wait>(&mut self, rt: &R, ended: &AtomicBool)
+        ensures { StandsAt self.old.feed self.new.feed }
+    {
+        for _ in rt.forever() {
+            if ended.load(Ordering::SeqCst) {
+                return;
+            }
+            self.submit();
+            match self.feed.answer() {
+                Some(answer) => self.tally.count(answer),
+                None => yield_now(),
+            }
+        }
+    }
+}
+
+fn work_all<R: Wait + Threads + Sync>(rt: &R, clients: &mut [Client], ended: &AtomicBool)
+    ensures { AllStandAt (map (λ client. client.feed) clients.old) (map (λ client. client.feed) clients.new) }
+{
+    for_each_mut(rt, clients, 2, &|_, client| client.work(rt, ended));
+}
+
+// Runs the stations, and beside them the clients until the stations have ended.
+fn run_beside<D: Device + Send, L: Ledger + Opening + Send + Sync, R: Wait + Threads + Sync>(
+    rt: &R,
+    office: &Office<D, L>,
+    stations: &mut [Station<L>],
+    clients: &mut [Client],
+)
+    ensures ran { HaveRun L.device L.line stations.old stations.new MOVES }
+    ensures stand { AllStandAt (map (λ client. client.feed) clients.old) (map (λ client. client.feed) clients.new) }
+{
+    let ended = AtomicBool::new(false);
+    // where no second thread can be made the stations come first, and the clients find that they have ended
+    join_mut(
+        rt,
+        &mut ||
+            ensures { AllStandAt (map (λ client. client.feed) clients.entry.now) (map (λ client. client.feed) clients.exit.now) }
+        { work_all(rt, clients, &ended) },
+        &mut ||
+            ensures { HaveRun L.device L.line stations.entry.now stations.exit.now MOVES }
+        {
+            run_stations(rt, office, stations, &NoGate, MOVES, TRIES);
+            ended.store(true, Ordering::SeqCst);
+        },
+    );
+}
+
+// A client at each feed.
+fn clients_at(alloc: Global, feeds: Vec<Feed>) -> Result<Vec<Client>, Fail>
+    ensures { IfOk result (λ clients.
+        AllStandAt feeds.items (map (λ client. client.feed) clients.items)) }
+{
+    let mut clients = Vec::new(alloc);
+    for feed in feeds {
+        clients.push(Client::at(feed))?;
+    }
+    Ok(clients)
+}
+
+// The feeds of clients, and what these counted.
+fn apart(alloc: Global, clients: Vec<Client>) -> Result<(Vec<Feed>, Vec<Tally>), Fail>
+    ensures { IfOk result (λ parts. parts.0.items ≡ map (λ client. client.feed) clients.items) }
+{
+    let mut feeds = Vec::new(alloc);
+    let mut tallies = Vec::new(alloc);
+    for client in clients {
+        let Client { feed, tally } = client;
+        feeds.push(feed)?;
+        tallies.push(tally)?;
+    }
+    Ok((feeds, tallies))
+}
+
+// How many of a client's requests were posted: all that have an answer.
+fn posted(rt: &impl Abort, tally: Tally, account: &Reconciled) -> u64 {
+    assert_eq!(rt; tally.others, 0);
+    assert_eq!(rt;
+        (account.submitted, account.collected),
+        (tally.submitted, tally.posted)
+    );
+    for answer in &account.answers {
+        assert!(rt; matches!(answer.outcome, Outcome::Posted(_)));
+    }
+    let answered = account
+        .collected
+        .saturating_add(account.answers.len() as u64);
+    let all = answered.saturating_add(account.unanswered.len() as u64);
+    assert_eq!(rt; all, account.submitted);
+    answered
+}
+
+fn many_moves<L: Ledger + Opening + Send + Sync, R: Abort + Wait + Threads + Sync>(
+    rt: &R,
+    alloc: Global,
+    device: MemoryDevice,
+    line: Line,
+    blank: Blank,
+) -> Result<(), Fail>
+    requires name { blank.name ≡ L.name }
+    requires parts { blank.parts ≡ L.parts }
+    requires one_each { blank.parts ≡ stations line }
+    requires device { SayTheSame L.device (memory_device_state device) }
+    requires line { L.line ≡ line }
+{
+    let (office, seats) = match Office::<MemoryDevice, L>::open(alloc, device, line, blank) {
+        Ok(opened) => opened,
+        Err((_, refusal)) => panic!(rt; "{refusal}"),
+    };
+    let (feeds, mut stations) = seated(alloc, seats)?;
+    let mut clients = clients_at(alloc, feeds)?;
+    run_beside(rt, &office, stations.as_mut_slice(), clients.as_mut_slice());
+    let (feeds, tallies) = apart(alloc, clients)?;
+    let Remains {
+        accounts,
+        ends,
+        seats,
+    } = reconciled(alloc, feeds, stations)?;
+    assert!(rt; ends.as_slice() == [End::Reached; 2].as_slice());
+    assert_eq!(rt; (accounts.len(), tallies.len()), (2, 2));
+    let first = posted(rt, tallies[0], &accounts[0]);
+    let second = posted(rt, tallies[1], &accounts[1]);
+    assert!(rt; first.max(second) > 4);
+    let Closing { clerk, .. } = closed(rt, office, seats);
+    assert_eq!(rt; clerk.history().len() as u64, MOVES);
+    assert_eq!(rt;
+        clerk.ledger().balance(1),
+        Some(first.saturating_add(second))
+    );
+    Ok(())
+}
+
+#[test]
+fn clients_beside_stations(rt: HostRuntime) -> Result<(), Fail> {
+    let alloc = rt.alloc();
+    let line = line(&rt, [0, 0], [1, 0]);
+    let blank = Blank::new(line.stations() as u64);
+    let mut device = MemoryDevice::new(alloc, 2_000)?;
+    format(&mut device, 400)?;
+    many_moves::<Brand, _>(&rt, alloc, device, line, blank)
+}

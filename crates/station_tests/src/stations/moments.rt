@@ -1,0 +1,186 @@
+//! What a station does when, as a gate sees it.
+use super::runs::run_lowest;
+use super::{deposit, line};
+use station_desk::{Desk, End, Feed, Gate, desk};
+use std::alloc::Global;
+use std::sync::Mutex;
+use std::sync::atomic::{AtomicU64, Ordering};
+use std::test::Fail;
+use std::thread::yield_now;
+
+const LOOKS: u32 = 1_000_000;
+
+// Waits until there are so many, or for a while where there never are.
+fn wait_for(count: &AtomicU64, many: u64) {
+    for _ in 0..LOOKS {
+        if count.load(Ordering::SeqCst) >= many {
+            return;
+        }
+        yield_now();
+    }
+}
+
+// Desks that nobody stands at.
+fn desks(alloc: Global, count: usize) -> Result<Vec<Desk>, Fail> {
+    let mut desks = Vec::new(alloc);
+    for _ in 0..count {
+        let (_, desk) = desk(alloc, 4)?;
+        desks.push(desk)?;
+    }
+    Ok(desks)
+}
+
+// Stands at the feed of a station: submits one more deposit each time that the station has gathered, and counts the
+// answers that it finds then and when the station has answered.
+#[derive(Drop)]
+struct AtTheFeed {
+    feed: Mutex<Feed>,
+    before: AtomicU64,
+    after: AtomicU64,
+}
+
+impl Gate for AtTheFeed {
+    fn gathered(&self, _station: u8) {
+        if let Some(mut feed) = self.feed.try_lock() {
+            count_answers(&mut *feed, &self.before);
+            let _ = feed.submit(deposit(1, 7));
+        }
+    }
+
+    fn answered(&self, _station: u8) {
+        if let Some(mut feed) = self.feed.try_lock() {
+            count_answers(&mut *feed, &self.after);
+        }
+    }
+}
+
+fn count_answers(feed: &mut Feed, count: &AtomicU64) {
+    for _ in 0..4 {
+        if feed.answer().is_some() {
+            count.fetch_add(1, Ordering::SeqCst);
+        }
+    }
+}
+
+#[test]
+fn answers_are_there_when_a_gate_hears_of_them_and_what_comes_after_gathering_waits(
+    rt: HostRuntime,
+) -> Result<(), Fail> {
+    let alloc = rt.alloc();
+    let (mut feed, desk) = desk(alloc, 4)?;
+    assert_eq!(rt; feed.submit(deposit(1, 5)), Ok(0));
+    assert_eq!(rt; feed.submit(deposit(1, 6)), Ok(1));
+    let gate = AtTheFeed {
+        feed: Mutex::new(feed),
+        before: AtomicU64::new(0),
+        after: AtomicU64::new(0),
+    };
+    let mut desks = Vec::new(alloc);
+    desks.push(desk)?;
+    let left = run_lowest(&rt, alloc, line(&rt, [0, 0], [1, 0]), desks, &gate, 1, 0)?;
+
+    let bottom = left.get(0).ok_or("the bottom station")?;
+    assert_eq!(rt; (bottom.end, bottom.turns.len()), (End::Reached, 1));
+    let both = [deposit(1, 5), deposit(1, 6)];
+    assert_eq!(rt; bottom.turns[0].entries.as_slice(), both.as_slice());
+    assert_eq!(rt; gate.before.load(Ordering::SeqCst), 0);
+    assert_eq!(rt; gate.after.load(Ordering::SeqCst), 2);
+    Ok(())
+}
+
+// How often station 1 of three has gathered when station 0 takes its first turn, its second one, and asks for a third.
+const GATHERED: [u64; 3] = [3, 7, 10];
+
+// Counts how often station 1 has gathered and station 0 has answered, and has the one wait for the other: station 0 takes
+// a turn only after two refusals of station 1.
+#[derive(Drop)]
+struct AfterRefusals {
+    gathered: AtomicU64,
+    answered: AtomicU64,
+}
+
+impl Gate for AfterRefusals {
+    fn gathered(&self, station: u8) {
+        if station == 0 {
+            let answered = self.answered.load(Ordering::SeqCst);
+            let gathered = GATHERED.get(answered as usize).unwrap_or(&0);
+            wait_for(&self.gathered, *gathered);
+            return;
+        }
+        let before = self.gathered.fetch_add(1, Ordering::SeqCst);
+        match before {
+            2 => wait_for(&self.answered, 1),
+            6 => wait_for(&self.answered, 2),
+            _ => {}
+        }
+    }
+
+    fn answered(&self, station: u8) {
+        if station == 0 {
+            self.answered.fetch_add(1, Ordering::SeqCst);
+        }
+    }
+}
+
+// Station 1 is refused twice, moves up and down again, is refused twice, moves up, and is refused three times. Station 0
+// isn't privileged then.
+#[test]
+fn tries_begin_anew_with_a_turn(rt: HostRuntime) -> Result<(), Fail> {
+    let alloc = rt.alloc();
+    let gate = AfterRefusals {
+        gathered: AtomicU64::new(0),
+        answered: AtomicU64::new(0),
+    };
+    let line = line(&rt, [0, 0, 1], [1, 0, 0]);
+    let left = run_lowest(&rt, alloc, line, desks(alloc, 2)?, &gate, 100, 2)?;
+
+    let station = left.get(1).ok_or("station 1")?;
+    assert_eq!(rt; (station.end, station.turns.len()), (End::Tries, 3));
+    assert_eq!(rt; gate.gathered.load(Ordering::SeqCst), 10);
+    assert_eq!(rt; gate.answered.load(Ordering::SeqCst), 2);
+    Ok(())
+}
+
+// After a turn of station 0 of three station 1 moves up and down again, which gives station 0 the privilege anew, and
+// asks in vain. Station 0 waits long enough for it to end.
+#[derive(Drop)]
+struct PrivilegedAnew {
+    gathered: AtomicU64,
+    answered: AtomicU64,
+}
+
+impl Gate for PrivilegedAnew {
+    fn gathered(&self, station: u8) {
+        if station == 1 {
+            wait_for(&self.answered, 1);
+            self.gathered.fetch_add(1, Ordering::SeqCst);
+        }
+    }
+
+    fn answered(&self, station: u8) {
+        if station == 0 {
+            self.answered.fetch_add(1, Ordering::SeqCst);
+            wait_for(&self.gathered, 3);
+            for _ in 0..LOOKS {
+                yield_now();
+            }
+        }
+    }
+}
+
+// Where station 1 runs before station 0 can begin, station 0 has no turn at all.
+#[test]
+fn a_station_that_gives_up_stops_one_that_is_privileged(rt: HostRuntime) -> Result<(), Fail> {
+    let alloc = rt.alloc();
+    let gate = PrivilegedAnew {
+        gathered: AtomicU64::new(0),
+        answered: AtomicU64::new(0),
+    };
+    let line = line(&rt, [0, 0, 1], [1, 0, 0]);
+    let left = run_lowest(&rt, alloc, line, desks(alloc, 2)?, &gate, 100, 0)?;
+
+    assert_eq!(rt; left.len(), 2);
+    assert_eq!(rt; (left[0].end, left[1].end), (End::Stopped, End::Tries));
+    assert!(rt; left[0].turns.len() < 2);
+    Ok(())
+}
