@@ -1,5 +1,5 @@
 -- A device that fails from one call on.
-use Rattle.std.specs.Prelude.{◌≡◌, ◌⊎◌, ◌↔◌, ◌+◌, ◌-◌, ◌^◌, ℕ, Bool, true, min}
+use Rattle.std.specs.Prelude.{◌≡◌, ◌⊎◌, ◌↔◌, ℕ, Bool, true}
 use Rattle.sector_device.specs.Device.{DeviceState}
 use Rattle.sector_device.specs.Wrapped.{one_more, with_failures}
 use Rattle.fault_injector.specs.declared.op.Op.{Op}

@@ -21,7 +21,7 @@ pub record HasCountedSync {D : Type 0} (old new : HeldState D) : Type 0 where
   pub at : new.at ≡ old.at
   pub counted : new.syncs ≡ one_more old.syncs
 
--- The call was the inner device's.
+-- What holds of any run of calls holds of what the inner device was asked, and any fault is its own.
 pub record IsPassedOn {D : Type 0} (state : D → DeviceState) (old new : HeldState D) (fault : Type 0) : Type 0 where
   pub call : AreCalls (state old.inner) (state new.inner) fault
   pub failures : new.failures ≡ old.failures

@@ -1,3 +1,4 @@
 pub mod Fuse
 pub mod Held
+pub mod Noting
 pub mod OneFault

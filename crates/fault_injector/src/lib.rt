@@ -1,18 +1,19 @@
-//! Devices that fail on demand, under the laws of devices, for tests of what stands above them.
+//! Devices that fail on demand or note their calls, under the laws of devices, for tests of what stands above them.
 //!
-//! The test `a_fuse_fails_from_its_call_on` in `src/tests.rt` is an example.
+//! The test `a_fuse_fails_from_its_call_on` in `src/faults.rt` of the crate `journal_tests` is an example.
 #![tactic(auto)]
 
+mod call;
 mod fuse;
 mod held;
+mod noting;
 mod one_fault;
 mod op;
 
+pub use call::Call;
 pub use fuse::Fuse;
 pub use held::{Held, HeldFlags};
+pub use noting::Noting;
 pub use one_fault::OneFault;
 pub use op::Op;
 pub use sector_device::{Device, DeviceFault, Sector};
-
-#[cfg(test)]
-mod tests;

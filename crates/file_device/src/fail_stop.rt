@@ -38,6 +38,14 @@ impl<D: Device> FailStop<D> {
         }
     }
 
+    /// The inner device, as it is.
+    pub fn into_inner(self) -> D
+        ensures { result ≡ self.inner }
+    {
+        let FailStop { inner, .. } = self;
+        inner
+    }
+
     // Counts a call that is refused.
     fn ready(&mut self) -> Result<(), DeviceFault>
         ensures stopped { IsErr result ↔ IsTrue self.old.stopped }

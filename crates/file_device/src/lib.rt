@@ -9,6 +9,7 @@
 
 mod buffer;
 mod device;
+mod device_file;
 mod fail_stop;
 mod growth;
 mod opening;

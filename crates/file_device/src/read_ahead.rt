@@ -34,6 +34,14 @@ impl<D: ReadRun> ReadAhead<D> {
     {
         ReadAhead { inner, buffer }
     }
+
+    /// The device within, as it is.
+    pub fn into_inner(self) -> D
+        ensures { result ≡ self }
+    {
+        let ReadAhead { inner, .. } = self;
+        inner
+    }
 }
 
 impl<D: ReadRun> Device for ReadAhead<D> {

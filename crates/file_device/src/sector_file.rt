@@ -4,7 +4,7 @@ ghost use Rattle.file_device.specs.RealFile.{FileState, unknown_sectors};
 
 use crate::read_run::ReadRun;
 use sector_device::{Device, DeviceFault, SECTOR, Sector};
-use std::fs::File;
+use std::fs::OpenFile;
 use std::io;
 use std::marker::Model;
 use std::os::unix::fs::FileExt;
@@ -12,13 +12,13 @@ use std::os::unix::fs::FileExt;
 /// The sectors of an open file: the system's own calls, with a count of their failures. Contracts know nothing else of
 /// the file; it is honest nowhere.
 #[derive(Debug, Drop)]
-pub struct SectorFile {
-    file: File,
+pub struct SectorFile<F: OpenFile + FileExt> {
+    file: F,
     sectors: u64,
     failures: u64,
 }
 
-impl Model for SectorFile {
+impl<F: OpenFile + FileExt> Model for SectorFile<F> {
     ghost Value = { FileState };
 
     ghost view = { λ f. record { sectors = f.sectors; failures = f.failures } };
@@ -40,8 +40,8 @@ fn counted(failures: &mut u64, outcome: io::Result<()>) -> Result<(), DeviceFaul
     }
 }
 
-impl SectorFile {
-    pub(crate) fn new(file: File, sectors: u64) -> SectorFile
+impl<F: OpenFile + FileExt> SectorFile<F> {
+    pub(crate) fn new(file: F, sectors: u64) -> SectorFile<F>
         requires { sectors * 512 < 2 ^ 63 }
         ensures sectors { result.sectors ≡ sectors }
         ensures failures { result.failures ≡ 0 }
@@ -54,7 +54,7 @@ impl SectorFile {
     }
 }
 
-impl Device for SectorFile {
+impl<F: OpenFile + FileExt> Device for SectorFile<F> {
     ghost state = { unknown_sectors };
 
     fn sectors(&self) -> u64 {
@@ -79,7 +79,7 @@ impl Device for SectorFile {
     ghost sound = { λ f honest. absurd honest };
 }
 
-impl ReadRun for SectorFile {
+impl<F: OpenFile + FileExt> ReadRun for SectorFile<F> {
     fn read_run(&mut self, at: u64, into: &mut [Sector]) -> Result<(), DeviceFault> {
         let outcome = self
             .file

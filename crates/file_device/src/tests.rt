@@ -8,9 +8,12 @@ use std::os::unix::fs::FileExt;
 use std::process::Abort;
 use std::test::Fail;
 
+mod disk;
 mod failing;
 mod growth;
 mod opening;
+mod steps;
+mod transfers;
 
 // A sector of its own for each number.
 fn sector_of(number: u64) -> Sector {

@@ -2,6 +2,7 @@
 ghost use Rattle.file_device.specs.RealFile.{unknown_sectors};
 
 use super::{make_folder, read_at, sector_of, write_at};
+use crate::device::device_over;
 use crate::{
     Device, DeviceFault, FailStop, FileDevice, ReadAhead, ReadBuffer, ReadRun, SECTOR, Sector,
     SectorFile,
@@ -12,9 +13,9 @@ use std::fs::File;
 use std::test::Fail;
 
 // Two sectors of whatever file this is.
-fn device_over(rt: &HostRuntime, file: File) -> Result<FileDevice, AllocError> {
+fn two_sectors(rt: &HostRuntime, file: File) -> Result<FileDevice, AllocError> {
     let buffer = ReadBuffer::new(rt.alloc())?;
-    Ok(FileDevice::over(SectorFile::new(file, 2), buffer))
+    Ok(device_over(SectorFile::new(file, 2), buffer))
 }
 
 #[test]
@@ -35,7 +36,7 @@ fn a_file_that_may_not_be_written_tells_it(rt: HostRuntime) -> Result<(), Fail> 
     make_folder(&rt, "file_device_unwritable")?;
     let path = "file_device_unwritable/sectors";
     fs::write(&rt, path, [3; 2 * SECTOR].as_slice())?;
-    let mut device = device_over(&rt, File::open(&rt, path)?)?;
+    let mut device = two_sectors(&rt, File::open(&rt, path)?)?;
     assert_eq!(rt; read_at(&rt, &mut device, 1)?, [3; SECTOR]);
     assert!(rt; write_at(&rt, &mut device, 1, &[4; SECTOR]).is_err());
     assert_eq!(rt; read_at(&rt, &mut device, 1)?, [3; SECTOR]);
@@ -50,7 +51,7 @@ fn after_a_failed_sync_every_call_fails(rt: HostRuntime) -> Result<(), Fail> {
         .read(true)
         .write(true)
         .open(&rt, "/dev/zero")?;
-    let mut device = device_over(&rt, file)?;
+    let mut device = two_sectors(&rt, file)?;
     assert_eq!(rt; read_at(&rt, &mut device, 1)?, [0; SECTOR]);
     write_at(&rt, &mut device, 1, &sector_of(1))?;
     assert!(rt; device.sync().is_err());

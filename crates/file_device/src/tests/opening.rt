@@ -142,7 +142,7 @@ fn a_file_whose_folder_cant_be_synced_is_refused(rt: HostRuntime) -> Result<(), 
 fn what_is_no_regular_file_has_no_sectors(rt: HostRuntime) -> Result<(), Fail> {
     let file = File::open(&rt, "/dev/zero")?;
     assert_eq!(rt; file.metadata()?.len(), 0);
-    assert_eq!(rt; whole_sectors(&file), Err(FileRefusal::File));
+    assert_eq!(rt; whole_sectors(&file.metadata()?), Err(FileRefusal::File));
     Ok(())
 }
 
