@@ -1,7 +1,7 @@
 //! What a device holds, as a ledger: the journal is opened, and its records are posted in order to the balances of its
 //! snapshot.
 //!
-//! The test `an_acknowledged_deposit_outlives_a_power_loss` in `src/tests.rt` is an example.
+//! The test `an_acknowledged_deposit_outlives_a_power_loss` in `src/recovery.rt` of the crate `journal_tests` is an example.
 #![tactic(auto)]
 
 mod laws;
@@ -15,6 +15,3 @@ pub use recovery::{Recovered, recover};
 pub use refusals::{Cause, OpenRefusal};
 pub use sector_device::{Device, DeviceFault};
 pub use turn_ledger::Ledger;
-
-#[cfg(test)]
-mod tests;

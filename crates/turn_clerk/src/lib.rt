@@ -1,7 +1,7 @@
 //! The clerk of one ledger: it takes the turns of stations, journals what it accepts before it answers, and keeps the
 //! history since its opening.
 //!
-//! The test `a_run_answers_each_event_in_order` in `src/tests.rt` is an example.
+//! The test `a_run_answers_each_event_in_order` in `src/clerks.rt` of the crate `office_tests` is an example.
 #![tactic(auto)]
 
 mod batches;
@@ -23,6 +23,3 @@ pub use sector_device::Device;
 pub use sweep_auditor::Move;
 pub use turn_ledger::{BATCH_LIMIT, Batch, Entry, EntryRefusal, Ledger, Verdicts};
 pub use turns::Turn;
-
-#[cfg(test)]
-mod tests;
