@@ -1,3 +1,4 @@
+mod Counting
 mod Legal
 mod Listing
 mod OneEach

@@ -1,9 +1,10 @@
 -- What the seats of an office hold in their hands, and whether its history bears it out.
-use Rattle.std.specs.Prelude.{◌≡◌, ℕ, ◌==◌, ◌<◌, ◌≤◌, List, filter, count_by, length, take, IfSome}
+use Rattle.std.specs.Prelude.{◌≡◌, ℕ, ◌==◌, ◌<◌, ◌≤◌, if◌then◌else◌, List, filter, count_by, length, take, IfSome}
 use Rattle.four_state.specs.Configuration.{Configuration}
 use Rattle.turn_clerk.specs.declared.turns.Turn.{Turn}
 use Rattle.turn_clerk.specs.Turn.{HasPrivilege}
 use Rattle.turn_clerk.specs.History.{line_after}
+use Rattle.turn_clerk.specs.Clerk.{ClerkState}
 use Rattle.line_lock.specs.Seat.{SeatState}
 
 -- the turns of a station, in the order of the history
@@ -21,6 +22,10 @@ pub record IsBorneOut (opening : Configuration) (history : List Turn) (seat : Se
   pub turns : seat.turns ≡ turns_of seat.station history
   pub denied : IfSome seat.denied (WasDenied opening history seat.station)
   pub reached : seat.reached ≤ length history
+
+-- in how many turns the device failed: in one at most, since after it the clerk takes none
+abbrev pub failed_turns : {D : Type 0} → ClerkState D → ℕ
+failed_turns clerk = if clerk.journal.faulted then 1 else 0
 
 -- how many of the seats are the station's
 abbrev pub seats_of : ℕ → List SeatState → ℕ

@@ -2,7 +2,7 @@
 use Rattle.std.specs.Prelude.{◌≡◌, ◌↔◌, ℕ, List, [], length}
 use Rattle.sector_device.specs.Image.{Image}
 use Rattle.sector_device.specs.Device.{DeviceState}
-use Rattle.sector_device.specs.Crash.{OnlyLooks}
+use Rattle.sector_device.specs.Crash.{OnlyLooks, IsDurable}
 use Rattle.four_state.specs.Configuration.{Configuration}
 use Rattle.journal_recovery.specs.State.{State}
 use Rattle.journal_recovery.specs.Recovery.{RecoversTo}
@@ -20,15 +20,19 @@ pub record SayTheSame (one other : DeviceState) : Type 0 where
   pub faults : one.faults ≡ other.faults
 
 -- The clerk is one that was opened on that device, as it was then, with that line: up to its first turn it only looked
--- at the device, and what it found is what the device's image recovers to.
+-- at the device, no call of which failed; then nothing on it was pending, and what it found is what the device's image
+-- recovers to.
 pub record WasOpenedOn {D : Type 0} (state : D → DeviceState) (device : DeviceState) (from : Configuration) (clerk : ClerkState D) : Type 0 where
   pub line : clerk.opening.line ≡ from
   -- the device has as many sectors as then, and is honest where it was, and only there
   pub sectors : length (state clerk.journal.device).reads ≡ length device.reads
   pub stays_honest : device.honest → (state clerk.journal.device).honest
   pub was_honest : (state clerk.journal.device).honest → device.honest
+  -- no call of the opening met a fault of the device
+  pub no_fault : (state clerk.opening.journal.device).faults ≡ device.faults
   -- on an honest device
   pub looks : device.honest → OnlyLooks device (state clerk.opening.journal.device)
+  pub settled : device.honest → IsDurable (state clerk.opening.journal.device)
   pub recovers : device.honest → RecoversTo (opening_state clerk) device.reads
 
 -- The device comes from a clerk that was opened on that one with that line: its turns are a legal history, and a crash

@@ -1,9 +1,7 @@
 //! What closing an office looks at, and what it answers.
-ghost use Rattle.std.specs.Prelude.{◌≡◌, ◌≢◌, ℕ, ◌+◌, ◌-◌, ◌*◌, ◌^◌, ◌<◌, ◌≤◌, ◌⊎◌, ◌↔◌, All, sum_by, length, take, drop, IfSome, IsSomeAnd, true, false, IsTrue, OnOk, Err, Some, slice_get};
+ghost use Rattle.std.specs.Prelude.{◌≡◌, ◌≢◌, ℕ, ◌+◌, ◌-◌, ◌<◌, ◌≤◌, ◌⊎◌, ◌↔◌, All, sum_by, length, take, true, false, IsTrue, OnOk, Err, Some, slice_get};
 ghost use Rattle.four_state.specs.Configuration.{stations};
-ghost use Rattle.four_state.specs.Privilege.{privileges_of};
-ghost use Rattle.sweep_auditor.specs.Run.{IsFirstLegitimate};
-ghost use Rattle.sweep_auditor.specs.Stabilization.{top_of, LegitimateFrom, IsStretch, ComesRound};
+ghost use Rattle.sweep_auditor.specs.Audited.{IsAuditOf};
 ghost use Rattle.turn_clerk.specs.History.{line_after, moves_of};
 ghost use Rattle.line_lock.specs.Account.{turns_of, WasDenied, IsBorneOut, seats_of, IsSeatMissing};
 
@@ -129,6 +127,8 @@ pub(crate) fn look_at<D: Device, L: Ledger>(
     ensures one_each { OnOk result ((station : ℕ) → station < L.parts → seats_of station seats.now ≡ 1) }
     ensures as_many { OnOk result (length seats.now ≡ L.parts) }
     ensures borne_out { OnOk result (All (IsBorneOut clerk.now.opening.line clerk.now.history) seats.now) }
+    ensures there { OnOk result (All (λ turn. turn.station < L.parts) clerk.now.history) }
+    ensures counted { OnOk result (length clerk.now.history ≡ sum_by (λ seat. length seat.turns) seats.now) }
 {
     let stations = clerk.line().stations();
     if is_seat_missing(seats, stations) {
@@ -142,6 +142,9 @@ pub(crate) fn look_at<D: Device, L: Ledger>(
             return Err(CloseRefusal::ForeignSeat);
         }
     }
+    // for the contract alone: the moves of the history are a run of a line
+    clerk.legal_history();
+    let _ = clerk.opening().stations();
     Ok(())
 }
 
@@ -149,7 +152,7 @@ pub(crate) fn look_at<D: Device, L: Ledger>(
 pub(crate) fn gathered<L: Ledger>(rest: Share<L>, seats: Vec<Seat<L>>) -> Share<L>
     requires { (rest.parts ≡ 0) × (rest.amount ≡ 0) }
     ensures parts { result.parts ≡ length seats.items }
-    ensures amount { result.amount ≡ sum_by (λ seat. length seat.turns) seats.items }
+    ensures amount { result.amount ≡ sum_by (λ seat. length seat.turns + seat.failed) seats.items }
 {
     let mut all = rest;
     for seat in seats {
@@ -161,24 +164,7 @@ pub(crate) fn gathered<L: Ledger>(rest: Share<L>, seats: Vec<Seat<L>>) -> Share<
 
 /// The audit of a clerk's opening line and all its moves.
 pub(crate) fn audited<D: Device>(clerk: &Clerk<D>) -> Audit
-    ensures last { result.last ≡ line_after clerk.now.opening.line clerk.now.history }
-    ensures first { let moves = moves_of clerk.now.history in
-        IsFirstLegitimate clerk.now.opening.line moves (length moves) result.first_legitimate }
-    ensures stabilizes { let n = top_of clerk.now.opening.line in
-        let k = length (privileges_of clerk.now.opening.line) in
-        (k - 1) * (2 * n - k) + 1 ≤ length (moves_of clerk.now.history)
-        → IsSomeAnd result.first_legitimate (λ i. i ≤ (k - 1) * (2 * n - k) + 1) }
-    ensures stabilizes_from_any { let n = top_of clerk.now.opening.line in
-        n ^ 2 - n + 1 ≤ length (moves_of clerk.now.history)
-        → IsSomeAnd result.first_legitimate (λ i. i ≤ n ^ 2 - n + 1) }
-    ensures stabilizes_in_cube { let n = top_of clerk.now.opening.line in
-        n ^ 3 - 1 ≤ length (moves_of clerk.now.history) → IsSomeAnd result.first_legitimate (λ i. i ≤ n ^ 3 - 1) }
-    ensures stays_legitimate { IfSome result.first_legitimate
-        (λ i. LegitimateFrom clerk.now.opening.line (moves_of clerk.now.history) i) }
-    ensures sweeps { IfSome result.first_legitimate
-        (λ i. IsStretch (top_of clerk.now.opening.line) (drop i (moves_of clerk.now.history))) }
-    ensures comes_round { IfSome result.first_legitimate
-        (λ i. ComesRound clerk.now.opening.line (moves_of clerk.now.history) i) }
+    ensures { IsAuditOf clerk.now.opening.line (moves_of clerk.now.history) result }
 {
     match audit(clerk.opening(), clerk.moves()) {
         Ok(audit) => audit,

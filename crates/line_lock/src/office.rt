@@ -1,19 +1,18 @@
 //! The office.
-ghost use Rattle.std.specs.Prelude.{◌≡◌, ◌≢◌, ◌⊎◌, ℕ, ◌+◌, ◌-◌, ◌*◌, ◌^◌, ◌<◌, ◌≤◌, ◌↔◌, ◌∷◌, ◌++◌, [], length, map, drop, All, sum_by, IfOk, IfErr, OnOk, OnErr, IsErrAnd, IfSome, IsSomeAnd, Some, Err, vec_len, vec_capacity};
+ghost use Rattle.std.specs.Prelude.{◌≡◌, ◌≢◌, ◌⊎◌, ℕ, ◌+◌, ◌-◌, ◌*◌, ◌<◌, ◌≤◌, ◌↔◌, ◌∷◌, ◌++◌, [], length, map, All, sum_by, IfOk, IfErr, OnOk, OnErr, IsErrAnd, IsSomeAnd, Some, Err, vec_len, vec_capacity};
 ghost use Rattle.std.specs.List.{range_with_len};
 ghost use Rattle.sector_device.specs.Device.{AreCalls};
-ghost use Rattle.sector_device.specs.Crash.{OnlyLooks};
+ghost use Rattle.sector_device.specs.Crash.{OnlyLooks, IsDurable};
 ghost use Rattle.four_state.specs.Configuration.{stations};
-ghost use Rattle.four_state.specs.Privilege.{privileges_of};
-ghost use Rattle.sweep_auditor.specs.Run.{IsRun, IsFirstLegitimate};
-ghost use Rattle.sweep_auditor.specs.Stabilization.{top_of, LegitimateFrom, IsStretch, ComesRound};
+ghost use Rattle.sweep_auditor.specs.Run.{IsRun};
+ghost use Rattle.sweep_auditor.specs.Audited.{IsAuditOf};
 ghost use Rattle.turn_clerk.specs.Clerk.{KeepsHistory, LeavesAcknowledged, LeftPrefixEver};
 ghost use Rattle.turn_clerk.specs.History.{moves_of};
-ghost use Rattle.line_lock.specs.Account.{IsBorneOut, seats_of, IsSeatMissing};
+ghost use Rattle.line_lock.specs.Account.{IsBorneOut, failed_turns, seats_of, IsSeatMissing};
 ghost use Rattle.turn_ledger.specs.declared.limits.TheConstants.{BATCH_LIMIT};
 ghost use Rattle.journal_recovery.specs.Refused.{RecoveryRefuses};
 ghost use Rattle.line_lock.specs.Opening.{SayTheSame, WasOpenedOn};
-ghost use Rattle.line_lock.specs.Seat.{new_seat, EndsHistoryOf, IsDeniedAfter};
+ghost use Rattle.line_lock.specs.Seat.{new_seat, EndsHistoryOf, IsDeniedAfter, HasReached};
 
 use crate::closing::{CloseRefusal, Closing, audited, gathered, look_at};
 use crate::locked::{Answer, Locked};
@@ -55,6 +54,8 @@ impl<D: Device, L: Ledger + Opening> Office<D, L> {
 
         // On an honest device.
         ensures looks { (D.state device).honest → IfErr result (λ e. OnlyLooks (D.state device) (D.state e.0)) }
+        ensures settled { (D.state device).honest
+            → IfErr result (λ e. e.1 ≢ OpenRefusal.Memory → e.1 ≢ OpenRefusal.Device → IsDurable (D.state e.0)) }
         ensures refused { (D.state device).honest
             → IfErr result (λ e. e.1 ≢ OpenRefusal.Memory → e.1 ≢ OpenRefusal.Device → RecoveryRefuses (D.state device).reads e.1) }
     {
@@ -92,6 +93,8 @@ impl<D: Device, L: Ledger + Opening> Office<D, L> {
         ensures rightly { result ≡ Err TurnRefusal.NotPrivileged
             → IsSomeAnd seat.new.denied (IsDeniedAfter L.device L.line seat.old.station) }
         ensures not_denied { result ≢ Err TurnRefusal.NotPrivileged → seat.new.denied ≡ seat.old.denied }
+        ensures failed { result ≡ Err TurnRefusal.Device → seat.new.failed ≡ seat.old.failed + 1 }
+        ensures not_failed { result ≢ Err TurnRefusal.Device → seat.new.failed ≡ seat.old.failed }
         ensures too_many { result ≡ Err TurnRefusal.TooMany → BATCH_LIMIT < length entries.now }
         ensures there { result ≢ Err TurnRefusal.NoStation }
     {
@@ -120,6 +123,7 @@ impl<D: Device, L: Ledger + Opening> Office<D, L> {
     ) -> Result<Turn, WithinRefusal>
         ensures station { seat.new.station ≡ seat.old.station }
         ensures reached { result ≡ Err WithinRefusal.Reached → limit ≤ seat.new.reached }
+        ensures rightly_reached { result ≡ Err WithinRefusal.Reached → HasReached L.device L.line limit }
         ensures no_more { (seat.new.reached ≡ limit) ⊎ (seat.new.reached ≡ seat.old.reached) }
         ensures not_reached { result ≢ Err WithinRefusal.Reached → seat.new.reached ≡ seat.old.reached }
         ensures never_falls { seat.old.reached ≤ seat.new.reached }
@@ -136,6 +140,9 @@ impl<D: Device, L: Ledger + Opening> Office<D, L> {
             → IsSomeAnd seat.new.denied (IsDeniedAfter L.device L.line seat.old.station) }
         ensures not_denied { result ≢ Err (WithinRefusal.Turn TurnRefusal.NotPrivileged)
             → seat.new.denied ≡ seat.old.denied }
+        ensures failed { result ≡ Err (WithinRefusal.Turn TurnRefusal.Device) → seat.new.failed ≡ seat.old.failed + 1 }
+        ensures not_failed { result ≢ Err (WithinRefusal.Turn TurnRefusal.Device)
+            → seat.new.failed ≡ seat.old.failed }
         ensures too_many { result ≡ Err (WithinRefusal.Turn TurnRefusal.TooMany)
             → BATCH_LIMIT < length entries.now }
         ensures there { result ≢ Err (WithinRefusal.Turn TurnRefusal.NoStation) }
@@ -180,6 +187,8 @@ impl<D: Device, L: Ledger + Opening> Office<D, L> {
             All (IsBorneOut closing.clerk.opening.line closing.clerk.history) seats.items) }
         ensures counted { IfOk result (λ closing.
             length closing.clerk.history ≡ sum_by (λ seat. length seat.turns) seats.items) }
+        ensures there { IfOk result (λ closing. All (λ turn. turn.station < L.parts) closing.clerk.history) }
+        ensures failed { IfOk result (λ closing. sum_by (λ seat. seat.failed) seats.items ≡ failed_turns closing.clerk) }
 
         // The clerk, over its whole life.
         ensures opened { IfOk result (λ closing. WasOpenedOn D.state L.device L.line closing.clerk) }
@@ -192,24 +201,8 @@ impl<D: Device, L: Ledger + Opening> Office<D, L> {
 
         // The audit of its opening line and all its moves.
         ensures last { IfOk result (λ closing. closing.audit.last ≡ closing.clerk.line) }
-        ensures first { IfOk result (λ closing. let moves = moves_of closing.clerk.history in
-            IsFirstLegitimate closing.clerk.opening.line moves (length moves) closing.audit.first_legitimate) }
-        ensures stabilizes { IfOk result (λ closing. let n = top_of closing.clerk.opening.line in
-            let k = length (privileges_of closing.clerk.opening.line) in
-            (k - 1) * (2 * n - k) + 1 ≤ length closing.clerk.history
-            → IsSomeAnd closing.audit.first_legitimate (λ i. i ≤ (k - 1) * (2 * n - k) + 1)) }
-        ensures stabilizes_from_any { IfOk result (λ closing. let n = top_of closing.clerk.opening.line in
-            n ^ 2 - n + 1 ≤ length closing.clerk.history
-            → IsSomeAnd closing.audit.first_legitimate (λ i. i ≤ n ^ 2 - n + 1)) }
-        ensures stabilizes_in_cube { IfOk result (λ closing. let n = top_of closing.clerk.opening.line in
-            n ^ 3 - 1 ≤ length closing.clerk.history
-            → IsSomeAnd closing.audit.first_legitimate (λ i. i ≤ n ^ 3 - 1)) }
-        ensures stays_legitimate { IfOk result (λ closing. IfSome closing.audit.first_legitimate
-            (λ i. LegitimateFrom closing.clerk.opening.line (moves_of closing.clerk.history) i)) }
-        ensures sweeps { IfOk result (λ closing. IfSome closing.audit.first_legitimate
-            (λ i. IsStretch (top_of closing.clerk.opening.line) (drop i (moves_of closing.clerk.history)))) }
-        ensures comes_round { IfOk result (λ closing. IfSome closing.audit.first_legitimate
-            (λ i. ComesRound closing.clerk.opening.line (moves_of closing.clerk.history) i)) }
+        ensures audit { IfOk result (λ closing.
+            IsAuditOf closing.clerk.opening.line (moves_of closing.clerk.history) closing.audit) }
     {
         let Office { locked } = self;
         let locked = locked.into_inner();
@@ -222,7 +215,7 @@ impl<D: Device, L: Ledger + Opening> Office<D, L> {
             mut book,
             rest,
         } = locked;
-        // for the contract alone: each turn is in some seat's list, and what every clerk keeps
+        // for the contract alone: each turn is in some seat's list, a failed one is counted, and what every clerk keeps
         book.audit(&mut gathered(rest, seats));
         clerk.legal_history();
         clerk.durable_prefix();

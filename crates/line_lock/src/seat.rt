@@ -7,9 +7,9 @@ use std::marker::Model;
 use std::sync::ledger::{Ledger, Share};
 use turn_clerk::Turn;
 
-/// A station's right to take turns, and an account of those that it took. Each turn that its station takes is counted
-/// in the office's book by the seat's share, which no one else has. `L` names the book: a seat of another
-/// office has another type, and a list with it is refused by the compiler (`mismatched-types`).
+/// A station's right to take turns, and an account of those that it took. Each turn that its station takes, and each in
+/// which the device fails, is counted in the office's book by the seat's share, which no one else has. `L` names the
+/// book: a seat of another office has another type, and a list with it is refused by the compiler (`mismatched-types`).
 #[derive(Drop)]
 pub struct Seat<L: Ledger> {
     pub(crate) station: u8,
@@ -20,14 +20,20 @@ pub struct Seat<L: Ledger> {
 }
 
 impl<L: Ledger> Model for Seat<L> {
-    ghost use Rattle.std.specs.Prelude.{◌≡◌, ◌<◌, length};
+    ghost use Rattle.std.specs.Prelude.{◌≡◌, ◌-◌, ◌<◌, ◌≤◌, length};
     ghost use Rattle.line_lock.specs.Seat.{SeatState};
 
     ghost Value = { SeatState };
 
-    ghost view = { λ s. record { station = s.station; turns = s.turns.items; denied = s.denied; reached = s.reached } };
+    ghost view = { λ s. record {
+      station = s.station;
+      turns = s.turns.items;
+      denied = s.denied;
+      reached = s.reached;
+      failed = s.share.amount - length s.turns.items;
+    } };
 
-    ghost invariant = { λ s. (s.station < L.parts) × (s.share.parts ≡ 1) × (s.share.amount ≡ length s.turns.items) };
+    ghost invariant = { λ s. (s.station < L.parts) × (s.share.parts ≡ 1) × (length s.turns.items ≤ s.share.amount) };
 }
 
 impl<L: Ledger> Seat<L> {

@@ -1,5 +1,5 @@
 -- A day of every station, from what was done one after another.
-use Rattle.std.specs.Prelude.{◌≡◌, ◌<◌, ℕ, List, [], ◌∷◌, ◌++◌, length, map, All, refl}
+use Rattle.std.specs.Prelude.{◌≡◌, ◌<◌, ℕ, List, [], ◌++◌, length, map, All}
 use Rattle.std.specs.List.{AllZip, slice_index_or, range_with_len}
 use Rattle.std.proofs.Common.{sym, ◌∙◌, ap, subst, arith}
 use Rattle.std.proofs.lemmas.List.{length-map}
@@ -11,9 +11,7 @@ use Rattle.four_state.specs.Configuration.{Configuration}
 use Rattle.turn_clerk.specs.declared.turns.Turn.{Turn}
 use Rattle.line_lock.specs.Seat.{SeatState, new_seat}
 use Rattle.line_lock.specs.Account.{turns_of, IsBorneOut}
-use Rattle.station_desk.specs.declared.messages.Ask.{Ask}
 use Rattle.station_desk.specs.declared.messages.Answer.{Answer}
-use Rattle.station_desk.specs.declared.messages.Outcome.{Outcome}
 use Rattle.station_desk.specs.declared.end.End.TheVariants.{NotStarted}
 use Rattle.station_desk.specs.Messages.{entries_of, asks_of, outcomes_in, AreNumberedFrom}
 use Rattle.station_desk.specs.Outcomes.{undecided}
@@ -23,8 +21,8 @@ use Rattle.station_desk.specs.Run.{HasRun}
 use Rattle.office_day.specs.declared.reconciled.StationDay.{StationDay}
 use Rattle.office_day.specs.declared.seated.Left.{Left}
 use Rattle.office_day.specs.Counters.{HasHandedIn, IsFresh}
-use Rattle.office_day.specs.Day.{IsAccountedFor, HadDay, HadTheirDay, IsReconciled, AreReconciled, HaveServed}
-use Rattle.office_day.proofs.Lists.{AllZip-at}
+use Rattle.office_day.specs.Day.{HadDay, HadTheirDay, IsReconciled, AreReconciled, HaveServed}
+use Rattle.office_day.proofs.Lists.{AllZip-at, first}
 
 -- one station's
 pub had_day : {device : DeviceState} {from : Configuration} (history : List Turn) (opening : Configuration) (moves i : ℕ) (entries : List Entry) (feed : FeedState) (before : DeskState) (seat after : SeatState) (left : Left) (day : StationDay)
@@ -50,14 +48,10 @@ had_day history opening moves i entries feed before seat after left day sat hand
         outcomes = ap outcomes_in more ∙ served.outcomes ∙ ap (λ (l : List Turn). outcomes_of_turns l ++ undecided worked.given_up) turns;
         none_else = λ not. worked.undecided (λ is. not (done.end ∙ is));
       };
+      within = subst (All (λ turn. turn.index < moves)) turns worked.within;
       reached = λ is. omega (arith, ran.reached (sym done.end ∙ is), out.reached);
       started = λ is. ran.started (sym done.end ∙ is);
     }
-
--- some element of a list that isn't empty
-first : {A : Type 0} (xs : List A) → 0 < length xs → A
-first [] some = absurd (omega (arith, some))
-first (x ∷ xs) some = x
 
 pub had_their_day : {device : DeviceState} {from : Configuration} (held : List (List Entry)) (n : ℕ) (feeds : List FeedState) (desks : List DeskState) (seats after : List SeatState) (left : List Left) (days : List StationDay)
     (opening : Configuration) (history : List Turn) (moves : ℕ)

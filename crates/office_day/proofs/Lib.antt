@@ -1,5 +1,6 @@
 pub mod Lists
 pub mod Days
+pub mod Limits
 pub mod Pairing
 pub mod Served
 pub mod RefusedOpening

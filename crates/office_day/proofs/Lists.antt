@@ -1,8 +1,9 @@
 -- Two lists, place by place.
-use Rattle.std.specs.Prelude.{◌≡◌, ◌<◌, ℕ, zero, suc, List, [], ◌∷◌, ◌++◌, length, map}
+use Rattle.std.specs.Prelude.{◌≡◌, ◌<◌, ℕ, zero, suc, List, [], ◌∷◌, ◌++◌, length, map, sum_by, refl}
 use Rattle.std.specs.List.{AllZip, slice_index_or}
 use Rattle.std.proofs.Common.{arith, sym, ◌∙◌, ap, append_assoc}
 use Rattle.std.proofs.lemmas.List.{append-nil, map-append}
+use Rattle.std.proofs.lemmas.List.Sums.{sum_by-cons}
 
 pub AllZip-more : {A B : Type 0} (R : A → B → Type 0) (xs : List A) (ys : List B) (x : A) (y : B) → AllZip R xs ys → R x y → AllZip R (xs ++ x ∷ []) (ys ++ y ∷ [])
 AllZip-more R [] [] x y all it = (it, tt)
@@ -43,3 +44,21 @@ AllZip-each R [] [] long each = tt
 AllZip-each R [] (b ∷ ys) long each = absurd (omega (arith, long))
 AllZip-each R (a ∷ xs) [] long each = absurd (omega (arith, long))
 AllZip-each R (a ∷ xs) (b ∷ ys) long each = (each zero a b (omega arith), AllZip-each R xs ys (omega (arith, long)) (λ i d e low. each (suc i) d e (omega (arith, low))))
+
+-- two sums that agree place by place
+pub sum_by-alike : {A B : Type 0} (f : A → ℕ) (h : B → ℕ) (xs : List A) (ys : List B) → length ys ≡ length xs
+    → ((i : ℕ) (x : A) (y : B) → i < length xs → f (slice_index_or xs i x) ≡ h (slice_index_or ys i y)) → sum_by f xs ≡ sum_by h ys
+sum_by-alike f h [] [] long each = refl
+sum_by-alike f h [] (y ∷ ys) long each = absurd (omega (arith, long))
+sum_by-alike f h (x ∷ xs) [] long each = absurd (omega (arith, long))
+sum_by-alike f h (x ∷ xs) (y ∷ ys) long each =
+    let here : f x ≡ h y = each 0 x y (omega arith) in
+    let rest = sum_by-alike f h xs ys (omega (arith, long)) (λ i a b lt. each (suc i) a b (omega (arith, lt))) in
+    let one = sum_by-cons f x xs in
+    let other = sum_by-cons h y ys in
+    omega (arith, here, rest, one, other)
+
+-- some element of a list that isn't empty
+pub first : {A : Type 0} (xs : List A) → 0 < length xs → A
+first [] some = absurd (omega (arith, some))
+first (x ∷ xs) some = x

@@ -1,5 +1,5 @@
 -- What became of the entries that stations held, in a day of their office.
-use Rattle.std.specs.Prelude.{◌≡◌, ◌≢◌, ◌<◌, ◌≤◌, ℕ, List, [], ◌++◌, length}
+use Rattle.std.specs.Prelude.{◌≡◌, ◌≢◌, ◌<◌, ◌≤◌, ℕ, List, [], ◌++◌, length, sum_by, All}
 use Rattle.std.specs.List.{slice_index_or}
 use Rattle.sector_device.specs.Device.{DeviceState}
 use Rattle.turn_ledger.specs.declared.entry.Entry.{Entry}
@@ -8,6 +8,7 @@ use Rattle.turn_clerk.specs.declared.turns.Turn.{Turn}
 use Rattle.turn_clerk.specs.declared.refusals.TurnRefusal.TheVariants.{Device}
 use Rattle.line_lock.specs.Account.{turns_of}
 use Rattle.station_desk.specs.declared.messages.Ask.{Ask}
+use Rattle.station_desk.specs.declared.end.End.{End}
 use Rattle.station_desk.specs.declared.end.End.TheVariants.{NotStarted, Reached, Refused}
 use Rattle.station_desk.specs.Messages.{entries_of, asks_of, outcomes_in, AreNumberedFrom}
 use Rattle.station_desk.specs.Outcomes.{undecided}
@@ -20,7 +21,7 @@ use Rattle.office_day.specs.declared.seated.Left.{Left}
 
 -- A station's entries are accounted for by these turns of its office's history: each of them stands, in order and under
 -- its ticket, in an answer or is unanswered; the answers are, in order, what became of the entries of the turns, and
--- then Undecided for requests that were given up, which happens only where the device failed.
+-- then Undecided for requests that were given up, which happens only where the station ended by a failed device.
 pub record IsAccountedFor (entries : List Entry) (turns : List Turn) (day : StationDay) : Type 0 where
   pub given_up : List Ask
   pub in_order : entries_of (asks_of day.answers.items ++ day.unanswered.items) ≡ entries
@@ -29,10 +30,11 @@ pub record IsAccountedFor (entries : List Entry) (turns : List Turn) (day : Stat
   pub outcomes : outcomes_in day.answers.items ≡ outcomes_of_turns turns ++ undecided given_up
   pub none_else : day.end ≢ Refused Device → given_up ≡ []
 
--- A station had its day: all that it held is accounted for by the turns that the history has of it; it ended as Reached
--- only where the history has so many turns, and it was started.
+-- A station had its day: all that it held is accounted for by the turns that the history has of it, each of which it took
+-- while the history had fewer than `moves`; it ended as Reached only where the history has so many, and it was started.
 pub record HadDay (history : List Turn) (moves station : ℕ) (entries : List Entry) (day : StationDay) : Type 0 where
   pub account : IsAccountedFor entries (turns_of station history) day
+  pub within : All (λ turn. turn.index < moves) (turns_of station history)
   pub reached : day.end ≡ Reached → moves ≤ length history
   pub started : day.end ≢ NotStarted
 
@@ -41,6 +43,15 @@ pub record HadTheirDay (history : List Turn) (moves : ℕ) (held : List (List En
   pub as_many : length days ≡ length held
   pub each : (i : ℕ) (entries : List Entry) (day : StationDay) → i < length held
       → HadDay history moves i (slice_index_or held i entries) (slice_index_or days i day)
+
+-- in how many of its turns a station that ended so was told that the device failed
+abbrev pub failures : End → ℕ
+failures (Refused Device) = 1
+failures _ = 0
+
+-- in how many turns of a day a station was told so
+abbrev pub failures_told : List StationDay → ℕ
+failures_told days = sum_by (λ (day : StationDay). failures day.end) days
 
 -- The requests of a feed, and what its desk gave, stand in the station's day.
 pub record IsReconciled (feed : FeedState) (left : Left) (day : StationDay) : Type 0 where

@@ -1,15 +1,16 @@
 //! A whole day.
-ghost use Rattle.std.specs.Prelude.{◌≡◌, ◌≢◌, ◌⊎◌, ◌-◌, ◌≤◌, ◌^◌, length, drop, IfOk, IfErr, IfSome, IsSomeAnd};
+ghost use Rattle.std.specs.Prelude.{◌≡◌, ◌≢◌, ◌⊎◌, ◌-◌, ◌≤◌, length, IfOk, IfErr};
 ghost use Rattle.sector_device.specs.Device.{AreCalls};
-ghost use Rattle.sector_device.specs.Crash.{OnlyLooks};
+ghost use Rattle.sector_device.specs.Crash.{OnlyLooks, IsDurable};
 ghost use Rattle.four_state.specs.Configuration.{stations};
-ghost use Rattle.sweep_auditor.specs.Run.{IsRun, IsFirstLegitimate};
-ghost use Rattle.sweep_auditor.specs.Stabilization.{top_of, LegitimateFrom, IsStretch, ComesRound};
+ghost use Rattle.sweep_auditor.specs.Run.{IsRun};
+ghost use Rattle.sweep_auditor.specs.Audited.{IsAuditOf};
 ghost use Rattle.turn_clerk.specs.Clerk.{KeepsHistory, LeavesAcknowledged, LeftPrefixEver};
 ghost use Rattle.turn_clerk.specs.History.{moves_of};
 ghost use Rattle.journal_recovery.specs.Refused.{RecoveryRefuses};
 ghost use Rattle.line_lock.specs.Opening.{WasOpenedOn, WasLeftByClerk};
-ghost use Rattle.office_day.specs.Day.{HadTheirDay};
+ghost use Rattle.line_lock.specs.Account.{failed_turns};
+ghost use Rattle.office_day.specs.Day.{HadTheirDay, failures_told};
 ghost use Rattle.office_day.specs.Refusal.{IfOpening, UnlessOpening};
 
 use crate::held_entries::HeldEntries;
@@ -41,8 +42,8 @@ pub struct Day<D: Device> {
 ///
 /// # Errors
 /// The device comes back. [`DayRefusal::Opening`]: it can't be opened, for another reason than want of memory; nobody
-/// took a turn. [`DayRefusal::Memory`]: turns may have been taken, and what they journaled stands.
-/// [`DayRefusal::Closing`]: the same; an office whose seats are its own never answers it.
+/// took a turn. [`DayRefusal::Memory`]: turns may have been taken; the device is as a clerk that took turns on it left it,
+/// with their batches. [`DayRefusal::Closing`]: the same; an office whose seats are its own never answers it.
 pub fn run_day<D: Device + Send, R: Threads + Wait + Sync>(
     rt: &R,
     alloc: Global,
@@ -56,6 +57,8 @@ pub fn run_day<D: Device + Send, R: Threads + Wait + Sync>(
 
     // What became of what the stations held.
     ensures days { IfOk result (λ day. HadTheirDay day.clerk.history moves held.now day.stations.items) }
+    ensures within { IfOk result (λ day. length day.clerk.history ≤ moves) }
+    ensures failed { IfOk result (λ day. failures_told day.stations.items ≡ failed_turns day.clerk) }
 
     // The clerk, over its whole life.
     ensures stations { IfOk result (λ day. stations day.clerk.line ≡ stations line) }
@@ -69,16 +72,7 @@ pub fn run_day<D: Device + Send, R: Threads + Wait + Sync>(
 
     // The audit of its opening line and all its moves.
     ensures last { IfOk result (λ day. day.audit.last ≡ day.clerk.line) }
-    ensures first { IfOk result (λ day. let moves = moves_of day.clerk.history in
-        IsFirstLegitimate day.clerk.opening.line moves (length moves) day.audit.first_legitimate) }
-    ensures stabilizes_in_cube { IfOk result (λ day. let n = top_of day.clerk.opening.line in
-        n ^ 3 - 1 ≤ length day.clerk.history → IsSomeAnd day.audit.first_legitimate (λ i. i ≤ n ^ 3 - 1)) }
-    ensures stays_legitimate { IfOk result (λ day. IfSome day.audit.first_legitimate
-        (λ i. LegitimateFrom day.clerk.opening.line (moves_of day.clerk.history) i)) }
-    ensures sweeps { IfOk result (λ day. IfSome day.audit.first_legitimate
-        (λ i. IsStretch (top_of day.clerk.opening.line) (drop i (moves_of day.clerk.history)))) }
-    ensures comes_round { IfOk result (λ day. IfSome day.audit.first_legitimate
-        (λ i. ComesRound day.clerk.opening.line (moves_of day.clerk.history) i)) }
+    ensures audit { IfOk result (λ day. IsAuditOf day.clerk.opening.line (moves_of day.clerk.history) day.audit) }
 
     // What a day that isn't told leaves.
     ensures left { IfErr result (λ e. UnlessOpening e.1 ((e.0 ≡ device) ⊎ WasLeftByClerk D.state (D.state device) line e.0)) }
@@ -87,6 +81,8 @@ pub fn run_day<D: Device + Send, R: Threads + Wait + Sync>(
     ensures call { IfErr result (λ e. IfOpening e.1 (λ refusal.
         AreCalls (D.state device) (D.state e.0) (refusal ≡ OpenRefusal.Device))) }
     ensures looks { (D.state device).honest → IfErr result (λ e. IfOpening e.1 (λ _. OnlyLooks (D.state device) (D.state e.0))) }
+    ensures settled { (D.state device).honest → IfErr result (λ e. IfOpening e.1 (λ refusal.
+        refusal ≢ OpenRefusal.Device → IsDurable (D.state e.0))) }
     ensures refused { (D.state device).honest → IfErr result (λ e. IfOpening e.1 (λ refusal.
         refusal ≢ OpenRefusal.Device → RecoveryRefuses (D.state device).reads refusal)) }
     ensures not_memory { IfErr result (λ e. e.1 ≢ DayRefusal.Opening OpenRefusal.Memory) }

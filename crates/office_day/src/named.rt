@@ -1,15 +1,16 @@
 //! A day of an office that has a name.
-ghost use Rattle.std.specs.Prelude.{◌≡◌, ◌≢◌, ◌⊎◌, ◌-◌, ◌≤◌, ◌^◌, length, drop, IfOk, IfErr, IfSome, IsSomeAnd};
+ghost use Rattle.std.specs.Prelude.{◌≡◌, ◌≢◌, ◌⊎◌, ◌-◌, ◌≤◌, length, IfOk, IfErr};
 ghost use Rattle.sector_device.specs.Device.{AreCalls};
-ghost use Rattle.sector_device.specs.Crash.{OnlyLooks};
+ghost use Rattle.sector_device.specs.Crash.{OnlyLooks, IsDurable};
 ghost use Rattle.four_state.specs.Configuration.{stations};
-ghost use Rattle.sweep_auditor.specs.Run.{IsRun, IsFirstLegitimate};
-ghost use Rattle.sweep_auditor.specs.Stabilization.{top_of, LegitimateFrom, IsStretch, ComesRound};
+ghost use Rattle.sweep_auditor.specs.Run.{IsRun};
+ghost use Rattle.sweep_auditor.specs.Audited.{IsAuditOf};
 ghost use Rattle.turn_clerk.specs.Clerk.{KeepsHistory, LeavesAcknowledged, LeftPrefixEver};
 ghost use Rattle.turn_clerk.specs.History.{moves_of};
 ghost use Rattle.journal_recovery.specs.Refused.{RecoveryRefuses};
 ghost use Rattle.line_lock.specs.Opening.{SayTheSame, WasOpenedOn, WasLeftByClerk};
-ghost use Rattle.office_day.specs.Day.{HadTheirDay, HaveServed};
+ghost use Rattle.line_lock.specs.Account.{failed_turns};
+ghost use Rattle.office_day.specs.Day.{HadTheirDay, HaveServed, failures_told};
 ghost use Rattle.office_day.specs.Refusal.{IfOpening, UnlessOpening};
 
 use crate::counters::counters;
@@ -58,6 +59,8 @@ pub(crate) fn named_day<
 
     // What became of what the stations held.
     ensures days { IfOk result (λ day. HadTheirDay day.clerk.history moves held.now day.stations.items) }
+    ensures within { IfOk result (λ day. length day.clerk.history ≤ moves) }
+    ensures failed { IfOk result (λ day. failures_told day.stations.items ≡ failed_turns day.clerk) }
 
     // The clerk, over its whole life.
     ensures stations { IfOk result (λ day. stations day.clerk.line ≡ stations line) }
@@ -71,16 +74,7 @@ pub(crate) fn named_day<
 
     // The audit of its opening line and all its moves.
     ensures last { IfOk result (λ day. day.audit.last ≡ day.clerk.line) }
-    ensures first { IfOk result (λ day. let moves = moves_of day.clerk.history in
-        IsFirstLegitimate day.clerk.opening.line moves (length moves) day.audit.first_legitimate) }
-    ensures stabilizes_in_cube { IfOk result (λ day. let n = top_of day.clerk.opening.line in
-        n ^ 3 - 1 ≤ length day.clerk.history → IsSomeAnd day.audit.first_legitimate (λ i. i ≤ n ^ 3 - 1)) }
-    ensures stays_legitimate { IfOk result (λ day. IfSome day.audit.first_legitimate
-        (λ i. LegitimateFrom day.clerk.opening.line (moves_of day.clerk.history) i)) }
-    ensures sweeps { IfOk result (λ day. IfSome day.audit.first_legitimate
-        (λ i. IsStretch (top_of day.clerk.opening.line) (drop i (moves_of day.clerk.history)))) }
-    ensures comes_round { IfOk result (λ day. IfSome day.audit.first_legitimate
-        (λ i. ComesRound day.clerk.opening.line (moves_of day.clerk.history) i)) }
+    ensures audit { IfOk result (λ day. IsAuditOf day.clerk.opening.line (moves_of day.clerk.history) day.audit) }
 
     // What a day that isn't told leaves.
     ensures left { IfErr result (λ e. UnlessOpening e.1 ((e.0 ≡ device) ⊎ WasLeftByClerk D.state L.device L.line e.0)) }
@@ -89,6 +83,8 @@ pub(crate) fn named_day<
     ensures call { IfErr result (λ e. IfOpening e.1 (λ refusal.
         AreCalls (D.state device) (D.state e.0) (refusal ≡ OpenRefusal.Device))) }
     ensures looks { (D.state device).honest → IfErr result (λ e. IfOpening e.1 (λ _. OnlyLooks (D.state device) (D.state e.0))) }
+    ensures settled { (D.state device).honest → IfErr result (λ e. IfOpening e.1 (λ refusal.
+        refusal ≢ OpenRefusal.Device → IsDurable (D.state e.0))) }
     ensures refused { (D.state device).honest → IfErr result (λ e. IfOpening e.1 (λ refusal.
         refusal ≢ OpenRefusal.Device → RecoveryRefuses (D.state device).reads refusal)) }
     ensures not_memory { IfErr result (λ e. e.1 ≢ DayRefusal.Opening OpenRefusal.Memory) }

@@ -1,7 +1,8 @@
 -- Work at a desk, one piece after another.
-use Rattle.std.specs.Prelude.{◌≡◌, List, [], ◌++◌, refl}
-use Rattle.std.proofs.Common.{sym, ◌∙◌, ap, subst, append_assoc}
+use Rattle.std.specs.Prelude.{◌≡◌, ◌<◌, ℕ, List, [], ◌++◌, refl}
+use Rattle.std.proofs.Common.{sym, ◌∙◌, ap, subst, append_assoc, arith}
 use Rattle.std.proofs.lemmas.List.{append-nil}
+use Rattle.std.proofs.lemmas.List.Elements.{All-nil, All-append}
 use Rattle.std.proofs.lemmas.Grind.{flat_map-append}
 use Rattle.turn_ledger.specs.declared.entry.Entry.{Entry}
 use Rattle.turn_clerk.specs.declared.turns.Turn.{Turn}
@@ -32,40 +33,49 @@ served-joined old mid new turns more given_up far next = record {
   answers = next.answers ∙ far.answers;
 }
 
-pub worked-nothing : (seat : SeatState) (desk : DeskState) (failed : Type 0) → ¬ failed → HasWorked seat seat desk desk failed
-worked-nothing seat desk failed not = record {
+pub worked-nothing : (seat : SeatState) (desk : DeskState) (moves : ℕ) (failed : Type 0) → ¬ failed → HasWorked seat seat desk desk moves failed
+worked-nothing seat desk moves failed not = record {
   turns = [];
   given_up = [];
   station = refl;
   listed = sym (append-nil seat.turns);
+  within = All-nil (λ (turn : Turn). turn.index < moves);
   served = served-nothing desk;
   undecided = λ _. refl;
   nothing_held = λ is. absurd (not is);
+  counted = λ is. absurd (not is);
+  none_failed = λ _. refl;
 }
 
 -- work in which nothing failed, and more of it
-pub worked-joined : (old mid new : SeatState) (before between after : DeskState) (failed : Type 0) → HasWorked old mid before between ⊥ → HasWorked mid new between after failed → HasWorked old new before after failed
-worked-joined old mid new before between after failed far next =
+pub worked-joined : (old mid new : SeatState) (before between after : DeskState) (moves : ℕ) (failed : Type 0) → HasWorked old mid before between moves ⊥ → HasWorked mid new between after moves failed → HasWorked old new before after moves failed
+worked-joined old mid new before between after moves failed far next =
     let none : far.given_up ≡ [] = far.undecided (λ never. never) in
     record {
       turns = far.turns ++ next.turns;
       given_up = next.given_up;
       station = next.station ∙ far.station;
       listed = next.listed ∙ ap (λ (turns : List Turn). turns ++ next.turns) far.listed ∙ append_assoc old.turns far.turns next.turns;
+      within = All-append (λ (turn : Turn). turn.index < moves) far.turns next.turns far.within next.within;
       served = served-joined before between after far.turns next.turns next.given_up
           (subst (λ (asks : List Ask). HasServed before between far.turns asks) none far.served) next.served;
       undecided = next.undecided;
       nothing_held = next.nothing_held;
+      counted = λ is. omega (arith, next.counted is, far.none_failed (λ never. never));
+      none_failed = λ not. next.none_failed not ∙ far.none_failed (λ never. never);
     }
 
 -- that something else failed, or that it is said in other words
-pub worked-where : (old new : SeatState) (before after : DeskState) (failed other : Type 0) → (failed → other) → (other → failed) → HasWorked old new before after failed → HasWorked old new before after other
-worked-where old new before after failed other there back worked = record {
+pub worked-where : (old new : SeatState) (before after : DeskState) (moves : ℕ) (failed other : Type 0) → (failed → other) → (other → failed) → HasWorked old new before after moves failed → HasWorked old new before after moves other
+worked-where old new before after moves failed other there back worked = record {
   turns = worked.turns;
   given_up = worked.given_up;
   station = worked.station;
   listed = worked.listed;
+  within = worked.within;
   served = worked.served;
   undecided = λ not. worked.undecided (λ is. not (there is));
   nothing_held = λ is. worked.nothing_held (back is);
+  counted = λ is. worked.counted (back is);
+  none_failed = λ not. worked.none_failed (λ is. not (there is));
 }

@@ -4,7 +4,7 @@
 //! A client has a [`Feed`]: it submits entries, each under a ticket, and collects the answers. A station has a [`Desk`]:
 //! it gathers requests, takes a turn with their entries, and answers each of them, once.
 //!
-//! The test `a_turn_answers_what_was_gathered` in `src/tests.rt` is an example.
+//! The test `a_turn_answers_what_was_gathered` in `src/desks.rt` of the crate `office_tests` is an example.
 #![tactic(auto)]
 
 mod desk_end;
@@ -31,6 +31,3 @@ pub use sector_device::Device;
 pub use stations::{Station, run_stations};
 pub use turn_clerk::{Turn, TurnRefusal};
 pub use turn_ledger::{Entry, EntryRefusal};
-
-#[cfg(test)]
-mod tests;

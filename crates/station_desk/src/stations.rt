@@ -1,7 +1,7 @@
 //! Stations that take turns, each in a thread of its own.
 ghost use Rattle.std.specs.Prelude.{◌≡◌, ◌≢◌, ◌+◌, ◌≤◌, ◌↔◌, length, OnOk, OnErr, IsSomeAnd, Err, Some, None};
 ghost use Rattle.turn_clerk.specs.declared.refusals.TurnRefusal.{TurnRefusal};
-ghost use Rattle.line_lock.specs.Seat.{IsDeniedAfter};
+ghost use Rattle.line_lock.specs.Seat.{IsDeniedAfter, HasReached};
 ghost use Rattle.station_desk.specs.Worked.{HasWorked};
 ghost use Rattle.station_desk.specs.Run.{HasRun, HaveRun};
 
@@ -36,10 +36,11 @@ fn round<D: Device, L: Ledger + Opening, G: Gate, R: Wait>(
     gate: &G,
     moves: u64,
 ) -> Result<(), WithinRefusal>
-    ensures worked { HasWorked seat.old seat.new desk.old desk.new (result ≡ Err (WithinRefusal.Turn TurnRefusal.Device)) }
+    ensures worked { HasWorked seat.old seat.new desk.old desk.new moves (result ≡ Err (WithinRefusal.Turn TurnRefusal.Device)) }
     ensures one_turn { OnOk result (length seat.new.turns ≡ length seat.old.turns + 1) }
     ensures no_turn { OnErr result (seat.new.turns ≡ seat.old.turns) }
     ensures reached { result ≡ Err WithinRefusal.Reached → moves ≤ seat.new.reached }
+    ensures rightly_reached { result ≡ Err WithinRefusal.Reached → HasReached L.device L.line moves }
     ensures denied { result ≡ Err (WithinRefusal.Turn TurnRefusal.NotPrivileged)
         → IsSomeAnd seat.new.denied (IsDeniedAfter L.device L.line seat.old.station) }
     ensures there { result ≢ Err (WithinRefusal.Turn TurnRefusal.NoStation) }
@@ -96,8 +97,9 @@ fn work<D: Device, L: Ledger + Opening, G: Gate, R: Wait>(
     moves: u64,
     tries: u64,
 ) -> End
-    ensures worked { HasWorked seat.old seat.new desk.old desk.new (result ≡ End.Refused TurnRefusal.Device) }
+    ensures worked { HasWorked seat.old seat.new desk.old desk.new moves (result ≡ End.Refused TurnRefusal.Device) }
     ensures reached { result ≡ End.Reached → moves ≤ seat.new.reached }
+    ensures rightly_reached { result ≡ End.Reached → HasReached L.device L.line moves }
     ensures tries { result ≡ End.Tries → IsSomeAnd seat.new.denied (IsDeniedAfter L.device L.line seat.old.station) }
     ensures refused { result ≢ End.Refused TurnRefusal.NotPrivileged }
     ensures there { result ≢ End.Refused TurnRefusal.NoStation }

@@ -2,3 +2,4 @@ pub mod Run
 pub mod RunLaws
 pub mod Sharpness
 pub mod Stabilization
+pub mod Audited

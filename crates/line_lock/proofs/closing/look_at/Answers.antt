@@ -1,7 +1,11 @@
-use Rattle.std.proofs.Common.{rules, ◌≡◌, All, subst, arith}
+use Rattle.std.proofs.Common.{rules, ◌≡◌, ◌<◌, ◌∙◌, ℕ, All, sym, ap, subst, arith}
 use Rattle.std.proofs.lemmas.List.{take_all}
 use Rattle.std.proofs.lemmas.List.Elements.{All-more}
+use Rattle.four_state.specs.Configuration.{IsConfiguration, stations}
+use Rattle.sweep_auditor.specs.RunLaws.{stations-after}
+use Rattle.turn_clerk.specs.History.{moves_of}
 use Rattle.line_lock.specs.Account.{IsBorneOut, IsSeatMissing}
+use Rattle.line_lock.proofs.Counting.{all_there, hold_all}
 use Rattle.line_lock.proofs.OneEach.{one_each}
 use Rattle.line_lock.proofs.closing.look_at.Goals as goal
 
@@ -28,3 +32,18 @@ pub returns-clause-borne_out : goal.returns-clause-borne_out
 returns-clause-borne_out g c =
     let seats = c.args.seats.now in
     subst (All (IsBorneOut c.args.clerk.now.opening.line c.args.clerk.now.history)) (take_all c.loop-seat.seat-index seats c.loop-seat-test.false) c.loop-seat.invariant
+
+pub returns-clause-there : goal.returns-clause-there
+returns-clause-there g c =
+    let clerk = c.args.clerk.now in
+    let line : IsConfiguration clerk.opening.line = subst IsConfiguration c.opening.ensures c.stations.ensures.line.configuration in
+    let parts : stations clerk.opening.line ≡ g.L.Ledger.parts =
+    sym (ap stations c.legal_history.ensures.legal.line ∙ stations-after (moves_of clerk.history) clerk.opening.line) ∙ c.requires in
+    subst (λ (n : ℕ). All (λ turn. turn.station < n) clerk.history) parts
+    (all_there clerk.history clerk.opening.line line c.legal_history.ensures.run)
+
+pub returns-clause-counted : goal.returns-clause-counted
+returns-clause-counted g c =
+    let clerk = c.args.clerk.now in
+    hold_all g.L.Ledger.parts clerk.opening.line clerk.history c.args.seats.now (returns-clause-there g c)
+    (returns-clause-one_each g c) (returns-clause-borne_out g c)

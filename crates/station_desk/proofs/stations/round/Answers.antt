@@ -1,11 +1,21 @@
-use Rattle.std.proofs.Common.{rules, ◌≡◌, ◌≢◌, ◌∙◌, [], ◌∷◌, Err, refl, sym, ap}
+use Rattle.std.proofs.Common.{rules, ◌≡◌, ◌≢◌, ◌<◌, ◌∙◌, [], ◌∷◌, Result, Ok, Err, refl, sym, ap}
 use Rattle.std.proofs.lemmas.List.{append-nil}
+use Rattle.std.proofs.lemmas.List.Elements.{All-nil, All-cons}
+use Rattle.turn_clerk.specs.declared.turns.Turn.{Turn as TheTurn}
 use Rattle.turn_clerk.specs.declared.refusals.TurnRefusal.TheVariants.{Device}
-use Rattle.line_lock.specs.declared.refusals.WithinRefusal.TheVariants.{Turn}
+use Rattle.line_lock.specs.declared.refusals.WithinRefusal.{WithinRefusal}
+use Rattle.line_lock.specs.declared.refusals.WithinRefusal.TheVariants.{Turn, Reached}
 use Rattle.station_desk.specs.Rings.{DeskState}
 use Rattle.station_desk.specs.Served.{HasServed}
 use Rattle.station_desk.specs.ServedLaws.{served-nothing, served-gathered, served-settled, served-given_up}
 use Rattle.station_desk.proofs.stations.round.Goals as goal
+
+-- neither a turn nor a limit that is reached is a failed device
+ok-no_device : (turn : TheTurn) → let told : Result TheTurn WithinRefusal = Ok turn in told ≢ Err (Turn Device)
+ok-no_device turn told = absurd (cc)
+
+reached-no_device : (refusal : WithinRefusal) → refusal ≡ Reached → let told : Result TheTurn WithinRefusal = Err refusal in told ≢ Err (Turn Device)
+reached-no_device refusal is told = absurd (cc)
 
 pub returns-in-Ok-clause-worked : goal.returns-in-Ok-clause-worked
 returns-in-Ok-clause-worked g c =
@@ -19,9 +29,12 @@ returns-in-Ok-clause-worked g c =
       given_up = [];
       station = c.turn_within.ensures.station;
       listed = c.in-Ok.ensures.listed;
+      within = All-cons (λ (t : TheTurn). t.index < c.args.moves) turn [] c.in-Ok.ensures.within (All-nil (λ (t : TheTurn). t.index < c.args.moves));
       served = served-settled old mid c.settle.new.self [] turn far (c.in-Ok.ensures.asked ∙ gathered.1) c.settle.ensures.answered;
       undecided = λ not. refl;
       nothing_held = λ failed. absurd (cc);
+      counted = λ failed. absurd (cc);
+      none_failed = λ not. c.in-Ok.ensures.not_failed (λ told. ok-no_device turn told);
     }
 
 pub returns-in-Err-Reached-clause-worked : goal.returns-in-Err-Reached-clause-worked
@@ -34,9 +47,12 @@ returns-in-Err-Reached-clause-worked g c =
       given_up = [];
       station = c.turn_within.ensures.station;
       listed = c.in-Err-Reached.ensures.not_listed ∙ sym (append-nil c.args.seat.now.turns);
+      within = All-nil (λ (t : TheTurn). t.index < c.args.moves);
       served = served-gathered old old mid [] [] (served-nothing old) gathered.0;
       undecided = λ not. refl;
       nothing_held = λ failed. absurd (cc);
+      counted = λ failed. absurd (cc);
+      none_failed = λ not. c.in-Err-Reached.ensures.not_failed (λ told. reached-no_device c.in-Err-Reached.field-0 c.in-Err-Reached.field-0-is told);
     }
 
 pub returns-then-ne-clause-worked : goal.returns-then-ne-clause-worked
@@ -50,9 +66,12 @@ returns-then-ne-clause-worked g c =
       given_up = [];
       station = c.turn_within.ensures.station;
       listed = c.in-Err-Turn.ensures.not_listed ∙ sym (append-nil c.args.seat.now.turns);
+      within = All-nil (λ (t : TheTurn). t.index < c.args.moves);
       served = served-gathered old old mid [] [] (served-nothing old) gathered.0;
       undecided = λ not. refl;
       nothing_held = λ failed. absurd (another cc);
+      counted = λ failed. absurd (another cc);
+      none_failed = λ not. c.turn_within.ensures.not_failed (λ failed. not cc);
     }
 
 pub returns-else-ne-clause-worked : goal.returns-else-ne-clause-worked
@@ -66,7 +85,10 @@ returns-else-ne-clause-worked g c =
       given_up = mid.held;
       station = c.turn_within.ensures.station;
       listed = c.in-Err-Turn.ensures.not_listed ∙ sym (append-nil c.args.seat.now.turns);
+      within = All-nil (λ (t : TheTurn). t.index < c.args.moves);
       served = served-given_up old mid c.give_up.new.self [] (served-gathered old old mid [] [] (served-nothing old) gathered.0) c.give_up.ensures;
       undecided = λ not. absurd (not (λ i. Err (Turn (device i))));
       nothing_held = λ failed. ap (λ (desk : DeskState). desk.held) c.give_up.ensures;
+      counted = λ failed. c.turn_within.ensures.failed cc;
+      none_failed = λ not. absurd (not (λ i. Err (Turn (device i))));
     }

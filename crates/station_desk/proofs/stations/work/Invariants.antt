@@ -3,4 +3,4 @@ use Rattle.station_desk.proofs.stations.work.Given as goal
 
 -- the rounds so far, in none of which the device failed
 abbrev pub invariant-loop : goal.invariant-loop
-invariant-loop g l = HasWorked l.initial.seat l.seat l.initial.desk l.desk ⊥
+invariant-loop g l = HasWorked l.initial.seat l.seat l.initial.desk l.desk l.moves ⊥

@@ -1,8 +1,0 @@
-use Rattle.sector_device.specs.MemoryDevice.{memory_device_state}
-use Rattle.line_lock.proofs.tests.callers.two_callers.Given as goal
-
-abbrev pub ghosts-two_callers_in-L-Ledger : goal.ghosts-two_callers_in-L-Ledger
-ghosts-two_callers_in-L-Ledger g a = record { name = a.blank.name; parts = a.blank.parts }
-
-abbrev pub ghosts-two_callers_in-L-Opening : goal.ghosts-two_callers_in-L-Opening
-ghosts-two_callers_in-L-Opening g a = record { device = memory_device_state a.device; line = a.line }

@@ -1,0 +1,102 @@
+-- How many turns a day has, and in how many of them the device failed.
+use Rattle.std.specs.Prelude.{◌≡◌, ◌≢◌, ◌==◌, ◌<◌, ◌≤◌, ℕ, Bool, true, false, cond, suc, List, [], ◌∷◌, length, map, sum_by, All, refl}
+use Rattle.std.specs.List.{slice_index_or, range_with_len}
+use Rattle.std.proofs.Common.{sym, ◌∙◌, ap, subst, arith}
+use Rattle.std.proofs.lemmas.Bool.Decides.{nat_tests}
+use Rattle.std.proofs.lemmas.List.{length-map}
+use Rattle.std.proofs.lemmas.List.Elements.{All-nil, All-cons}
+use Rattle.std.proofs.lemmas.List.FromFn.{get_or-map-range_with_len, length-range_with_len}
+use Rattle.std.proofs.lemmas.Option.{slice_get-get_or}
+use Rattle.sector_device.specs.Device.{DeviceState}
+use Rattle.turn_ledger.specs.declared.entry.Entry.{Entry}
+use Rattle.four_state.specs.Configuration.{Configuration}
+use Rattle.journal_recovery.specs.State.{State}
+use Rattle.turn_clerk.specs.declared.turns.Turn.{Turn}
+use Rattle.turn_clerk.specs.declared.refusals.TurnRefusal.TheVariants.{Faulted, NoStation, NotPrivileged, TooMany, Memory, Exhausted, Device}
+use Rattle.turn_clerk.specs.History.{IsLegal}
+use Rattle.line_lock.specs.Seat.{SeatState, new_seat}
+use Rattle.line_lock.specs.Account.{turns_of}
+use Rattle.station_desk.specs.declared.end.End.{End}
+use Rattle.station_desk.specs.declared.end.End.TheVariants.{NotStarted, Reached, Stopped, Tries, Refused}
+use Rattle.station_desk.specs.Rings.{FeedState, DeskState}
+use Rattle.office_day.specs.declared.reconciled.StationDay.{StationDay}
+use Rattle.office_day.specs.declared.seated.Left.{Left}
+use Rattle.office_day.specs.Day.{HadTheirDay, AreReconciled, HaveServed, failures, failures_told}
+use Rattle.office_day.proofs.Lists.{sum_by-alike, first}
+
+abbrev IsBelow : ℕ → Turn → Type 0
+IsBelow moves turn = turn.index < moves
+
+-- a turn that is one of its station's
+head_below : (moves : ℕ) (turn : Turn) (turns : List Turn) → All (IsBelow moves) (turns_of turn.station (turn ∷ turns)) → IsBelow moves turn
+head_below moves turn turns all =
+    let own = turns_of turn.station turns in
+    let yes : (turn.station == turn.station) ≡ true = grind (arith, nat_tests) in
+    subst (All (IsBelow moves)) (ap (λ (b : Bool). cond b (turn ∷ own) own) yes) all 0 turn (omega arith)
+
+-- the turns behind it
+rest_below : (b : Bool) (moves : ℕ) (turn : Turn) (turns : List Turn) → All (IsBelow moves) (cond b (turn ∷ turns) turns) → All (IsBelow moves) turns
+rest_below true moves turn turns all = λ k d lt. all (suc k) d (omega (arith, lt))
+rest_below false moves turn turns all = all
+
+-- where those of each station are below the limit
+all_below : (moves n : ℕ) (history : List Turn) → All (λ turn. turn.station < n) history
+    → ((s : ℕ) → s < n → All (IsBelow moves) (turns_of s history)) → All (IsBelow moves) history
+all_below moves n [] there each = All-nil (IsBelow moves)
+all_below moves n (turn ∷ turns) there each =
+    All-cons (IsBelow moves) turn turns (head_below moves turn turns (each turn.station (there 0 turn (omega arith))))
+    (all_below moves n turns (λ k d lt. there (suc k) d (omega (arith, lt)))
+    (λ s low. rest_below (turn.station == s) moves turn (turns_of s turns) (each s low)))
+
+-- a legal history with no index beyond the limit
+short : (line : Configuration) (state : State) (history : List Turn) (moves : ℕ) → IsLegal line state history → All (IsBelow moves) history → length history ≤ moves
+short line state [] moves legal all = omega arith
+short line state (turn ∷ turns) moves legal all =
+    let last = length turns in
+    let inside : last < length (turn ∷ turns) = omega arith in
+    let there = legal.each last (slice_index_or (turn ∷ turns) last turn) (slice_get-get_or (turn ∷ turns) last turn inside) in
+    let below = all last turn inside in
+    omega (arith, there.index, below)
+
+pub no_more : (line : Configuration) (state : State) (history : List Turn) (moves : ℕ) (held : List (List Entry)) (days : List StationDay)
+    → HadTheirDay history moves held days → All (λ turn. turn.station < length held) history → IsLegal line state history → length history ≤ moves
+no_more line state history moves held days had there legal =
+    short line state history moves legal (all_below moves (length held) history there
+    (λ s low. (had.each s [] (first days (omega (arith, low, had.as_many))) low).within))
+
+-- a number that is 1 exactly where a station ended by a failed device
+failures_are : (end : End) (n : ℕ) → (end ≡ Refused Device → n ≡ 1) → (end ≢ Refused Device → n ≡ 0) → n ≡ failures end
+failures_are NotStarted n one none = none (λ is. absurd (cc))
+failures_are Reached n one none = none (λ is. absurd (cc))
+failures_are Stopped n one none = none (λ is. absurd (cc))
+failures_are Tries n one none = none (λ is. absurd (cc))
+failures_are (Refused Faulted) n one none = none (λ is. absurd (cc))
+failures_are (Refused NoStation) n one none = none (λ is. absurd (cc))
+failures_are (Refused NotPrivileged) n one none = none (λ is. absurd (cc))
+failures_are (Refused TooMany) n one none = none (λ is. absurd (cc))
+failures_are (Refused Memory) n one none = none (λ is. absurd (cc))
+failures_are (Refused Exhausted) n one none = none (λ is. absurd (cc))
+failures_are (Refused Device) n one none = one refl
+
+pub failures_counted : {device : DeviceState} {from : Configuration} (n : ℕ) (feeds : List FeedState) (desks : List DeskState) (seats after : List SeatState) (left : List Left) (days : List StationDay) (moves : ℕ)
+    → seats ≡ map new_seat (range_with_len 0 n) → length feeds ≡ n → length desks ≡ n
+    → HaveServed device from seats desks after left moves → AreReconciled feeds left days
+    → sum_by (λ seat. seat.failed) after ≡ failures_told days
+failures_counted n feeds desks seats after left days moves sat fed stood served done =
+    let many : length seats ≡ n = ap length sat ∙ length-map (range_with_len 0 n) new_seat ∙ length-range_with_len 0 n in
+    sum_by-alike (λ (seat : SeatState). seat.failed) (λ (day : StationDay). failures day.end) after days
+    (omega (arith, done.as_many, served.seats_as_many, fed, many))
+    (λ i seat day low.
+    let in_seats : i < length seats = omega (arith, low, served.seats_as_many) in
+    let in_feeds : i < length feeds = omega (arith, in_seats, many, fed) in
+    let feed = first feeds (omega (arith, in_feeds)) in
+    let desk = first desks (omega (arith, in_feeds, fed, stood)) in
+    let part : Left = record { desk = desk; end = NotStarted } in
+    let worked = (served.each i seat desk part in_seats).worked in
+    let reconciled = done.each i feed part day in_feeds in
+    let fresh : slice_index_or seats i seat ≡ new_seat i =
+    ap (λ (l : List SeatState). slice_index_or l i seat) sat ∙ get_or-map-range_with_len new_seat 0 n i i seat (omega (arith, in_seats, many)) (omega arith) in
+    let none : (slice_index_or seats i seat).failed ≡ 0 = ap (λ (s : SeatState). s.failed) fresh in
+    failures_are (slice_index_or days i day).end (slice_index_or after i seat).failed
+    (λ is. omega (arith, worked.counted (sym reconciled.end ∙ is), none))
+    (λ not. worked.none_failed (λ is. not (reconciled.end ∙ is)) ∙ none))
