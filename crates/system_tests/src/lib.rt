@@ -22,6 +22,6 @@ mod reads;
 #[cfg(test)]
 mod refusals;
 #[cfg(test)]
-mod stations;
+mod shown;
 #[cfg(test)]
 mod turns;

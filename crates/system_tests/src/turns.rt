@@ -4,7 +4,7 @@ use sector_device::MemoryDevice;
 use std::alloc::Global;
 use std::process::Abort;
 use std::test::Fail;
-use turn_clerk::{Clerk, Entry, Event, Line, Turn, TurnRefusal};
+use turn_clerk::{Clerk, Entry, Line, Turn, TurnRefusal};
 
 fn deposit(amount: u64) -> Entry {
     Entry::Deposit {
@@ -89,53 +89,5 @@ fn an_acknowledged_turn_is_out_of_reach_of_a_power_loss(rt: HostRuntime) -> Resu
         recovered(&rt, alloc, device.crash(&picks_of(alloc, &picks)?)),
         (Some(500), 1)
     );
-    Ok(())
-}
-
-// Deposits of 1, 2, 4 and 8 by the stations whose turn it is.
-fn four_deposits(alloc: Global) -> Result<Vec<Event>, Fail> {
-    let mut events = Vec::new(alloc);
-    for (station, amount) in [(0, 1), (1, 2), (2, 4), (1, 8)] {
-        events.push(Event {
-            station,
-            entries: vec![in alloc; deposit(amount)]?,
-        })?;
-    }
-    Ok(events)
-}
-
-// Each call of an opening and a run fails in turn, and with each the power is lost, which leaves each of the choices in
-// the sectors that may be pending: those of the batch in flight.
-#[test]
-fn whichever_call_fails_a_run_leaves_a_prefix_with_all_that_was_acknowledged(
-    rt: HostRuntime,
-) -> Result<(), Fail> {
-    let alloc = rt.alloc();
-    let balances = [0, 1, 3, 7, 15];
-    let events = four_deposits(alloc)?;
-    let mut complete = 0u32;
-    for at in 0..28 {
-        for torn in [ZERO, torn_open(), TORN] {
-            let fuse = Fuse::new(formatted(alloc)?, Op::Any, at);
-            let Some(mut clerk) = opened(&rt, alloc, fuse) else {
-                continue;
-            };
-            let mut replies = Vec::new(alloc);
-            clerk.run(&events, &mut replies)?;
-            let acknowledged = replies.iter().filter(|reply| reply.is_ok()).count();
-            assert_eq!(rt; clerk.history().len(), acknowledged);
-            let slot = clerk.next().min(3);
-            let picks = [(4 + 2 * slot, torn), (5 + 2 * slot, torn)];
-            let device = clerk.into_device().into_inner();
-            let (balance, next) = recovered(&rt, alloc, device.crash(&picks_of(alloc, &picks)?));
-            assert!(rt; acknowledged as u64 <= next && next <= 4);
-            assert_eq!(rt; balance, balances.get(next as usize).copied());
-            if acknowledged == 4 {
-                complete = complete.saturating_add(1);
-            }
-        }
-    }
-    // An opening of a bank with 4 closed slots makes 10 calls and each turn 4, so from call 26 on nothing fails.
-    assert_eq!(rt; complete, 6);
     Ok(())
 }

@@ -1,0 +1,168 @@
+//! A course of five turns on banks of two slots, of which the third and the fifth make a checkpoint first.
+use gate_journal::format;
+use sector_device::{Device, MemoryDevice};
+use std::alloc::Global;
+use std::process::Abort;
+use std::test::Fail;
+use turn_clerk::{Clerk, Entry, Event, Line, OpenRefusal, TurnRefusal};
+
+// What the turns deposit: no two lists of batches come to the same balance.
+pub const AMOUNTS: [u64; 5] = [1, 2, 4, 8, 16];
+
+// What they come to, after 0 to 5 of them.
+const BALANCES: [u64; 6] = [0, 1, 3, 7, 15, 31];
+
+// The bits of the two stations' line after 0 to 3 moves of a legitimate run from zeros; then it comes round.
+const LINES: [[bool; 2]; 4] = [[false, false], [true, false], [true, true], [false, true]];
+
+// The calls of a whole course, by the order of calls that the format states. The opening syncs once, and reads the
+// superblock, both banks' gates, the head, two slots' gates and the snapshot. Each turn writes and syncs a body, and then
+// a gate. A checkpoint reads the other bank's gate, writes its head, its snapshot and two slots' gates, syncs, and writes
+// and syncs its gate. The second one finds that gate open, and writes and syncs it closed first.
+pub const READS: u64 = 7 + 1 + 1;
+
+pub const WRITES: u64 = 5 * 2 + 5 + 6;
+
+pub const SYNCS: u64 = 1 + 5 * 2 + 2 + 3;
+
+pub const CALLS: u64 = READS + WRITES + SYNCS;
+
+pub fn deposit(amount: u64) -> Entry {
+    Entry::Deposit {
+        to: 1,
+        amount,
+        reference: 3,
+    }
+}
+
+// Two stations of which the bottom one alone is privileged, or the top one.
+pub fn two_stations(rt: &impl Abort, top: bool) -> Line {
+    Line::from_bits(2, &[top, false], &[true, false]).expect(rt, "a line")
+}
+
+// An empty journal with so many slots in each bank.
+pub fn formatted(rt: &impl Abort, alloc: Global, slots: u64) -> Result<MemoryDevice, Fail> {
+    assert!(rt; 1 <= slots && slots < 100);
+    let mut device = MemoryDevice::new(alloc, 4 * slots + 7)?;
+    format(&mut device, slots)?;
+    Ok(device)
+}
+
+// Where a course met a fault.
+#[derive(Clone, Copy, Debug, PartialEq, Eq)]
+pub enum Met {
+    Nothing,
+    InOpening,
+    InTurn,
+}
+
+// What the accounts of a device hold: the balance of account 1, and how many batches stand.
+#[derive(Clone, Copy, Debug, PartialEq, Eq)]
+pub struct Found {
+    pub balance: Option<u64>,
+    pub next: u64,
+}
+
+// How a course ended: after how many turns, counted from the first course on, and where it met a fault.
+#[derive(Clone, Copy, Debug, PartialEq, Eq)]
+pub struct Course {
+    pub acknowledged: u64,
+    pub met: Met,
+}
+
+impl Course {
+    // Whether this may be found after it: what was acknowledged, or that and the batch in flight.
+    pub fn allows(&self, found: Found) -> bool {
+        let in_flight = u64::from(self.met == Met::InTurn);
+        let is_next = found.next == self.acknowledged
+            || found.next == self.acknowledged.saturating_add(in_flight);
+        is_next && found.balance == BALANCES.get(found.next as usize).copied()
+    }
+}
+
+// What a clerk has found at its opening.
+pub fn found_by<D: Device>(clerk: &Clerk<D>) -> Found {
+    Found {
+        balance: clerk.opening_balance(1),
+        next: clerk.opening_next(),
+    }
+}
+
+// The turns from this one on, as events.
+pub fn events(alloc: Global) -> Result<Vec<Event>, Fail> {
+    let mut events = Vec::new(alloc);
+    for (place, amount) in AMOUNTS.iter().enumerate() {
+        events.push(Event {
+            station: (place % 2) as u8,
+            entries: vec![in alloc; deposit(*amount)]?,
+        })?;
+    }
+    Ok(events)
+}
+
+// Opens a clerk with the line on which the next batch is that of this turn, and takes the turns from it on, up to the
+// first fault. A refused opening is one by a fault.
+pub fn take_course<D: Device>(
+    rt: &impl Abort,
+    alloc: Global,
+    device: D,
+    first: usize,
+) -> (D, Course) {
+    match Clerk::open(alloc, device, two_stations(rt, first % 2 == 1)) {
+        Ok(mut clerk) => {
+            let course = take_turns(rt, &mut clerk, first);
+            (clerk.into_device(), course)
+        }
+        Err((device, refusal)) => {
+            assert_eq!(rt; refusal, OpenRefusal::Device);
+            let acknowledged = first as u64;
+            let met = Met::InOpening;
+            (device, Course { acknowledged, met })
+        }
+    }
+}
+
+// Takes the turns from this one on, up to the first fault.
+fn take_turns<D: Device>(rt: &impl Abort, clerk: &mut Clerk<D>, first: usize) -> Course {
+    let mut acknowledged = first as u64;
+    for (place, amount) in AMOUNTS.iter().enumerate().skip(first) {
+        match clerk.turn((place % 2) as u8, &[deposit(*amount)]) {
+            Ok(turn) => {
+                assert_eq!(rt; turn.posted, Some(place as u64));
+                acknowledged = acknowledged.saturating_add(1);
+            }
+            Err(refusal) => {
+                assert_eq!(rt; refusal, TurnRefusal::Device);
+                stands_still(rt, clerk, first, place);
+                let met = Met::InTurn;
+                return Course { acknowledged, met };
+            }
+        }
+    }
+    let met = Met::Nothing;
+    Course { acknowledged, met }
+}
+
+// The device failed in the turn of that place, of those from `first` on: its deposit is in flight, all else is as the
+// turns before it left it, and whoever asks is told that the clerk is faulted.
+fn stands_still<D: Device>(rt: &impl Abort, clerk: &mut Clerk<D>, first: usize, place: usize) {
+    let in_flight = clerk.in_flight().expect(rt, "a batch in flight");
+    let amount = AMOUNTS.get(place).copied().unwrap_or(0);
+    assert_eq!(rt;
+        (in_flight.len(), in_flight.get(0)),
+        (1, Some(deposit(amount)))
+    );
+    assert_eq!(rt; clerk.ledger().balance(1), BALANCES.get(place).copied());
+    let taken = place.saturating_sub(first);
+    assert_eq!(rt; clerk.history().len(), taken);
+    let moves = (first % 2).saturating_add(taken);
+    let bits = LINES.get(moves % 4).copied().unwrap_or([true, true]);
+    assert!(rt; clerk.line() == Line::from_bits(2, &bits, &[true, false]).expect(rt, "a line"));
+    assert!(rt; clerk.is_faulted());
+    let full = [deposit(1); 15];
+    assert_eq!(rt;
+        clerk.turn((place % 2) as u8, &full),
+        Err(TurnRefusal::Faulted)
+    );
+    assert_eq!(rt; clerk.turn(9, &[]), Err(TurnRefusal::Faulted));
+}

@@ -1,0 +1,209 @@
+//! Days of station threads on devices that fail, and what clients were told. Each test holds whatever thread runs when.
+use crate::course::{Found, deposit, formatted, two_stations};
+use crate::power::{at_stake, outcomes_of, picks, recovered};
+use fault_injector::{Fuse, OneFault, Op};
+use office_day::{
+    Answer, Day, DayRefusal, End, HeldEntries, OpenRefusal, Outcome, StationDay, TurnRefusal,
+    run_day,
+};
+use sector_device::{Device, MemoryDevice};
+use std::alloc::Global;
+use std::process::Abort;
+use std::sync::Wait;
+use std::test::Fail;
+use std::thread::Threads;
+use turn_clerk::Entry;
+
+const TRIES: u64 = 100_000_000;
+
+// The calls of such a day on one slot a bank. The opening syncs once, and reads the superblock, both banks' gates, the
+// head, one slot's gate and the snapshot. Each of two turns that post writes and syncs a body and a gate; before the
+// second one a checkpoint reads the other bank's gate, writes its head, its snapshot and one slot's gate, syncs, and
+// writes and syncs its gate.
+const READS: u64 = 6 + 1;
+
+const WRITES: u64 = 2 * 2 + 4;
+
+const SYNCS: u64 = 1 + 2 * 2 + 2;
+
+const CALLS: u64 = READS + WRITES + SYNCS;
+
+// How many outcomes of a power loss there are for all places of a fault.
+const OUTCOMES: u32 = 118;
+
+// What clients were told: the sums of the deposits posted and of those undecided, and how many batches stand at least.
+#[derive(Clone, Copy)]
+struct Told {
+    posted: u64,
+    undecided: u64,
+    batches: u64,
+}
+
+impl Told {
+    fn nothing() -> Told {
+        Told {
+            posted: 0,
+            undecided: 0,
+            batches: 0,
+        }
+    }
+
+    fn hear(&mut self, answer: &Answer) {
+        let amount = match answer.entry {
+            Entry::Deposit { amount, .. } => amount,
+            _ => 0,
+        };
+        match answer.outcome {
+            Outcome::Posted(number) => {
+                self.posted = self.posted.saturating_add(amount);
+                self.batches = self.batches.max(number.saturating_add(1));
+            }
+            Outcome::Undecided => self.undecided = self.undecided.saturating_add(amount),
+            Outcome::Refused(_) => {}
+        }
+    }
+
+    // Whether this may be found: all that was posted, and what is undecided whole or not at all.
+    fn allows(&self, found: Found) -> bool {
+        let all = self.posted.saturating_add(self.undecided);
+        let is_balance = found.balance == Some(self.posted) || found.balance == Some(all);
+        is_balance && self.batches <= found.next
+    }
+}
+
+// A station's deposit has an answer, or comes back unanswered; not so where the station was told that the device failed.
+fn is_accounted_for(rt: &impl Abort, station: &StationDay) {
+    assert_eq!(rt;
+        station
+            .answers
+            .len()
+            .saturating_add(station.unanswered.len()),
+        1
+    );
+    match station.end {
+        End::Refused(TurnRefusal::Device) => assert!(rt; station.unanswered.is_empty()),
+        end => assert!(rt;
+            [
+                End::Reached,
+                End::Stopped,
+                End::Refused(TurnRefusal::Faulted)
+            ]
+            .contains(&end)
+        ),
+    }
+}
+
+// A day of two stations, each with a deposit, for four turns: the device, and what clients were told.
+fn day_on<D: Device + Drop + Send, R: Abort + Wait + Threads + Sync>(
+    rt: &R,
+    alloc: Global,
+    device: D,
+) -> Result<(D, Told), Fail> {
+    let mut held = [HeldEntries::new(alloc)?, HeldEntries::new(alloc)?];
+    held[0].keep(deposit(1)).ok_or("a place")?;
+    held[1].keep(deposit(2)).ok_or("a place")?;
+    let mut told = Told::nothing();
+    let line = two_stations(rt, false);
+    assert_eq!(rt; held.len(), line.stations() as usize);
+    match run_day(rt, alloc, device, line, &held, 4, TRIES) {
+        Ok(
+            Day {
+                clerk,
+                stations,
+                ..
+            },
+        ) => {
+            for station in &stations {
+                is_accounted_for(rt, station);
+                for answer in &station.answers {
+                    told.hear(answer);
+                }
+            }
+            Ok((clerk.into_device(), told))
+        }
+        Err((device, refusal)) => {
+            assert_eq!(rt; refusal, DayRefusal::Opening(OpenRefusal::Device));
+            Ok((device, told))
+        }
+    }
+}
+
+// How a device fails: from this call of a kind on, or at it alone.
+#[derive(Clone, Copy, Debug, PartialEq, Eq)]
+enum Fails {
+    From(Op, u64),
+    Once(Op, u64),
+}
+
+// A day on such a device, and what is left of it in the memory device.
+fn failed_day<R: Abort + Wait + Threads + Sync>(
+    rt: &R,
+    alloc: Global,
+    fails: Fails,
+) -> Result<(MemoryDevice, Told), Fail> {
+    let device = formatted(rt, alloc, 1)?;
+    match fails {
+        Fails::From(op, at) => {
+            let (device, told) = day_on(rt, alloc, Fuse::new(device, op, at))?;
+            Ok((device.into_inner(), told))
+        }
+        Fails::Once(op, at) => {
+            let (device, told) = day_on(rt, alloc, OneFault::new(device, op, at))?;
+            Ok((device.into_inner(), told))
+        }
+    }
+}
+
+// Every power loss after a day on such a device: how many there are.
+fn lose_power<R: Abort + Wait + Threads + Sync>(
+    rt: &R,
+    alloc: Global,
+    fails: Fails,
+) -> Result<u32, Fail> {
+    let (device, _) = failed_day(rt, alloc, fails)?;
+    let sectors = at_stake(rt, alloc, &device)?;
+    let outcomes = outcomes_of(sectors.as_slice());
+    for number in 0..outcomes {
+        let (device, told) = failed_day(rt, alloc, fails)?;
+        let device = device.crash(&picks(alloc, sectors.as_slice(), number)?);
+        assert!(rt;
+            told.allows(recovered(rt, alloc, device)),
+            "{fails:?} {number}"
+        );
+    }
+    Ok(outcomes)
+}
+
+// A day whose device never fails: both deposits are posted, and nothing is pending.
+#[test]
+fn a_day_without_a_fault_posts_all(rt: HostRuntime) -> Result<(), Fail> {
+    let alloc = rt.alloc();
+    for fails in [Fails::From(Op::Any, CALLS), Fails::Once(Op::Any, CALLS)] {
+        let (device, told) = failed_day(&rt, alloc, fails)?;
+        assert_eq!(rt; (told.posted, told.undecided, told.batches), (3, 0, 2));
+        assert!(rt; at_stake(&rt, alloc, &device)?.is_empty());
+    }
+    Ok(())
+}
+
+#[test]
+fn what_clients_were_told_outlives_a_stop_at_each_call(rt: HostRuntime) -> Result<(), Fail> {
+    let mut all = 0u32;
+    for at in 0..CALLS {
+        all = all.saturating_add(lose_power(&rt, rt.alloc(), Fails::From(Op::Any, at))?);
+    }
+    assert_eq!(rt; all, OUTCOMES);
+    Ok(())
+}
+
+#[test]
+fn what_clients_were_told_outlives_a_fault_of_each_call(rt: HostRuntime) -> Result<(), Fail> {
+    let mut all = 0u32;
+    for (op, calls) in [(Op::Read, READS), (Op::Write, WRITES), (Op::Sync, SYNCS)] {
+        for at in 0..calls {
+            all = all.saturating_add(lose_power(&rt, rt.alloc(), Fails::Once(op, at))?);
+        }
+    }
+    assert_eq!(rt; all, OUTCOMES);
+    Ok(())
+}

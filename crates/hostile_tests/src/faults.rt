@@ -1,0 +1,162 @@
+//! Courses on a device that fails once or twice and works again: they go on from what they find, to the end.
+use crate::course::{
+    CALLS, Course, Found, Met, READS, SYNCS, WRITES, deposit, formatted, found_by, take_course,
+    two_stations,
+};
+use fault_injector::{Noting, OneFault, Op};
+use sector_device::{Device, MemoryDevice};
+use std::alloc::Global;
+use std::process::Abort;
+use std::test::Fail;
+use turn_clerk::{Clerk, Line, OpenRefusal, TurnRefusal};
+
+// What an opening finds on a device, or None where it fails.
+fn look<D: Device>(rt: &impl Abort, alloc: Global, device: D) -> (D, Option<Found>) {
+    match Clerk::open(alloc, device, two_stations(rt, false)) {
+        Ok(clerk) => {
+            let found = found_by(&clerk);
+            (clerk.into_device(), Some(found))
+        }
+        Err((device, refusal)) => {
+            assert_eq!(rt; refusal, OpenRefusal::Device);
+            (device, None)
+        }
+    }
+}
+
+// Where the faults of a course lay, as counts.
+#[derive(Clone, Copy, Debug, PartialEq, Eq)]
+struct Faults {
+    in_openings: u64,
+    in_turns: u64,
+}
+
+impl Faults {
+    fn count(&mut self, met: Met) {
+        match met {
+            Met::Nothing => {}
+            Met::InOpening => self.in_openings = self.in_openings.saturating_add(1),
+            Met::InTurn => self.in_turns = self.in_turns.saturating_add(1),
+        }
+    }
+}
+
+// The course, and after each of two faults at most once more from what is found then, without a power loss, to all five
+// batches. What is found is lawful each time.
+fn to_the_end<D: Device + Drop>(rt: &impl Abort, alloc: Global, device: D) -> Faults {
+    let mut faults = Faults {
+        in_openings: 0,
+        in_turns: 0,
+    };
+    let (mut device, mut course) = take_course(rt, alloc, device, 0);
+    faults.count(course.met);
+    for _ in 0..2 {
+        if course.met == Met::Nothing {
+            break;
+        }
+        let (handed_back, there) = look(rt, alloc, device);
+        let Some(there) = there else {
+            faults.count(Met::InOpening);
+            device = handed_back;
+            continue;
+        };
+        assert!(rt; course.allows(there), "{course:?} {there:?}");
+        let (taken_on, rest) = take_course(rt, alloc, handed_back, there.next as usize);
+        device = taken_on;
+        course = rest;
+        faults.count(course.met);
+    }
+    assert_eq!(rt; (course.met, course.acknowledged), (Met::Nothing, 5));
+    faults
+}
+
+#[test]
+fn a_device_that_fails_once_loses_nothing(rt: HostRuntime) -> Result<(), Fail> {
+    let kinds = [
+        (Op::Read, READS),
+        (Op::Write, WRITES),
+        (Op::Sync, SYNCS),
+        (Op::Any, CALLS),
+    ];
+    for (op, calls) in kinds {
+        for at in 0..calls.saturating_add(1) {
+            let device = OneFault::new(formatted(&rt, rt.alloc(), 2)?, op, at);
+            let faults = to_the_end(&rt, rt.alloc(), device);
+            let met = faults.in_openings.saturating_add(faults.in_turns);
+            assert_eq!(rt; met, u64::from(at < calls), "{op:?} {at}");
+        }
+    }
+    Ok(())
+}
+
+// Each call before the fault reaches the device, and none after it, whoever asks the clerk for a turn.
+#[test]
+fn a_faulted_clerk_makes_no_call(rt: HostRuntime) -> Result<(), Fail> {
+    let alloc = rt.alloc();
+    for at in 0..CALLS {
+        let Ok(noting) = Noting::new(alloc, formatted(&rt, alloc, 2)?, 100) else {
+            panic!(&rt; "out of memory");
+        };
+        let device = OneFault::new(noting, Op::Any, at);
+        let (device, course) = take_course(&rt, alloc, device, 0);
+        assert!(rt; course.met != Met::Nothing);
+        assert_eq!(rt; device.into_inner().calls().len() as u64, at);
+    }
+    Ok(())
+}
+
+// A device that fails at the first place, and at a later one: where these faults lay.
+fn two_faults(rt: &impl Abort, alloc: Global, first: u64, second: u64) -> Result<Faults, Fail> {
+    let inner = OneFault::new(formatted(rt, alloc, 2)?, Op::Any, second);
+    Ok(to_the_end(rt, alloc, OneFault::new(inner, Op::Any, first)))
+}
+
+// How many later places there are for all places of the first fault: as many as calls that reach the device from the
+// first fault on to the end.
+const PAIRS: u64 = 2044;
+
+// The calls that the first fault doesn't let through aren't counted by the device behind, so its own fault, at a place not
+// before the first one's, is the second. From some place on it isn't met.
+#[test]
+fn a_device_that_fails_twice_loses_nothing(rt: HostRuntime) -> Result<(), Fail> {
+    let mut pairs = 0u64;
+    let mut all = Faults {
+        in_openings: 0,
+        in_turns: 0,
+    };
+    for first in 0..CALLS {
+        for second in first..1000 {
+            let faults = two_faults(&rt, rt.alloc(), first, second)?;
+            if faults.in_openings.saturating_add(faults.in_turns) < 2 {
+                break;
+            }
+            pairs = pairs.saturating_add(1);
+            all.in_openings = all.in_openings.saturating_add(faults.in_openings);
+            all.in_turns = all.in_turns.saturating_add(faults.in_turns);
+        }
+    }
+    assert_eq!(rt; pairs, PAIRS);
+    assert!(rt; all.in_openings > 0 && all.in_turns > 0);
+    Ok(())
+}
+
+// A deposit whose first sync fails, which is that of its body, is in flight, and isn't there when the device is opened
+// again.
+#[test]
+fn a_turn_whose_first_sync_fails_is_in_flight(rt: HostRuntime) -> Result<(), Fail> {
+    let alloc = rt.alloc();
+    let line = Line::from_bits(3, &[false; 3], &[true, false, false]).expect(&rt, "a line");
+    let device = OneFault::new(formatted(&rt, alloc, 4)?, Op::Sync, 1);
+    let mut clerk = Clerk::open(alloc, device, line).map_err(|(_, refusal)| refusal)?;
+    assert_eq!(rt; clerk.turn(0, &[deposit(5)]), Err(TurnRefusal::Device));
+    let in_flight = clerk.in_flight().expect(&rt, "a batch in flight");
+    assert_eq!(rt; (in_flight.len(), in_flight.get(0)), (1, Some(deposit(5))));
+    assert_eq!(rt; clerk.turn(0, &[]), Err(TurnRefusal::Faulted));
+    assert_eq!(rt; clerk.turn(1, &[]), Err(TurnRefusal::Faulted));
+    let clerk = Clerk::open(alloc, clerk.into_device(), line).map_err(|(_, refusal)| refusal)?;
+    assert_eq!(rt;
+        (clerk.opening_balance(1), clerk.opening_next()),
+        (Some(0), 0)
+    );
+    Ok(())
+}

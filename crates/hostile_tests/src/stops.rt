@@ -1,0 +1,105 @@
+//! Courses on a device that stops at one of its calls, and then loses power.
+use crate::course::{CALLS, Course, Met, events, formatted, take_course, two_stations};
+use crate::power::{at_stake, outcomes_of, picks, recovered};
+use fault_injector::{Fuse, Op};
+use sector_device::MemoryDevice;
+use std::alloc::Global;
+use std::process::Abort;
+use std::test::Fail;
+use turn_clerk::{Clerk, OpenRefusal, TurnRefusal};
+
+// How a course is taken: one turn after another, or as one run.
+#[derive(Clone, Copy, Debug, PartialEq, Eq)]
+enum By {
+    Turns,
+    Run,
+}
+
+// How many outcomes of a power loss there are for all stops: the one without a pending sector, and four for each one
+// that is pending, or for the two lowest and the two highest.
+const OUTCOMES: u32 = 757;
+
+// The course as one run on a device that stops at this call.
+fn run_course(
+    rt: &impl Abort,
+    alloc: Global,
+    device: Fuse<MemoryDevice>,
+) -> Result<(Fuse<MemoryDevice>, Course), Fail> {
+    let mut clerk = match Clerk::open(alloc, device, two_stations(rt, false)) {
+        Ok(clerk) => clerk,
+        Err((device, refusal)) => {
+            assert_eq!(rt; refusal, OpenRefusal::Device);
+            let (acknowledged, met) = (0, Met::InOpening);
+            return Ok((device, Course { acknowledged, met }));
+        }
+    };
+    let mut replies = Vec::new(alloc);
+    clerk.run(events(alloc)?.as_slice(), &mut replies)?;
+    let acknowledged = replies.iter().filter(|reply| reply.is_ok()).count();
+    assert_eq!(rt; clerk.history().len(), acknowledged);
+    let mut met = Met::Nothing;
+    for reply in replies.iter().skip(acknowledged) {
+        let expected = if met == Met::Nothing {
+            TurnRefusal::Device
+        } else {
+            TurnRefusal::Faulted
+        };
+        assert!(rt; *reply == Err(expected));
+        met = Met::InTurn;
+    }
+    let acknowledged = acknowledged as u64;
+    Ok((clerk.into_device(), Course { acknowledged, met }))
+}
+
+// A course on a device that stops at this call, and what was left of it in the memory device.
+fn stopped(
+    rt: &impl Abort,
+    alloc: Global,
+    by: By,
+    at: u64,
+) -> Result<(MemoryDevice, Course), Fail> {
+    let device = Fuse::new(formatted(rt, alloc, 2)?, Op::Any, at);
+    let (device, course) = match by {
+        By::Turns => take_course(rt, alloc, device, 0),
+        By::Run => run_course(rt, alloc, device)?,
+    };
+    Ok((device.into_inner(), course))
+}
+
+// Every power loss after a stop at this call: where it stopped, and how many power losses there are.
+fn lose_power(rt: &impl Abort, alloc: Global, by: By, at: u64) -> Result<(Met, u32), Fail> {
+    let (device, course) = stopped(rt, alloc, by, at)?;
+    let sectors = at_stake(rt, alloc, &device)?;
+    let outcomes = outcomes_of(sectors.as_slice());
+    for number in 0..outcomes {
+        let (device, course) = stopped(rt, alloc, by, at)?;
+        let device = device.crash(&picks(alloc, sectors.as_slice(), number)?);
+        assert!(rt;
+            course.allows(recovered(rt, alloc, device)),
+            "{by:?} {at} {number}"
+        );
+    }
+    Ok((course.met, outcomes))
+}
+
+fn lose_power_everywhere(rt: &impl Abort, alloc: Global, by: By) -> Result<(), Fail> {
+    let mut all = 0u32;
+    for at in 0..CALLS {
+        let (met, outcomes) = lose_power(rt, alloc, by, at)?;
+        assert!(rt; met != Met::Nothing, "{at}");
+        all = all.saturating_add(outcomes);
+    }
+    assert_eq!(rt; all, OUTCOMES);
+    assert_eq!(rt; lose_power(rt, alloc, by, CALLS)?, (Met::Nothing, 1));
+    Ok(())
+}
+
+#[test]
+fn a_stop_at_each_call_loses_nothing(rt: HostRuntime) -> Result<(), Fail> {
+    lose_power_everywhere(&rt, rt.alloc(), By::Turns)
+}
+
+#[test]
+fn a_stop_at_each_call_of_a_run_loses_nothing(rt: HostRuntime) -> Result<(), Fail> {
+    lose_power_everywhere(&rt, rt.alloc(), By::Run)
+}
