@@ -1,25 +1,27 @@
 //! The course through an office, with its two seats in the hands of one thread.
-ghost use Rattle.std.specs.Prelude.{◌≡◌};
-ghost use Rattle.sector_device.specs.MemoryDevice.{memory_device_state};
-ghost use Rattle.four_state.specs.Configuration.{stations};
-ghost use Rattle.fault_injector.specs.OneFault.{one_fault_state};
-ghost use Rattle.line_lock.specs.Opening.{SayTheSame};
 
 use crate::course::{
     AMOUNTS, CALLS, Course, Found, Met, deposit, formatted, found_by, two_stations,
 };
 use fault_injector::{OneFault, Op};
 use line_lock::{
-    Blank, Clerk, Closing, Ledger, Line, Office, OpenRefusal, Opening, Seat, Turn, TurnRefusal,
+    Clerk, Closing, Ledger, Office, OfficeRefusal, OfficeWork, OpenRefusal, Opening, Seat, Turn,
+    TurnRefusal, with_office,
 };
 use sector_device::MemoryDevice;
-use std::alloc::Global;
-use std::marker::Brand;
+use std::alloc::{AllocError, Global};
 use std::process::Abort;
 use std::sync::Wait;
 use std::test::Fail;
 
 type Device = OneFault<MemoryDevice>;
+
+// What a course through an office was, and the turns that it handed out.
+#[derive(Drop)]
+struct Walked {
+    course: Course,
+    turns: Vec<Turn>,
+}
 
 // Takes the turns, each with the seat whose turn it is, up to the first fault, and then each seat is told of it.
 fn take_turns<L: Ledger + Opening, R: Abort + Wait>(
@@ -28,7 +30,7 @@ fn take_turns<L: Ledger + Opening, R: Abort + Wait>(
     office: &Office<Device, L>,
     bottom: &mut Seat<L>,
     top: &mut Seat<L>,
-) -> Result<(Course, Vec<Turn>), Fail> {
+) -> Result<Walked, AllocError> {
     let mut turns = Vec::new(alloc);
     let mut met = Met::Nothing;
     for (place, amount) in AMOUNTS.iter().enumerate() {
@@ -51,7 +53,8 @@ fn take_turns<L: Ledger + Opening, R: Abort + Wait>(
         assert_eq!(rt; office.turn(rt, top, &[]), Err(TurnRefusal::Faulted));
     }
     let acknowledged = turns.len() as u64;
-    Ok((Course { acknowledged, met }, turns))
+    let course = Course { acknowledged, met };
+    Ok(Walked { course, turns })
 }
 
 // Each second turn from this one on is in the seat's list, in order, and no other.
@@ -72,56 +75,81 @@ fn looked_at(rt: &impl Abort, alloc: Global, device: Device) -> Found {
     }
 }
 
-// One course: where it met the fault. The office of a device that failed is closed like any other.
-fn meets_one_fault<L: Ledger + Opening, R: Abort + Wait>(
+// The course through the two seats of an office.
+#[derive(Drop)]
+struct TwoSeats<'a, R> {
+    rt: &'a R,
+    alloc: Global,
+}
+
+impl<'a, R: Abort + Wait> OfficeWork<Device> for TwoSeats<'a, R> {
+    type Answer = Walked;
+
+    type Failure = AllocError;
+
+    fn work<L: Ledger + Opening + Send + Sync>(
+        self,
+        office: &Office<Device, L>,
+        mut seats: Vec<Seat<L>>,
+    ) -> Result<(Vec<Seat<L>>, Walked), AllocError> {
+        let TwoSeats { rt, alloc } = self;
+        let mut top = seats.pop().expect(rt, "the seat of station 1");
+        let mut bottom = seats.pop().expect(rt, "the seat of station 0");
+        let walked = take_turns(rt, alloc, office, &mut bottom, &mut top)?;
+        listed(rt, walked.turns.as_slice(), &bottom, 0);
+        listed(rt, walked.turns.as_slice(), &top, 1);
+        seats.push(bottom)?;
+        seats.push(top)?;
+        Ok((seats, walked))
+    }
+}
+
+// One course, and then the office is closed, also one whose device failed; or the device whose opening failed.
+fn walk<R: Abort + Wait>(
     rt: &R,
     alloc: Global,
     device: Device,
-    line: Line,
-    blank: Blank,
-) -> Result<Met, Fail>
-    requires name { blank.name ≡ L.name }
-    requires parts { blank.parts ≡ L.parts }
-    requires one_each { blank.parts ≡ stations line }
-    requires device { SayTheSame L.device (one_fault_state memory_device_state device) }
-    requires line { L.line ≡ line }
-{
-    let (office, mut seats) = match Office::<Device, L>::open(alloc, device, line, blank) {
-        Ok(opened) => opened,
+) -> Result<(Clerk<Device>, Walked), Device> {
+    let work = TwoSeats { rt, alloc };
+    match with_office(alloc, device, two_stations(rt, false), work) {
+        Ok((closing, walked)) => {
+            let Closing { clerk, .. } = closing;
+            assert!(rt; clerk.history() == walked.turns.as_slice());
+            assert_eq!(rt; clerk.is_faulted(), walked.course.met == Met::InTurn);
+            Ok((clerk, walked))
+        }
         Err((device, refusal)) => {
-            assert_eq!(rt; refusal, OpenRefusal::Device);
-            assert_eq!(rt; looked_at(rt, alloc, device).next, 0);
-            return Ok(Met::InOpening);
+            assert_eq!(rt; refusal, OfficeRefusal::Opening(OpenRefusal::Device));
+            Err(device)
         }
-    };
-    let mut top = seats.pop().ok_or("a seat")?;
-    let mut bottom = seats.pop().ok_or("a seat")?;
-    let (course, turns) = take_turns(rt, alloc, &office, &mut bottom, &mut top)?;
-    listed(rt, turns.as_slice(), &bottom, 0);
-    listed(rt, turns.as_slice(), &top, 1);
-    seats.push(bottom)?;
-    seats.push(top)?;
-    match office.close(seats) {
-        Ok(Closing { clerk, .. }) => {
-            assert!(rt; clerk.history() == turns.as_slice());
-            assert_eq!(rt; clerk.is_faulted(), course.met == Met::InTurn);
-            if course.met == Met::InTurn {
-                assert!(rt; course.allows(looked_at(rt, alloc, clerk.into_device())));
-            }
-        }
-        Err((_, _, refusal)) => panic!(rt; "{refusal}"),
     }
-    Ok(course.met)
+}
+
+// Where a course meets the fault. After a fault in the opening another office is opened on the device that came back.
+fn meets_one_fault<R: Abort + Wait>(rt: &R, alloc: Global, device: Device) -> Met {
+    match walk(rt, alloc, device) {
+        Ok((clerk, walked)) => {
+            if walked.course.met == Met::InTurn {
+                assert!(rt; walked.course.allows(looked_at(rt, alloc, clerk.into_device())));
+            }
+            walked.course.met
+        }
+        Err(device) => {
+            match walk(rt, alloc, device) {
+                Ok((_, walked)) => assert!(rt; walked.course.met == Met::Nothing),
+                Err(_) => panic!(rt; "the second opening failed too"),
+            }
+            Met::InOpening
+        }
+    }
 }
 
 #[test]
 fn an_office_closes_after_one_fault(rt: HostRuntime) -> Result<(), Fail> {
     let alloc = rt.alloc();
     for at in 0..CALLS.saturating_add(1) {
-        let line = two_stations(&rt, false);
-        let blank = Blank::new(line.stations() as u64);
         let device = OneFault::new(formatted(&rt, alloc, 2)?, Op::Any, at);
-        let met = meets_one_fault::<Brand, _>(&rt, alloc, device, line, blank)?;
+        let met = meets_one_fault(&rt, alloc, device);
         assert_eq!(rt; met != Met::Nothing, at < CALLS, "{at}");
     }
     Ok(())

@@ -1,4 +1,5 @@
 mod Counting
+mod LeftDevice
 mod Legal
 mod Listing
 mod OneEach

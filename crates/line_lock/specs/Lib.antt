@@ -1,3 +1,5 @@
 pub mod Seat
 pub mod Account
 pub mod Opening
+pub mod Told
+pub mod Lent

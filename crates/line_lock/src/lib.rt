@@ -4,6 +4,7 @@
 #![tactic(auto)]
 
 mod closing;
+mod lent;
 mod locked;
 mod office;
 mod opening;
@@ -13,6 +14,7 @@ mod shown;
 
 pub use closing::{CloseRefusal, Closing};
 pub use four_state::{Line, Rule};
+pub use lent::{OfficeRefusal, OfficeWork, with_office};
 pub use office::Office;
 pub use opening::Opening;
 pub use refusals::WithinRefusal;

@@ -9,10 +9,10 @@ ghost use Rattle.sweep_auditor.specs.Audited.{IsAuditOf};
 ghost use Rattle.turn_clerk.specs.Clerk.{KeepsHistory, LeavesAcknowledged, LeftPrefixEver};
 ghost use Rattle.turn_clerk.specs.History.{moves_of};
 ghost use Rattle.line_lock.specs.Account.{IsBorneOut, failed_turns, seats_of, IsSeatMissing};
-ghost use Rattle.turn_ledger.specs.declared.limits.TheConstants.{BATCH_LIMIT};
 ghost use Rattle.journal_recovery.specs.Refused.{RecoveryRefuses};
-ghost use Rattle.line_lock.specs.Opening.{SayTheSame, WasOpenedOn};
-ghost use Rattle.line_lock.specs.Seat.{new_seat, EndsHistoryOf, IsDeniedAfter, HasReached};
+ghost use Rattle.line_lock.specs.Opening.{SayTheSame, WasOpenedOn, WasLeftByClerk};
+ghost use Rattle.line_lock.specs.Seat.{new_seat, HasReached};
+ghost use Rattle.line_lock.specs.Told.{WasTold};
 
 use crate::closing::{CloseRefusal, Closing, audited, gathered, look_at};
 use crate::locked::{Answer, Locked};
@@ -80,23 +80,8 @@ impl<D: Device, L: Ledger + Opening> Office<D, L> {
         seat: &mut Seat<L>,
         entries: &[Entry],
     ) -> Result<Turn, TurnRefusal>
-        ensures station { seat.new.station ≡ seat.old.station }
+        ensures told { WasTold L.device L.line seat.old seat.new entries.now result (λ refusal. refusal) }
         ensures reached { seat.new.reached ≡ seat.old.reached }
-        ensures listed { IfOk result (λ turn. seat.new.turns ≡ seat.old.turns ++ turn ∷ []) }
-        ensures by { IfOk result (λ turn. turn.station ≡ seat.old.station) }
-        ensures asked { IfOk result (λ turn. turn.entries ≡ entries.now) }
-        ensures index { IfOk result (λ turn. length seat.old.turns ≤ turn.index) }
-        ensures last { IfOk result (EndsHistoryOf L.device L.line) }
-        ensures not_listed { OnErr result (seat.new.turns ≡ seat.old.turns) }
-        ensures denied { result ≡ Err TurnRefusal.NotPrivileged
-            → IsSomeAnd seat.new.denied (λ held. length seat.old.turns ≤ held) }
-        ensures rightly { result ≡ Err TurnRefusal.NotPrivileged
-            → IsSomeAnd seat.new.denied (IsDeniedAfter L.device L.line seat.old.station) }
-        ensures not_denied { result ≢ Err TurnRefusal.NotPrivileged → seat.new.denied ≡ seat.old.denied }
-        ensures failed { result ≡ Err TurnRefusal.Device → seat.new.failed ≡ seat.old.failed + 1 }
-        ensures not_failed { result ≢ Err TurnRefusal.Device → seat.new.failed ≡ seat.old.failed }
-        ensures too_many { result ≡ Err TurnRefusal.TooMany → BATCH_LIMIT < length entries.now }
-        ensures there { result ≢ Err TurnRefusal.NoStation }
     {
         let Seat {
             station,
@@ -121,31 +106,13 @@ impl<D: Device, L: Ledger + Opening> Office<D, L> {
         entries: &[Entry],
         limit: u64,
     ) -> Result<Turn, WithinRefusal>
-        ensures station { seat.new.station ≡ seat.old.station }
+        ensures told { WasTold L.device L.line seat.old seat.new entries.now result WithinRefusal.Turn }
+        ensures within { IfOk result (λ turn. turn.index < limit) }
         ensures reached { result ≡ Err WithinRefusal.Reached → limit ≤ seat.new.reached }
         ensures rightly_reached { result ≡ Err WithinRefusal.Reached → HasReached L.device L.line limit }
         ensures no_more { (seat.new.reached ≡ limit) ⊎ (seat.new.reached ≡ seat.old.reached) }
         ensures not_reached { result ≢ Err WithinRefusal.Reached → seat.new.reached ≡ seat.old.reached }
         ensures never_falls { seat.old.reached ≤ seat.new.reached }
-        ensures within { IfOk result (λ turn. turn.index < limit) }
-        ensures listed { IfOk result (λ turn. seat.new.turns ≡ seat.old.turns ++ turn ∷ []) }
-        ensures by { IfOk result (λ turn. turn.station ≡ seat.old.station) }
-        ensures asked { IfOk result (λ turn. turn.entries ≡ entries.now) }
-        ensures index { IfOk result (λ turn. length seat.old.turns ≤ turn.index) }
-        ensures last { IfOk result (EndsHistoryOf L.device L.line) }
-        ensures not_listed { OnErr result (seat.new.turns ≡ seat.old.turns) }
-        ensures denied { result ≡ Err (WithinRefusal.Turn TurnRefusal.NotPrivileged)
-            → IsSomeAnd seat.new.denied (λ held. length seat.old.turns ≤ held) }
-        ensures rightly { result ≡ Err (WithinRefusal.Turn TurnRefusal.NotPrivileged)
-            → IsSomeAnd seat.new.denied (IsDeniedAfter L.device L.line seat.old.station) }
-        ensures not_denied { result ≢ Err (WithinRefusal.Turn TurnRefusal.NotPrivileged)
-            → seat.new.denied ≡ seat.old.denied }
-        ensures failed { result ≡ Err (WithinRefusal.Turn TurnRefusal.Device) → seat.new.failed ≡ seat.old.failed + 1 }
-        ensures not_failed { result ≢ Err (WithinRefusal.Turn TurnRefusal.Device)
-            → seat.new.failed ≡ seat.old.failed }
-        ensures too_many { result ≡ Err (WithinRefusal.Turn TurnRefusal.TooMany)
-            → BATCH_LIMIT < length entries.now }
-        ensures there { result ≢ Err (WithinRefusal.Turn TurnRefusal.NoStation) }
     {
         let Seat {
             station,
@@ -238,6 +205,13 @@ impl<D: Device, L: Ledger + Opening> Office<D, L> {
         kept.legal_history();
         kept.durable_prefix();
         kept
+    }
+
+    /// The device of an office that nobody closes. It waits for nobody.
+    pub fn given_up(self) -> D
+        ensures { WasLeftByClerk D.state L.device L.line result }
+    {
+        self.into_clerk().into_device()
     }
 }
 

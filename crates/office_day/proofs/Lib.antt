@@ -4,4 +4,3 @@ pub mod Limits
 pub mod Pairing
 pub mod Served
 pub mod RefusedOpening
-mod LeftDevice

@@ -1,12 +1,11 @@
 -- How many turns a day has, and in how many of them the device failed.
-use Rattle.std.specs.Prelude.{◌≡◌, ◌≢◌, ◌==◌, ◌<◌, ◌≤◌, ℕ, Bool, true, false, cond, suc, List, [], ◌∷◌, length, map, sum_by, All, refl}
-use Rattle.std.specs.List.{slice_index_or, range_with_len}
+use Rattle.std.specs.Prelude.{◌≡◌, ◌≢◌, ◌==◌, ◌<◌, ◌≤◌, ℕ, Bool, true, false, cond, suc, List, [], ◌∷◌, length, sum_by, All, refl}
+use Rattle.std.specs.List.{slice_index_or}
 use Rattle.std.proofs.Common.{sym, ◌∙◌, ap, subst, arith}
 use Rattle.std.proofs.lemmas.Bool.Decides.{nat_tests}
-use Rattle.std.proofs.lemmas.List.{length-map}
 use Rattle.std.proofs.lemmas.List.Elements.{All-nil, All-cons}
-use Rattle.std.proofs.lemmas.List.FromFn.{get_or-map-range_with_len, length-range_with_len}
 use Rattle.std.proofs.lemmas.Option.{slice_get-get_or}
+use Rattle.std.proofs.lemmas.Slice.Zip.{AllZip-long}
 use Rattle.sector_device.specs.Device.{DeviceState}
 use Rattle.turn_ledger.specs.declared.entry.Entry.{Entry}
 use Rattle.four_state.specs.Configuration.{Configuration}
@@ -14,14 +13,17 @@ use Rattle.journal_recovery.specs.State.{State}
 use Rattle.turn_clerk.specs.declared.turns.Turn.{Turn}
 use Rattle.turn_clerk.specs.declared.refusals.TurnRefusal.TheVariants.{Faulted, NoStation, NotPrivileged, TooMany, Memory, Exhausted, Device}
 use Rattle.turn_clerk.specs.History.{IsLegal}
-use Rattle.line_lock.specs.Seat.{SeatState, new_seat}
+use Rattle.line_lock.specs.Seat.{SeatState}
+use Rattle.line_lock.specs.Lent.{new_seats}
 use Rattle.line_lock.specs.Account.{turns_of}
 use Rattle.station_desk.specs.declared.end.End.{End}
 use Rattle.station_desk.specs.declared.end.End.TheVariants.{NotStarted, Reached, Stopped, Tries, Refused}
-use Rattle.station_desk.specs.Rings.{FeedState, DeskState}
+use Rattle.station_desk.specs.Rings.{AreTogether}
 use Rattle.office_day.specs.declared.reconciled.StationDay.{StationDay}
 use Rattle.office_day.specs.declared.seated.Left.{Left}
-use Rattle.office_day.specs.Day.{HadTheirDay, AreReconciled, HaveServed, failures, failures_told}
+use Rattle.office_day.specs.Counters.{HasHandedIn}
+use Rattle.office_day.specs.Day.{HadTheirDay, failures, failures_told}
+use Rattle.office_day.proofs.Days.{Parts, Went, length-new_seats, new_seat_at}
 use Rattle.office_day.proofs.Lists.{sum_by-alike, first}
 
 abbrev IsBelow : ℕ → Turn → Type 0
@@ -78,25 +80,24 @@ failures_are (Refused Memory) n one none = none (λ is. absurd (cc))
 failures_are (Refused Exhausted) n one none = none (λ is. absurd (cc))
 failures_are (Refused Device) n one none = one refl
 
-pub failures_counted : {device : DeviceState} {from : Configuration} (n : ℕ) (feeds : List FeedState) (desks : List DeskState) (seats after : List SeatState) (left : List Left) (days : List StationDay) (moves : ℕ)
-    → seats ≡ map new_seat (range_with_len 0 n) → length feeds ≡ n → length desks ≡ n
-    → HaveServed device from seats desks after left moves → AreReconciled feeds left days
-    → sum_by (λ seat. seat.failed) after ≡ failures_told days
-failures_counted n feeds desks seats after left days moves sat fed stood served done =
-    let many : length seats ≡ n = ap length sat ∙ length-map (range_with_len 0 n) new_seat ∙ length-range_with_len 0 n in
-    sum_by-alike (λ (seat : SeatState). seat.failed) (λ (day : StationDay). failures day.end) after days
-    (omega (arith, done.as_many, served.seats_as_many, fed, many))
+pub failures_counted : {device : DeviceState} {from opening : Configuration} {history : List Turn} {moves : ℕ} {parts : Parts}
+    → Went device from opening history moves parts → sum_by (λ seat. seat.failed) parts.after ≡ failures_told parts.days
+failures_counted {parts = parts} went =
+    let count = length parts.held in
+    let fed = AllZip-long HasHandedIn parts.held parts.feeds went.handed in
+    let stood = AllZip-long AreTogether parts.feeds parts.desks went.together in
+    let many = length-new_seats count in
+    sum_by-alike (λ (seat : SeatState). seat.failed) (λ (day : StationDay). failures day.end) parts.after parts.days
+    (omega (arith, went.reconciled.as_many, went.served.seats_as_many, fed, many))
     (λ i seat day low.
-    let in_seats : i < length seats = omega (arith, low, served.seats_as_many) in
-    let in_feeds : i < length feeds = omega (arith, in_seats, many, fed) in
-    let feed = first feeds (omega (arith, in_feeds)) in
-    let desk = first desks (omega (arith, in_feeds, fed, stood)) in
+    let in_seats : i < length (new_seats count) = omega (arith, low, went.served.seats_as_many) in
+    let in_feeds : i < length parts.feeds = omega (arith, in_seats, many, fed) in
+    let feed = first parts.feeds (omega (arith, in_feeds)) in
+    let desk = first parts.desks (omega (arith, in_feeds, stood)) in
     let part : Left = record { desk = desk; end = NotStarted } in
-    let worked = (served.each i seat desk part in_seats).worked in
-    let reconciled = done.each i feed part day in_feeds in
-    let fresh : slice_index_or seats i seat ≡ new_seat i =
-    ap (λ (l : List SeatState). slice_index_or l i seat) sat ∙ get_or-map-range_with_len new_seat 0 n i i seat (omega (arith, in_seats, many)) (omega arith) in
-    let none : (slice_index_or seats i seat).failed ≡ 0 = ap (λ (s : SeatState). s.failed) fresh in
-    failures_are (slice_index_or days i day).end (slice_index_or after i seat).failed
+    let worked = (went.served.each i seat desk part in_seats).worked in
+    let reconciled = went.reconciled.each i feed part day in_feeds in
+    let none : (slice_index_or (new_seats count) i seat).failed ≡ 0 = ap (λ (s : SeatState). s.failed) (new_seat_at count i seat (omega (arith, in_seats, many))) in
+    failures_are (slice_index_or parts.days i day).end (slice_index_or parts.after i seat).failed
     (λ is. omega (arith, worked.counted (sym reconciled.end ∙ is), none))
     (λ not. worked.none_failed (λ is. not (reconciled.end ∙ is)) ∙ none))

@@ -11,15 +11,16 @@ ghost use Rattle.journal_recovery.specs.Refused.{RecoveryRefuses};
 ghost use Rattle.line_lock.specs.Opening.{WasOpenedOn, WasLeftByClerk};
 ghost use Rattle.line_lock.specs.Account.{failed_turns};
 ghost use Rattle.office_day.specs.Day.{HadTheirDay, failures_told};
-ghost use Rattle.office_day.specs.Refusal.{IfOpening, UnlessOpening};
+ghost use Rattle.office_day.specs.Refusal.{IfOpening, UnlessOpening, day_refusal};
 
+use crate::counters::counters;
 use crate::held_entries::HeldEntries;
-use crate::named::named_day;
-use crate::reconciled::StationDay;
+use crate::office_run::run_office;
+use crate::reconciled::{StationDay, all_reconciled};
 use crate::refusals::DayRefusal;
-use line_lock::{Audit, Blank, Clerk, Device, Line, OpenRefusal};
-use std::alloc::Global;
-use std::marker::Brand;
+use line_lock::{Audit, Clerk, Closing, Device, Line, OfficeRefusal, OpenRefusal};
+use station_desk::Gate;
+use std::alloc::{AllocError, Global};
 use std::sync::Wait;
 use std::thread::Threads;
 
@@ -34,6 +35,15 @@ pub struct Day<D: Device> {
     pub audit: Audit,
     /// What became of each station's requests.
     pub stations: Vec<StationDay>,
+}
+
+// Nobody looks on.
+struct NobodyLooks;
+
+impl Gate for NobodyLooks {
+    fn gathered(&self, _station: u8) {}
+
+    fn answered(&self, _station: u8) {}
 }
 
 /// Opens an office on the device, with this line, and hands each station what it holds, the lowest station first. The
@@ -87,7 +97,32 @@ pub fn run_day<D: Device + Send, R: Threads + Wait + Sync>(
         refusal ≢ OpenRefusal.Device → RecoveryRefuses (D.state device).reads refusal)) }
     ensures not_memory { IfErr result (λ e. e.1 ≢ DayRefusal.Opening OpenRefusal.Memory) }
 {
-    let blank = Blank::new(line.stations() as u64);
-    // the name is this call's own: the device and the line as they were handed in
-    named_day::<D, Brand, R>(rt, alloc, device, line, blank, held, moves, tries)
+    let Ok((feeds, desks)) = counters(alloc, held) else {
+        return Err((device, DayRefusal::Memory));
+    };
+    let run = run_office(rt, alloc, device, line, desks, &NobodyLooks, moves, tries);
+    let (closing, left) = match run {
+        Ok(run) => run,
+        Err((device, refusal)) => return Err((device, of_office(refusal))),
+    };
+    let Closing { clerk, audit } = closing;
+    match all_reconciled(alloc, feeds, left) {
+        Ok(stations) => Ok(Day {
+            clerk,
+            audit,
+            stations,
+        }),
+        Err(_) => Err((clerk.into_device(), DayRefusal::Memory)),
+    }
+}
+
+// Why there was no day, where its office wasn't opened, worked in and closed.
+fn of_office(refusal: OfficeRefusal<AllocError>) -> DayRefusal
+    ensures { result ≡ day_refusal refusal }
+{
+    match refusal {
+        OfficeRefusal::Opening(OpenRefusal::Memory) | OfficeRefusal::Work(_) => DayRefusal::Memory,
+        OfficeRefusal::Opening(refusal) => DayRefusal::Opening(refusal),
+        OfficeRefusal::Closing(refusal) => DayRefusal::Closing(refusal),
+    }
 }

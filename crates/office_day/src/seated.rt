@@ -6,10 +6,12 @@ use line_lock::{Ledger, Seat};
 use station_desk::{Desk, End, Station};
 use std::alloc::{AllocError, Global};
 
-/// What a station leaves beside its seat.
+/// What a station leaves of a run beside its seat.
 #[derive(Drop)]
-pub(crate) struct Left {
+pub struct Left {
+    /// Where its clients' requests came in and the answers went out.
     pub desk: Desk,
+    /// How it ended.
     pub end: End,
 }
 

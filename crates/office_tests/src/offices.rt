@@ -16,6 +16,7 @@ use std::thread::Threads;
 
 mod callers;
 mod closing;
+mod lent;
 mod many;
 mod turns;
 

@@ -42,7 +42,9 @@ fn deposit(to: u32, amount: u64) -> Entry {
 }
 
 // As many stations as there are digits.
-fn line<const N: usize>(rt: &impl Abort, x: [u8; N], up: [u8; N]) -> Line {
+fn line<const N: usize>(rt: &impl Abort, x: [u8; N], up: [u8; N]) -> Line
+    ensures { stations result ≡ N }
+{
     assert!(rt; N < 65);
     let x = x.map(|bit| bit == 1);
     let up = up.map(|bit| bit == 1);

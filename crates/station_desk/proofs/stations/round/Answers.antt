@@ -27,14 +27,14 @@ returns-in-Ok-clause-worked g c =
     record {
       turns = turn ∷ [];
       given_up = [];
-      station = c.turn_within.ensures.station;
-      listed = c.in-Ok.ensures.listed;
+      station = c.turn_within.ensures.told.station;
+      listed = c.in-Ok.ensures.told.listed;
       within = All-cons (λ (t : TheTurn). t.index < c.args.moves) turn [] c.in-Ok.ensures.within (All-nil (λ (t : TheTurn). t.index < c.args.moves));
-      served = served-settled old mid c.settle.new.self [] turn far (c.in-Ok.ensures.asked ∙ gathered.1) c.settle.ensures.answered;
+      served = served-settled old mid c.settle.new.self [] turn far (c.in-Ok.ensures.told.asked ∙ gathered.1) c.settle.ensures.answered;
       undecided = λ not. refl;
       nothing_held = λ failed. absurd (cc);
       counted = λ failed. absurd (cc);
-      none_failed = λ not. c.in-Ok.ensures.not_failed (λ told. ok-no_device turn told);
+      none_failed = λ not. c.in-Ok.ensures.told.not_failed (λ told. ok-no_device turn told);
     }
 
 pub returns-in-Err-Reached-clause-worked : goal.returns-in-Err-Reached-clause-worked
@@ -45,14 +45,14 @@ returns-in-Err-Reached-clause-worked g c =
     record {
       turns = [];
       given_up = [];
-      station = c.turn_within.ensures.station;
-      listed = c.in-Err-Reached.ensures.not_listed ∙ sym (append-nil c.args.seat.now.turns);
+      station = c.turn_within.ensures.told.station;
+      listed = c.in-Err-Reached.ensures.told.not_listed ∙ sym (append-nil c.args.seat.now.turns);
       within = All-nil (λ (t : TheTurn). t.index < c.args.moves);
       served = served-gathered old old mid [] [] (served-nothing old) gathered.0;
       undecided = λ not. refl;
       nothing_held = λ failed. absurd (cc);
       counted = λ failed. absurd (cc);
-      none_failed = λ not. c.in-Err-Reached.ensures.not_failed (λ told. reached-no_device c.in-Err-Reached.field-0 c.in-Err-Reached.field-0-is told);
+      none_failed = λ not. c.in-Err-Reached.ensures.told.not_failed (λ told. reached-no_device c.in-Err-Reached.field-0 c.in-Err-Reached.field-0-is told);
     }
 
 pub returns-then-ne-clause-worked : goal.returns-then-ne-clause-worked
@@ -64,14 +64,14 @@ returns-then-ne-clause-worked g c =
     record {
       turns = [];
       given_up = [];
-      station = c.turn_within.ensures.station;
-      listed = c.in-Err-Turn.ensures.not_listed ∙ sym (append-nil c.args.seat.now.turns);
+      station = c.turn_within.ensures.told.station;
+      listed = c.in-Err-Turn.ensures.told.not_listed ∙ sym (append-nil c.args.seat.now.turns);
       within = All-nil (λ (t : TheTurn). t.index < c.args.moves);
       served = served-gathered old old mid [] [] (served-nothing old) gathered.0;
       undecided = λ not. refl;
       nothing_held = λ failed. absurd (another cc);
       counted = λ failed. absurd (another cc);
-      none_failed = λ not. c.turn_within.ensures.not_failed (λ failed. not cc);
+      none_failed = λ not. c.turn_within.ensures.told.not_failed (λ failed. not cc);
     }
 
 pub returns-else-ne-clause-worked : goal.returns-else-ne-clause-worked
@@ -83,12 +83,12 @@ returns-else-ne-clause-worked g c =
     record {
       turns = [];
       given_up = mid.held;
-      station = c.turn_within.ensures.station;
-      listed = c.in-Err-Turn.ensures.not_listed ∙ sym (append-nil c.args.seat.now.turns);
+      station = c.turn_within.ensures.told.station;
+      listed = c.in-Err-Turn.ensures.told.not_listed ∙ sym (append-nil c.args.seat.now.turns);
       within = All-nil (λ (t : TheTurn). t.index < c.args.moves);
       served = served-given_up old mid c.give_up.new.self [] (served-gathered old old mid [] [] (served-nothing old) gathered.0) c.give_up.ensures;
       undecided = λ not. absurd (not (λ i. Err (Turn (device i))));
       nothing_held = λ failed. ap (λ (desk : DeskState). desk.held) c.give_up.ensures;
-      counted = λ failed. c.turn_within.ensures.failed cc;
+      counted = λ failed. c.turn_within.ensures.told.failed cc;
       none_failed = λ not. absurd (not (λ i. Err (Turn (device i))));
     }

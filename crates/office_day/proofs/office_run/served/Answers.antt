@@ -2,7 +2,7 @@ use Rattle.std.proofs.Common.{◌≡◌, ◌∙◌, length, map, sym, ap, subst}
 use Rattle.station_desk.specs.Run.{HaveRun}
 use Rattle.office_day.specs.Day.{HaveServed}
 use Rattle.office_day.proofs.Served.{have_served, lent_back, of_both}
-use Rattle.office_day.proofs.named.served.Goals as goal
+use Rattle.office_day.proofs.office_run.served.Goals as goal
 
 pub returns : goal.returns
 returns g c =

@@ -1,11 +1,11 @@
--- A device that comes back from a day that isn't told.
+-- A device that comes back from an office that nobody closed.
 use Rattle.std.proofs.Common.{◌≡◌, sym}
 use Rattle.sector_device.specs.Device.{DeviceState}
 use Rattle.four_state.specs.Configuration.{Configuration}
 use Rattle.turn_clerk.specs.Clerk.{ClerkState, KeepsHistory, LeavesAcknowledged}
 use Rattle.line_lock.specs.Opening.{WasOpenedOn, WasLeftByClerk}
 
--- a device that comes from a clerk of the day
+-- a device that comes from its clerk
 pub left_by : {D : Type 0} (state : D → DeviceState) (device : DeviceState) (from : Configuration) (clerk : ClerkState D) (after : D)
     → after ≡ clerk.journal.device → WasOpenedOn state device from clerk → KeepsHistory clerk
     → ((state clerk.journal.device).honest → LeavesAcknowledged state clerk) → WasLeftByClerk state device from after

@@ -1,0 +1,7 @@
+use Rattle.line_lock.proofs.lent.with_office.Given as goal
+
+abbrev pub ghosts-lent-L-Ledger : goal.ghosts-lent-L-Ledger
+ghosts-lent-L-Ledger g a = record { name = a.blank.name; parts = a.blank.parts }
+
+abbrev pub ghosts-lent-L-Opening : goal.ghosts-lent-L-Opening
+ghosts-lent-L-Opening g a = record { device = g.D.Device.state a.device; line = a.line }

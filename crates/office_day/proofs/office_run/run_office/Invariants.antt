@@ -1,0 +1,7 @@
+use Rattle.office_day.proofs.office_run.run_office.Given as goal
+
+abbrev pub ghosts-named_run-L-Ledger : goal.ghosts-named_run-L-Ledger
+ghosts-named_run-L-Ledger g a = record { name = a.blank.name; parts = a.blank.parts }
+
+abbrev pub ghosts-named_run-L-Opening : goal.ghosts-named_run-L-Opening
+ghosts-named_run-L-Opening g a = record { device = g.D.Device.state a.device; line = a.line }

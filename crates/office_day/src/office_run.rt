@@ -1,0 +1,122 @@
+//! An office that is opened for its stations, runs, and is closed.
+ghost use Rattle.std.specs.Prelude.{◌≡◌, ◌-◌, List, length, IfOk, IfErr};
+ghost use Rattle.four_state.specs.Configuration.{stations};
+ghost use Rattle.line_lock.specs.Opening.{SayTheSame, WasLeftByClerk};
+ghost use Rattle.line_lock.specs.Seat.{SeatState};
+ghost use Rattle.line_lock.specs.Lent.{new_seats, AccountFor, IsClosed, IsRefused, IfOpening, UnlessOpening};
+ghost use Rattle.office_day.specs.Day.{HaveServed};
+
+use crate::seated::{Left, risen, seated};
+use line_lock::{Blank, Closing, Device, Ledger, Line, Office, OfficeRefusal, Opening, Seat};
+use station_desk::{Desk, Gate, run_stations};
+use std::alloc::{AllocError, Global};
+use std::marker::Brand;
+use std::sync::Wait;
+use std::thread::Threads;
+
+/// What an office run leaves: its closing, and what each station left, that of station 0 first.
+pub type OfficeRun<D> = (Closing<D>, Vec<Left>);
+
+/// Opens an office on the device, with this line, seats its stations at these desks, that of station 0 first, and lets them
+/// take turns, each in a thread of its own, until `moves` turns are taken; one that isn't privileged tries again, at most
+/// `tries` times in a row. Then the office is closed. The gate is told what the stations do. The call may wait.
+///
+/// # Errors
+/// The device comes back. [`OfficeRefusal::Opening`]: as it was left by the opening; else as a clerk that took turns on it
+/// left it. The desks are lost.
+pub fn run_office<D: Device + Send, G: Gate + Sync, R: Threads + Wait + Sync>(
+    rt: &R,
+    alloc: Global,
+    device: D,
+    line: Line,
+    desks: Vec<Desk>,
+    gate: &G,
+    moves: u64,
+    tries: u64,
+) -> Result<OfficeRun<D>, (D, OfficeRefusal<AllocError>)>
+    requires as_many { length desks.items ≡ stations line }
+
+    // What the stations made of their desks and of their seats, which account for the whole history.
+    ensures ran { IfOk result (λ run. (seats : List SeatState)
+        × HaveServed (D.state device) line (new_seats (stations line)) desks.items seats run.1.items moves
+        × AccountFor (stations line) seats run.0.clerk) }
+
+    // The clerk, over its whole life, and the audit.
+    ensures closed { IfOk result (λ run. IsClosed D.state (D.state device) line run.0.clerk run.0.audit) }
+
+    // What an office that isn't closed leaves.
+    ensures left { IfErr result (λ e. UnlessOpening e.1 (WasLeftByClerk D.state (D.state device) line e.0)) }
+    ensures opening { IfErr result (λ e. IfOpening e.1 (IsRefused D.state device e.0)) }
+{
+    let blank = Blank::new(line.stations() as u64);
+    // the name is this call's own: the device and the line as they were handed in
+    named_run::<D, Brand, G, R>(rt, alloc, device, line, blank, desks, gate, moves, tries)
+}
+
+// The same in an office that has a name, which says what it is opened on.
+fn named_run<
+    D: Device + Send,
+    L: Ledger + Opening + Send + Sync,
+    G: Gate + Sync,
+    R: Threads + Wait + Sync,
+>(
+    rt: &R,
+    alloc: Global,
+    device: D,
+    line: Line,
+    blank: Blank,
+    desks: Vec<Desk>,
+    gate: &G,
+    moves: u64,
+    tries: u64,
+) -> Result<OfficeRun<D>, (D, OfficeRefusal<AllocError>)>
+    requires name { blank.name ≡ L.name }
+    requires parts { blank.parts ≡ L.parts }
+    requires one_each { L.parts ≡ stations line }
+    requires device { SayTheSame L.device (D.state device) }
+    requires line { L.line ≡ line }
+    requires as_many { length desks.items ≡ stations line }
+    ensures ran { IfOk result (λ run. (seats : List SeatState)
+        × HaveServed L.device L.line (new_seats (stations line)) desks.items seats run.1.items moves
+        × AccountFor (stations line) seats run.0.clerk) }
+    ensures closed { IfOk result (λ run. IsClosed D.state L.device L.line run.0.clerk run.0.audit) }
+    ensures left { IfErr result (λ e. UnlessOpening e.1 (WasLeftByClerk D.state L.device L.line e.0)) }
+    ensures opening { IfErr result (λ e. IfOpening e.1 (IsRefused D.state device e.0)) }
+{
+    let (office, seats) = match Office::<D, L>::open(alloc, device, line, blank) {
+        Ok(opened) => opened,
+        Err((device, refusal)) => return Err((device, OfficeRefusal::Opening(refusal))),
+    };
+    let (seats, left) = match served(rt, alloc, &office, seats, desks, gate, moves, tries) {
+        Ok(both) => both,
+        Err(refused) => return Err((office.given_up(), OfficeRefusal::Work(refused))),
+    };
+    match office.close(seats) {
+        Ok(closing) => Ok((closing, left)),
+        Err((office, _, refusal)) => Err((office.given_up(), OfficeRefusal::Closing(refusal))),
+    }
+}
+
+// The stations take their seats, run, and rise again.
+fn served<
+    D: Device + Send,
+    L: Ledger + Opening + Send + Sync,
+    G: Gate + Sync,
+    R: Threads + Wait + Sync,
+>(
+    rt: &R,
+    alloc: Global,
+    office: &Office<D, L>,
+    seats: Vec<Seat<L>>,
+    desks: Vec<Desk>,
+    gate: &G,
+    moves: u64,
+    tries: u64,
+) -> Result<(Vec<Seat<L>>, Vec<Left>), AllocError>
+    requires as_many { length desks.items ≡ length seats.items }
+    ensures { IfOk result (λ both. HaveServed L.device L.line seats.items desks.items both.0.items both.1.items moves) }
+{
+    let mut stations = seated(alloc, seats, desks)?;
+    run_stations(rt, office, stations.as_mut_slice(), gate, moves, tries);
+    risen(alloc, stations)
+}

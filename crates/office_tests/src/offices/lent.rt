@@ -1,0 +1,116 @@
+//! An office that is lent to a piece of work.
+
+use super::deposit;
+use crate::beginnings::{formatted, line};
+use line_lock::{
+    Clerk, CloseRefusal, Ledger, Office, OfficeRefusal, OfficeWork, OpenRefusal, Opening, Seat,
+    TurnRefusal, with_office,
+};
+use sector_device::MemoryDevice;
+use std::alloc::Global;
+use std::process::Abort;
+use std::sync::Wait;
+use std::test::Fail;
+
+// What becomes of the work after its turn.
+#[derive(Clone, Copy, PartialEq, Eq)]
+enum Ends {
+    Well,
+    ByGivingUp,
+    WithASeatTooFew,
+}
+
+// The bottom station takes a turn with a deposit of 7, and its index is the answer.
+#[derive(Drop)]
+struct OneTurn<'a, R> {
+    rt: &'a R,
+    ends: Ends,
+}
+
+impl<'a, R: Wait> OfficeWork<MemoryDevice> for OneTurn<'a, R> {
+    type Answer = u64;
+
+    type Failure = TurnRefusal;
+
+    fn work<L: Ledger + Opening + Send + Sync>(
+        self,
+        office: &Office<MemoryDevice, L>,
+        mut seats: Vec<Seat<L>>,
+    ) -> Result<(Vec<Seat<L>>, u64), TurnRefusal> {
+        let OneTurn { rt, ends } = self;
+        let Some(bottom) = seats.first_mut() else {
+            return Err(TurnRefusal::NoStation);
+        };
+        let turn = office.turn(rt, bottom, &[deposit(7)])?;
+        if ends == Ends::ByGivingUp {
+            return Err(TurnRefusal::TooMany);
+        }
+        if ends == Ends::WithASeatTooFew {
+            let _ = seats.pop();
+        }
+        Ok((seats, turn.index))
+    }
+}
+
+// The device has the turn's batch, as a clerk finds it.
+fn holds_the_turn(rt: &impl Abort, alloc: Global, device: MemoryDevice) {
+    match Clerk::open(alloc, device, line(rt, [0, 0], [1, 0])) {
+        Ok(clerk) => assert_eq!(rt; (clerk.next(), clerk.ledger().balance(1)), (1, Some(7))),
+        Err((_, refusal)) => panic!(rt; "{refusal}"),
+    }
+}
+
+#[test]
+fn an_office_is_lent_and_closed(rt: HostRuntime) -> Result<(), Fail> {
+    let alloc = rt.alloc();
+    let work = OneTurn {
+        rt: &rt,
+        ends: Ends::Well,
+    };
+    match with_office(alloc, formatted(alloc, 4)?, line(&rt, [0, 0], [1, 0]), work) {
+        Ok((closing, index)) => {
+            assert_eq!(rt; (closing.clerk.history().len(), index), (1, 0));
+            assert_eq!(rt; closing.audit.first_legitimate, Some(0));
+            holds_the_turn(&rt, alloc, closing.clerk.into_device());
+        }
+        Err((_, refusal)) => panic!(rt; "{refusal}"),
+    }
+    Ok(())
+}
+
+#[test]
+fn a_work_that_ends_otherwise_hands_the_device_back(rt: HostRuntime) -> Result<(), Fail> {
+    let alloc = rt.alloc();
+    let refusals = [
+        (Ends::ByGivingUp, OfficeRefusal::Work(TurnRefusal::TooMany)),
+        (Ends::WithASeatTooFew, OfficeRefusal::Closing(CloseRefusal::SeatMissing)),
+    ];
+    for (ends, expected) in refusals {
+        let work = OneTurn { rt: &rt, ends };
+        match with_office(alloc, formatted(alloc, 4)?, line(&rt, [0, 0], [1, 0]), work) {
+            Ok(_) => panic!(rt; "closed"),
+            Err((device, refusal)) => {
+                assert_eq!(rt; refusal, expected);
+                holds_the_turn(&rt, alloc, device);
+            }
+        }
+    }
+    Ok(())
+}
+
+#[test]
+fn a_device_without_a_journal_is_not_lent(rt: HostRuntime) -> Result<(), Fail> {
+    let alloc = rt.alloc();
+    let work = OneTurn {
+        rt: &rt,
+        ends: Ends::Well,
+    };
+    let device = MemoryDevice::new(alloc, 23)?;
+    match with_office(alloc, device, line(&rt, [0, 0], [1, 0]), work) {
+        Ok(_) => panic!(rt; "opened"),
+        Err((_, refusal)) => {
+            assert_eq!(rt; refusal, OfficeRefusal::Opening(OpenRefusal::Unformatted));
+        }
+    }
+    Ok(())
+}
