@@ -1,7 +1,10 @@
-//! Tests of one fault at each place, and of a stop at each call: whichever device call fails, nothing acknowledged is
-//! lost. They are exhaustive: every call of a course with two checkpoints, through a clerk, an office and a day.
+//! Tests of one fault at each place, of a stop at each call, and of images that somebody changed: whichever device call
+//! fails, nothing acknowledged is lost, and each image is read as the format says. They are exhaustive: every call of a
+//! course with two checkpoints, through a clerk, an office and a day, and every byte of two images.
 #![tactic(auto)]
 
+#[cfg(test)]
+mod changed_images;
 #[cfg(test)]
 mod course;
 #[cfg(test)]
@@ -9,7 +12,11 @@ mod days;
 #[cfg(test)]
 mod faults;
 #[cfg(test)]
+mod images;
+#[cfg(test)]
 mod offices;
+#[cfg(test)]
+mod plain;
 #[cfg(test)]
 mod power;
 #[cfg(test)]

@@ -1,0 +1,347 @@
+//! Images in which several things were changed at random, beside the plain program of the format.
+use crate::course::{deposit, two_stations};
+use crate::images::{found, holds, image_of, put, settled};
+use crate::plain::{
+    BASE_AT, BODY_MAGIC, COUNT_AT, EPOCH_AT, FIRST_PLACE, HEAD, HEAD_MAGIC, OPEN, PLACE, Plain,
+    SEQUENCE_AT, SLOTS, STATION_AT, number_at, told,
+};
+use gate_journal::format;
+use journal_recovery::{Cause, OpenRefusal};
+use rand_core::Rng;
+use rand_pcg::Pcg32;
+use sector_device::{MemoryDevice, SECTOR, Sector};
+use std::alloc::Global;
+use std::process::Abort;
+use std::test::Fail;
+use turn_clerk::{Clerk, Entry};
+
+const IMAGES: u32 = 100_000;
+
+// Layout 2, on 23 sectors: the gates of the two banks with 1 slot each, and with 4.
+const SECTORS: u64 = 23;
+
+const GATES: [usize; 3] = [1, 6, 12];
+
+// What a byte among the first of a sector may become: a byte of a head, a count, a kind.
+const FIELDS: [u8; 6] = [0, 1, 2, 3, 4, 0xff];
+
+// How many answers there were of each kind.
+#[derive(Clone, Copy, Debug)]
+struct Kinds {
+    ledgers: u32,
+    unformatted: u32,
+    versions: u32,
+    sizes: u32,
+    banks: u32,
+    headers: u32,
+    sequences: u32,
+    tails: u32,
+    entries: u32,
+    verdicts: u32,
+}
+
+impl Kinds {
+    fn none() -> Kinds {
+        Kinds {
+            ledgers: 0,
+            unformatted: 0,
+            versions: 0,
+            sizes: 0,
+            banks: 0,
+            headers: 0,
+            sequences: 0,
+            tails: 0,
+            entries: 0,
+            verdicts: 0,
+        }
+    }
+
+    fn count(&mut self, answer: &Result<Plain, OpenRefusal>) {
+        let kind = match answer {
+            Ok(_) => &mut self.ledgers,
+            Err(OpenRefusal::Unformatted) => &mut self.unformatted,
+            Err(OpenRefusal::Version(_)) => &mut self.versions,
+            Err(OpenRefusal::Size) => &mut self.sizes,
+            Err(OpenRefusal::Damaged { cause, .. }) => match cause {
+                Cause::Bank => &mut self.banks,
+                Cause::Header => &mut self.headers,
+                Cause::Sequence => &mut self.sequences,
+                Cause::Tail => &mut self.tails,
+                Cause::Entry(_) => &mut self.entries,
+                Cause::Verdict(_) => &mut self.verdicts,
+            },
+            Err(OpenRefusal::Memory | OpenRefusal::Device) => return,
+        };
+        *kind = kind.saturating_add(1);
+    }
+
+    fn all(&self) -> [u32; 10] {
+        [
+            self.ledgers,
+            self.unformatted,
+            self.versions,
+            self.sizes,
+            self.banks,
+            self.headers,
+            self.sequences,
+            self.tails,
+            self.entries,
+            self.verdicts,
+        ]
+    }
+}
+
+fn below(random: &mut Pcg32, limit: usize) -> usize {
+    (random.next_u32() as usize) % limit.max(1)
+}
+
+fn some_byte(random: &mut Pcg32) -> u8 {
+    let [first, ..] = random.next_u32().to_le_bytes();
+    first
+}
+
+fn one_of<const N: usize>(random: &mut Pcg32, numbers: &[u64; N]) -> u64 {
+    let place = below(random, N);
+    numbers.get(place).copied().unwrap_or(0)
+}
+
+// Writes a number into these places of a sector, its highest byte first.
+fn put_number(bytes: &mut Sector, (from, to): (usize, usize), number: u64) {
+    let mut rest = number;
+    if let Some(places) = bytes.get_mut(from..to) {
+        for place in places.iter_mut().rev() {
+            *place = (rest % 256) as u8;
+            rest /= 256;
+        }
+    }
+}
+
+// An entry, or something like one: kinds, accounts and amounts from both sides of each limit.
+fn put_entry(random: &mut Pcg32, bytes: &mut Sector, at: usize) {
+    let kind = one_of(random, &[1, 1, 2, 3, 4]);
+    let from = one_of(random, &[0, 1, 1, 2, 64, 65]);
+    let to = one_of(random, &[0, 1, 1, 2, 64, 65]);
+    let amount = one_of(
+        random,
+        &[
+            0,
+            1,
+            5,
+            5,
+            500,
+            999_999_999_999_999_000,
+            1_000_000_000_000_000_001,
+        ],
+    );
+    let sides = match kind {
+        1 => (0, to),
+        2 => (from, 0),
+        _ => (from, to),
+    };
+    let place = |from: usize, to: usize| (at.saturating_add(from), at.saturating_add(to));
+    put_number(bytes, place(0, 1), kind);
+    put_number(bytes, place(4, 8), sides.0);
+    put_number(bytes, place(8, 12), sides.1);
+    put_number(bytes, place(16, 24), amount);
+}
+
+// A body that is a record of this sequence, or nearly.
+fn body(random: &mut Pcg32, sequence: u64) -> Sector {
+    let mut bytes = [0; SECTOR];
+    let count = below(random, 5);
+    put_number(&mut bytes, (0, 4), u64::from(BODY_MAGIC));
+    put_number(&mut bytes, STATION_AT, one_of(random, &[0, 0, 1, 63, 64]));
+    put_number(&mut bytes, COUNT_AT, count as u64);
+    put_number(&mut bytes, SEQUENCE_AT, sequence);
+    for place in 0..count {
+        let at = place.saturating_mul(PLACE).saturating_add(FIRST_PLACE);
+        put_entry(random, &mut bytes, at);
+    }
+    bytes
+}
+
+fn head(random: &mut Pcg32) -> Sector {
+    let mut bytes = [0; SECTOR];
+    put_number(&mut bytes, (0, 4), u64::from(HEAD_MAGIC));
+    put_number(&mut bytes, EPOCH_AT, one_of(random, &[0, 1, 2]));
+    put_number(
+        &mut bytes,
+        BASE_AT,
+        one_of(random, &[0, 0, 1, u64::MAX - 1, u64::MAX]),
+    );
+    bytes
+}
+
+fn set(image: &mut [Sector], at: usize, bytes: &Sector) {
+    if let Some(sector) = image.get_mut(at) {
+        *sector = *bytes;
+    }
+}
+
+fn open(image: &mut [Sector], gate: usize) {
+    if let Some(sector) = image.get_mut(gate) {
+        sector[0] = OPEN;
+    }
+}
+
+fn sector_at(image: &[Sector], at: usize) -> Sector {
+    image.get(at).copied().unwrap_or([0; SECTOR])
+}
+
+fn some_gate(random: &mut Pcg32) -> usize {
+    let place = below(random, GATES.len());
+    GATES.get(place).copied().unwrap_or(0)
+}
+
+// A sound head of a bank, behind an open gate.
+fn renew_head(random: &mut Pcg32, image: &mut [Sector]) {
+    let gate = some_gate(random);
+    open(image, gate);
+    set(image, gate.saturating_add(HEAD as usize), &head(random));
+}
+
+// A body in one of a bank's first slots, with the sequence that is due there, behind an open gate.
+fn renew_body(random: &mut Pcg32, image: &mut [Sector]) {
+    let gate = some_gate(random);
+    let slot = below(random, 3);
+    let base = number_at(image, (gate as u64).saturating_add(HEAD), BASE_AT);
+    let place = slot
+        .saturating_mul(2)
+        .saturating_add(gate)
+        .saturating_add(SLOTS as usize);
+    let bytes = body(random, base.wrapping_add(slot as u64));
+    set(image, place, &bytes);
+    open(image, place.saturating_add(1));
+}
+
+// What may happen to an image.
+#[derive(Clone, Copy)]
+enum Change {
+    Byte,
+    // One of the bytes that a head or a place may have, among the first of its sector.
+    Field,
+    Zeros,
+    Ones,
+    Copied,
+    Exchanged,
+    Opened,
+    Head,
+    Body,
+}
+
+const CHANGES: [Change; 9] = [
+    Change::Byte,
+    Change::Field,
+    Change::Zeros,
+    Change::Ones,
+    Change::Copied,
+    Change::Exchanged,
+    Change::Opened,
+    Change::Head,
+    Change::Body,
+];
+
+fn put_byte(image: &mut [Sector], at: usize, place: usize, value: u8) {
+    if let Some(byte) = image.get_mut(at).and_then(|bytes| bytes.get_mut(place)) {
+        *byte = value;
+    }
+}
+
+fn make(random: &mut Pcg32, image: &mut [Sector], change: Change) {
+    let at = below(random, image.len());
+    let other = below(random, image.len());
+    let (here, there) = (sector_at(image, at), sector_at(image, other));
+    match change {
+        Change::Byte => put_byte(image, at, below(random, SECTOR), some_byte(random)),
+        Change::Field => {
+            let value = FIELDS.get(below(random, FIELDS.len())).copied();
+            put_byte(image, at, below(random, FIRST_PLACE), value.unwrap_or(0));
+        }
+        Change::Zeros => set(image, at, &[0; SECTOR]),
+        Change::Ones => set(image, at, &[0xff; SECTOR]),
+        Change::Copied => set(image, at, &there),
+        Change::Exchanged => {
+            set(image, at, &there);
+            set(image, other, &here);
+        }
+        Change::Opened => open(image, at),
+        Change::Head => renew_head(random, image),
+        Change::Body => renew_body(random, image),
+    }
+}
+
+// One to six changes.
+fn make_several(random: &mut Pcg32, image: &mut [Sector]) {
+    for _ in 0..below(random, 6).saturating_add(1) {
+        let place = below(random, CHANGES.len());
+        if let Some(change) = CHANGES.get(place) {
+            make(random, image, *change);
+        }
+    }
+}
+
+// A deposit and a transfer of what it brought.
+fn two_entries() -> [Entry; 2] {
+    let transfer = Entry::Transfer {
+        from: 1,
+        to: 2,
+        amount: 40,
+        reference: 5,
+    };
+    [deposit(100), transfer]
+}
+
+// With this many slots a bank, on 23 sectors, after three turns: with 1 slot behind two checkpoints, with 4 without any.
+fn after_three_turns(rt: &impl Abort, alloc: Global, slots: u64) -> Result<MemoryDevice, Fail> {
+    let mut device = MemoryDevice::new(alloc, SECTORS)?;
+    assert!(rt; 1 <= slots && slots <= 4);
+    format(&mut device, slots)?;
+    let line = two_stations(rt, false);
+    let mut clerk = Clerk::open(alloc, device, line).map_err(|(_, refusal)| refusal)?;
+    for station in [0, 1, 0] {
+        clerk.turn(station, &two_entries())?;
+    }
+    Ok(clerk.into_device())
+}
+
+// Changes an image, and compares what recovery finds with what the plain program tells.
+fn compare(
+    rt: &impl Abort,
+    alloc: Global,
+    mut device: MemoryDevice,
+    random: &mut Pcg32,
+    sound: &[Sector],
+) -> Result<(MemoryDevice, Result<Plain, OpenRefusal>), Fail> {
+    let mut image = sound.to_vec(alloc)?;
+    make_several(random, image.as_mut_slice());
+    for (at, bytes) in image.iter().enumerate() {
+        put(rt, &mut device, at, bytes)?;
+    }
+    let (mut device, answer) = found(alloc, device);
+    assert_eq!(rt; answer, told(image.as_slice()));
+    holds(rt, &mut device, image.as_slice())?;
+    Ok((settled(alloc, device), answer))
+}
+
+#[test]
+fn images_with_several_changes_are_read_as_the_format_says(rt: HostRuntime) -> Result<(), Fail> {
+    let alloc = rt.alloc();
+    let mut device = after_three_turns(&rt, alloc, 1)?;
+    let behind_checkpoints = image_of(&rt, alloc, &mut device)?;
+    let mut device = after_three_turns(&rt, alloc, 4)?;
+    let in_one_bank = image_of(&rt, alloc, &mut device)?;
+    let mut random = Pcg32::new(1974, 17);
+    let mut kinds = Kinds::none();
+    for number in 0..IMAGES {
+        let sound = if number % 2 == 0 {
+            &behind_checkpoints
+        } else {
+            &in_one_bank
+        };
+        let (after, answer) = compare(&rt, alloc, device, &mut random, sound.as_slice())?;
+        device = after;
+        kinds.count(&answer);
+    }
+    assert!(rt; kinds.all().iter().all(|count| 0 < *count), "{kinds:?}");
+    Ok(())
+}
