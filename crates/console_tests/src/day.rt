@@ -1,5 +1,6 @@
 //! Days of station threads, from scripts. Each test holds whatever thread runs when.
 use crate::scripts::{prints, told};
+use crate::streams::whole;
 use console_engine::{Device, LineFault, MemoryDevice, PowerLoss, ScriptFault, run_script};
 use fault_injector::{OneFault, Op};
 use gate_journal::format;
@@ -46,12 +47,8 @@ impl<D: Device + Send> PowerLoss for Steady<D> {
 
 #[test]
 fn a_day_of_three_stations(rt: HostRuntime) -> Result<(), Fail> {
-    prints(
-        &rt,
-        rt.alloc(),
-        "format 4\nopen 3 000 100\npost 0 deposit 1 100\npost 1 deposit 2 50\npost 2 transfer 1 2 30\npost 0 withdraw 2 500\nday 8\nbalances\n",
-        "formatted 4\nopened 3 next 0 total 0\nheld 0 1\nheld 1 1\nheld 2 1\nheld 0 2\nturn 0 station 0 Bottom posted 0\nentry 0 ok\nentry 1 Short\nturn 1 station 1 Raise posted 1\nentry 0 ok\nturn 2 station 2 Top posted 2\nentry 0 ok\nturn 3 station 1 Lower empty\nturn 4 station 0 Bottom empty\nturn 5 station 1 Raise empty\nturn 6 station 2 Top empty\nturn 7 station 1 Lower empty\nday 8 legitimate at 0\nstation 0 Reached\nstation 1 Reached\nstation 2 Reached\nanswer 0 0 posted 0\nanswer 0 1 Short\nanswer 1 0 posted 1\nanswer 2 0 posted 2\naccount 1 70\naccount 2 80\ntotal 150\n",
-    )
+    let (script, printed) = whole(rt.alloc())?;
+    prints(&rt, rt.alloc(), script.as_str(), printed.as_str())
 }
 
 #[test]

@@ -52,7 +52,7 @@ impl Write for OneByte<'_> {
     }
 }
 
-/// Gives one byte a call, and fails after so many calls.
+/// Gives and takes one byte a call, and fails after so many calls.
 #[derive(Drop)]
 pub struct Failing<'a> {
     inner: OneByte<'a>,
@@ -66,6 +66,10 @@ impl<'a> Failing<'a> {
             calls,
         }
     }
+
+    pub fn taken(&self) -> &[u8] {
+        self.inner.taken()
+    }
 }
 
 impl Read for Failing<'_> {
@@ -75,6 +79,20 @@ impl Read for Failing<'_> {
         }
         self.calls -= 1;
         self.inner.read(buf)
+    }
+}
+
+impl Write for Failing<'_> {
+    fn write(&mut self, buf: &[u8]) -> io::Result<usize> {
+        if self.calls == 0 {
+            return Err(failed());
+        }
+        self.calls -= 1;
+        self.inner.write(buf)
+    }
+
+    fn flush(&mut self) -> io::Result<()> {
+        Ok(())
     }
 }
 

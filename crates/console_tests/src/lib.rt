@@ -17,4 +17,6 @@ mod numbers;
 #[cfg(test)]
 mod scripts;
 #[cfg(test)]
+mod streams;
+#[cfg(test)]
 mod words;

@@ -1,9 +1,6 @@
 //! Whole scripts, with all that they print and how they end.
-use crate::fakes::{Endless, Failing, Interrupted, OneByte, Refusing};
 use console_engine::{LineFault, MemoryDevice, ScriptFault, run_program, run_script};
 use std::alloc::Global;
-use std::fs::{File, Files};
-use std::io::{Read, Write};
 use std::process::Abort;
 use std::sync::Wait;
 use std::test::Fail;
@@ -194,79 +191,6 @@ fn spaces_returns_and_zeros_are_taken(rt: HostRuntime) -> Result<(), Fail> {
     )
 }
 
-#[test]
-fn readers_and_writers_of_one_byte(rt: HostRuntime) -> Result<(), Fail> {
-    let alloc = rt.alloc();
-    let device = MemoryDevice::new(alloc, 64)?;
-    let mut reader = OneByte::over(alloc, DEPOSIT.as_bytes());
-    let mut writer = OneByte::over(alloc, &[]);
-    let end = run_script(&rt, alloc, &mut reader, &mut writer, device);
-    assert_eq!(rt; end, Ok(()));
-    assert_eq!(rt; writer.taken(), DEPOSIT_PRINTS.as_bytes());
-    Ok(())
-}
-
-#[test]
-fn a_reader_that_fails_at_each_call(rt: HostRuntime) -> Result<(), Fail> {
-    let alloc = rt.alloc();
-    for calls in 0..DEPOSIT.len() as u64 {
-        let device = MemoryDevice::new(alloc, 64)?;
-        let mut reader = Failing::over(alloc, DEPOSIT.as_bytes(), calls);
-        let mut output = Vec::new(alloc);
-        let end = run_script(&rt, alloc, &mut reader, &mut output, device);
-        assert_eq!(rt; end, Err(ScriptFault::Read));
-        assert_eq!(rt; output.len(), 0);
-    }
-    Ok(())
-}
-
-#[test]
-fn a_writer_that_fails_at_each_call(rt: HostRuntime) -> Result<(), Fail> {
-    let alloc = rt.alloc();
-    for calls in 0..2 {
-        let device = MemoryDevice::new(alloc, 64)?;
-        let mut reader = DEPOSIT.as_bytes();
-        let mut writer = Refusing::after(alloc, calls);
-        let end = run_script(&rt, alloc, &mut reader, &mut writer, device);
-        assert_eq!(rt; end, Err(ScriptFault::Write));
-        assert!(rt; DEPOSIT_PRINTS.as_bytes().starts_with(writer.taken()));
-    }
-    Ok(())
-}
-
-// The lines of a turn are handed to the writer before the next line runs.
-#[test]
-fn a_turn_is_acknowledged_at_once(rt: HostRuntime) -> Result<(), Fail> {
-    let alloc = rt.alloc();
-    let device = MemoryDevice::new(alloc, 64)?;
-    let mut reader = DEPOSIT.as_bytes();
-    let mut writer = Refusing::after(alloc, 1);
-    let end = run_script(&rt, alloc, &mut reader, &mut writer, device);
-    assert_eq!(rt; end, Err(ScriptFault::Write));
-    assert!(rt; writer.taken().ends_with(b"posted 0\nentry 0 ok\n"));
-    Ok(())
-}
-
-#[test]
-fn interrupted_for_ever(rt: HostRuntime) -> Result<(), Fail> {
-    let alloc = rt.alloc();
-    let mut script = DEPOSIT.as_bytes();
-    let device = MemoryDevice::new(alloc, 64)?;
-    let end = run_script(&rt, alloc, &mut script, &mut Interrupted, device);
-    assert_eq!(rt; end, Err(ScriptFault::Write));
-    Ok(())
-}
-
-#[test]
-fn a_script_that_never_ends_is_too_long(rt: HostRuntime) -> Result<(), Fail> {
-    let alloc = rt.alloc();
-    let device = MemoryDevice::new(alloc, 64)?;
-    let mut output = Vec::new(alloc);
-    let end = run_script(&rt, alloc, &mut Endless, &mut output, device);
-    assert_eq!(rt; end, Err(ScriptFault::TooLong));
-    Ok(())
-}
-
 // The words, the script, and what the program ends with: its status, output and errors.
 #[test]
 fn the_program_tells_how_it_ended(rt: HostRuntime) -> Result<(), Fail> {
@@ -324,62 +248,4 @@ fn the_program_tells_how_it_ended(rt: HostRuntime) -> Result<(), Fail> {
         assert_eq!(rt; errors.as_slice(), tells.as_bytes(), "{script}");
     }
     Ok(())
-}
-
-// How the program ends over a reader and a writer: its status, and what it tells on its errors.
-fn fails_with<S: Abort + Files<File = File> + Threads + Wait + Sync, R: Read, W: Write>(
-    rt: &S,
-    alloc: Global,
-    words: &[&str],
-    reader: &mut R,
-    writer: &mut W,
-    tells: &str,
-) {
-    let mut errors = Vec::new(alloc);
-    let status = run_program(rt, alloc, words, reader, writer, &mut errors);
-    assert_eq!(rt; status, 1);
-    assert_eq!(rt; errors.as_slice(), tells.as_bytes());
-}
-
-#[test]
-fn streams_that_fail_are_told(rt: HostRuntime) {
-    let alloc = rt.alloc();
-    let words = ["console"];
-    let help = ["console", "--help"];
-    let mut output = Vec::new(alloc);
-    let mut failing = Failing::over(alloc, b"crash", 0);
-    fails_with(
-        &rt,
-        alloc,
-        &words,
-        &mut failing,
-        &mut output,
-        "read failed\n",
-    );
-    fails_with(
-        &rt,
-        alloc,
-        &words,
-        &mut Endless,
-        &mut output,
-        "script too long\n",
-    );
-    let mut script = b"crash".as_slice();
-    let mut refusing = Refusing::after(alloc, 0);
-    fails_with(
-        &rt,
-        alloc,
-        &help,
-        &mut script,
-        &mut refusing,
-        "write failed\n",
-    );
-    fails_with(
-        &rt,
-        alloc,
-        &words,
-        &mut script,
-        &mut refusing,
-        "write failed\n",
-    );
 }
