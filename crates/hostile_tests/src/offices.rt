@@ -130,7 +130,11 @@ fn meets_one_fault<R: Abort + Wait>(rt: &R, alloc: Global, device: Device) -> Me
     match walk(rt, alloc, device) {
         Ok((clerk, walked)) => {
             if walked.course.met == Met::InTurn {
-                assert!(rt; walked.course.allows(looked_at(rt, alloc, clerk.into_device())));
+                assert!(rt;
+                    walked
+                        .course
+                        .allows(looked_at(rt, alloc, clerk.into_device()))
+                );
             }
             walked.course.met
         }

@@ -14,11 +14,11 @@ mod seated;
 
 pub use day::{Day, run_day};
 pub use held_entries::{HELD_LIMIT, HeldEntries};
-pub use line_lock::{Audit, Clerk, CloseRefusal, Closing, Device, Line, OfficeRefusal, OpenRefusal};
+pub use line_lock::{
+    Audit, Clerk, CloseRefusal, Closing, Device, Line, OfficeRefusal, OpenRefusal,
+};
 pub use office_run::{OfficeRun, run_office};
 pub use reconciled::StationDay;
 pub use refusals::DayRefusal;
 pub use seated::Left;
-pub use station_desk::{
-    Answer, Ask, Desk, End, Entry, EntryRefusal, Gate, Outcome, TurnRefusal,
-};
+pub use station_desk::{Answer, Ask, Desk, End, Entry, EntryRefusal, Gate, Outcome, TurnRefusal};

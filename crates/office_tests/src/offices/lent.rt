@@ -83,7 +83,10 @@ fn a_work_that_ends_otherwise_hands_the_device_back(rt: HostRuntime) -> Result<(
     let alloc = rt.alloc();
     let refusals = [
         (Ends::ByGivingUp, OfficeRefusal::Work(TurnRefusal::TooMany)),
-        (Ends::WithASeatTooFew, OfficeRefusal::Closing(CloseRefusal::SeatMissing)),
+        (
+            Ends::WithASeatTooFew,
+            OfficeRefusal::Closing(CloseRefusal::SeatMissing),
+        ),
     ];
     for (ends, expected) in refusals {
         let work = OneTurn { rt: &rt, ends };

@@ -11,14 +11,17 @@ returns-in-Ok-close-clause-worked g c =
     let closing = c.in-Ok-close.ensures in
     let clerk = c.in-Ok-close.closing.clerk in
     let seats = c.in-Ok-work.worked.0.items in
-    let makes = λ (lent : List SeatState). g.W.OfficeWork.makes c.args.work g.L.Opening.device g.L.Opening.line lent seats c.in-Ok-work.worked.1 in
-    (seats, subst makes c.in-Ok.ensures.seats c.in-Ok-work.ensures.made, subst (λ (count : ℕ). AccountFor count seats clerk) c.requires.one_each (record {
-      one_seat = closing.one_seat;
-      borne_out = closing.borne_out;
-      counted = closing.counted;
-      there = closing.there;
-      failed = closing.failed;
-    }))
+    let makes = λ (lent : List SeatState). g.W.OfficeWork.makes c.args.work g.L.Opening.device g.L.Opening.line lent seats c.in-Ok-work.worked.1 in (
+      seats,
+      subst makes c.in-Ok.ensures.seats c.in-Ok-work.ensures.made,
+      subst (λ (count : ℕ). AccountFor count seats clerk) c.requires.one_each (record {
+        one_seat = closing.one_seat;
+        borne_out = closing.borne_out;
+        counted = closing.counted;
+        there = closing.there;
+        failed = closing.failed;
+      }),
+    )
 
 pub returns-in-Ok-close-clause-closed : goal.returns-in-Ok-close-clause-closed
 returns-in-Ok-close-clause-closed g c =
