@@ -46,6 +46,48 @@ const FULL: [Asked; 6] = [
     Asked::SyncFolder,
 ];
 
+/// An opening with five sectors, and what is to become of it.
+#[derive(Clone, Copy)]
+struct Opening<'a> {
+    /// The file's path, and the folder that it lies in.
+    path: &'a str,
+    folder: &'a str,
+    /// How many bytes the file has before, none of which is zero, or None where it isn't there.
+    before: Option<usize>,
+    limits: Limits,
+    /// How many sectors there are, or why it is refused.
+    outcome: Result<u64, FileRefusal>,
+    /// What the disk is asked for, and then this, if anything.
+    steps: &'a [Asked],
+    last: Option<Asked>,
+    /// How many bytes the file has from before, and with the zeros behind them, or None where it isn't made.
+    after: Option<(usize, usize)>,
+}
+
+const OF_A_NEW_FILE: Opening<'static> = Opening {
+    path: "ledger",
+    folder: ".",
+    before: None,
+    limits: WHOLE,
+    outcome: Ok(5),
+    steps: &NEW,
+    last: None,
+    after: Some((0, 2560)),
+};
+
+const OF_AN_OLD_FILE: Opening<'static> = Opening {
+    path: "ledger",
+    folder: ".",
+    before: Some(1536),
+    limits: WHOLE,
+    outcome: Ok(5),
+    steps: &OLD,
+    last: None,
+    after: Some((1536, 2560)),
+};
+
+const REFUSED: Result<u64, FileRefusal> = Err(FileRefusal::File);
+
 // Opens five sectors at this path, and gives how many there are.
 fn opened(disk: &Disk, path: &str) -> Result<u64, FileRefusal> {
     let file = open_sectors(&OnDisk { disk }, path, 5, &[[0; SECTOR]; 2])?;
@@ -64,13 +106,16 @@ fn disk_with(alloc: Global, length: usize, limits: Limits) -> Result<Disk<'stati
 }
 
 // The file has so many bytes from before, and then zeros up to this length.
-fn expect_bytes(rt: &impl Abort, disk: &Disk, old: usize, length: usize) -> Result<(), Fail> {
-    let bytes = disk.take_bytes().ok_or("a file")?;
+fn expect_bytes(rt: &impl Abort, disk: &Disk, after: Option<(usize, usize)>) {
+    let Some((old, length)) = after else {
+        assert!(rt; disk.take_bytes().is_none());
+        return;
+    };
+    let bytes = disk.take_bytes().expect(rt, "a file");
     assert_eq!(rt; bytes.len(), length);
     for (place, byte) in bytes.iter().enumerate() {
         assert_eq!(rt; *byte, if place < old { 7 } else { 0 }, "{place}");
     }
-    Ok(())
 }
 
 // The disk was asked for these steps, and then for this one, if any.
@@ -80,29 +125,31 @@ fn expect_steps(rt: &impl Abort, disk: &Disk, steps: &[Asked], last: Option<Aske
     assert!(rt; asked.iter().copied().eq(expected), "{asked:?}");
 }
 
-#[test]
-fn a_new_file_is_locked_grown_and_synced(rt: HostRuntime) -> Result<(), Fail> {
-    let disk = Disk::new(rt.alloc(), "ledger", ".", WHOLE);
-    assert_eq!(rt; opened(&disk, "ledger"), Ok(5));
-    expect_steps(&rt, &disk, &NEW, None);
-    expect_bytes(&rt, &disk, 0, 2560)
+// Makes the disk and opens its file.
+fn comes_to_pass(rt: &impl Abort, alloc: Global, opening: &Opening) -> Result<(), Fail> {
+    let disk = Disk::new(alloc, opening.path, opening.folder, opening.limits);
+    if let Some(length) = opening.before {
+        disk.holds(vec![in alloc; 7; length]?);
+    }
+    assert_eq!(rt; opened(&disk, opening.path), opening.outcome);
+    expect_steps(rt, &disk, opening.steps, opening.last);
+    expect_bytes(rt, &disk, opening.after);
+    Ok(())
 }
 
 #[test]
-fn a_shorter_file_is_grown_behind_its_end(rt: HostRuntime) -> Result<(), Fail> {
-    let disk = disk_with(rt.alloc(), 1536, WHOLE)?;
-    assert_eq!(rt; opened(&disk, "ledger"), Ok(5));
-    expect_steps(&rt, &disk, &OLD, None);
-    expect_bytes(&rt, &disk, 1536, 2560)
-}
-
-#[test]
-fn a_file_that_is_long_enough_is_only_synced(rt: HostRuntime) -> Result<(), Fail> {
+fn a_file_is_locked_grown_and_synced(rt: HostRuntime) -> Result<(), Fail> {
+    comes_to_pass(&rt, rt.alloc(), &OF_A_NEW_FILE)?;
+    comes_to_pass(&rt, rt.alloc(), &OF_AN_OLD_FILE)?;
     for (length, sectors) in [(2560, 5), (4096, 8)] {
-        let disk = disk_with(rt.alloc(), length, WHOLE)?;
-        assert_eq!(rt; opened(&disk, "ledger"), Ok(sectors));
-        expect_steps(&rt, &disk, &FULL, None);
-        expect_bytes(&rt, &disk, length, length)?;
+        let opening = Opening {
+            before: Some(length),
+            outcome: Ok(sectors),
+            steps: &FULL,
+            after: Some((length, length)),
+            ..OF_AN_OLD_FILE
+        };
+        comes_to_pass(&rt, rt.alloc(), &opening)?;
     }
     Ok(())
 }
@@ -111,14 +158,19 @@ fn a_file_that_is_long_enough_is_only_synced(rt: HostRuntime) -> Result<(), Fail
 #[test]
 fn where_a_step_fails_a_new_file_is_empty_or_whole(rt: HostRuntime) -> Result<(), Fail> {
     for fails in 0..NEW.len() {
-        let disk = Disk::new(rt.alloc(), "ledger", ".", failing_at(fails));
-        assert_eq!(rt; opened(&disk, "ledger"), Err(FileRefusal::File));
-        let back = (5..=10).contains(&fails).then_some(Asked::Length(0));
-        expect_steps(&rt, &disk, &NEW[..=fails], back);
-        if fails > 2 {
-            expect_bytes(&rt, &disk, 0, if fails > 10 { 2560 } else { 0 })?;
-        }
-        assert!(rt; disk.take_bytes().is_none(), "{fails}");
+        let opening = Opening {
+            limits: failing_at(fails),
+            outcome: REFUSED,
+            steps: &NEW[..=fails],
+            last: (5..=10).contains(&fails).then_some(Asked::Length(0)),
+            after: match fails {
+                0..=2 => None,
+                3..=10 => Some((0, 0)),
+                _ => Some((0, 2560)),
+            },
+            ..OF_A_NEW_FILE
+        };
+        comes_to_pass(&rt, rt.alloc(), &opening)?;
     }
     Ok(())
 }
@@ -126,11 +178,15 @@ fn where_a_step_fails_a_new_file_is_empty_or_whole(rt: HostRuntime) -> Result<()
 #[test]
 fn where_a_step_fails_an_old_file_keeps_its_bytes(rt: HostRuntime) -> Result<(), Fail> {
     for fails in 0..OLD.len() {
-        let disk = disk_with(rt.alloc(), 1536, failing_at(fails))?;
-        assert_eq!(rt; opened(&disk, "ledger"), Err(FileRefusal::File));
-        let back = (4..=5).contains(&fails).then_some(Asked::Length(1536));
-        expect_steps(&rt, &disk, &OLD[..=fails], back);
-        expect_bytes(&rt, &disk, 1536, if fails > 5 { 2560 } else { 1536 })?;
+        let opening = Opening {
+            limits: failing_at(fails),
+            outcome: REFUSED,
+            steps: &OLD[..=fails],
+            last: (4..=5).contains(&fails).then_some(Asked::Length(1536)),
+            after: Some((1536, if fails > 5 { 2560 } else { 1536 })),
+            ..OF_AN_OLD_FILE
+        };
+        comes_to_pass(&rt, rt.alloc(), &opening)?;
     }
     Ok(())
 }
@@ -146,8 +202,8 @@ fn zeros_that_are_written_in_part_are_finished(rt: HostRuntime) -> Result<(), Fa
             ..WHOLE
         };
         let disk = Disk::new(rt.alloc(), "ledger", ".", limits);
-        assert_eq!(rt; opened(&disk, "ledger"), Err(FileRefusal::File));
-        expect_bytes(&rt, &disk, 0, if fails == 36 { 2560 } else { 0 })?;
+        assert_eq!(rt; opened(&disk, "ledger"), REFUSED);
+        expect_bytes(&rt, &disk, Some((0, if fails == 36 { 2560 } else { 0 })));
     }
     Ok(())
 }
@@ -155,10 +211,14 @@ fn zeros_that_are_written_in_part_are_finished(rt: HostRuntime) -> Result<(), Fa
 #[test]
 fn a_length_of_no_whole_sectors_is_refused(rt: HostRuntime) -> Result<(), Fail> {
     for length in [1, 511, 513, 1023] {
-        let disk = disk_with(rt.alloc(), length, WHOLE)?;
-        assert_eq!(rt; opened(&disk, "ledger"), Err(FileRefusal::File), "{length}");
-        expect_steps(&rt, &disk, &FULL[..4], None);
-        expect_bytes(&rt, &disk, length, length)?;
+        let opening = Opening {
+            before: Some(length),
+            outcome: REFUSED,
+            steps: &FULL[..4],
+            after: Some((length, length)),
+            ..OF_AN_OLD_FILE
+        };
+        comes_to_pass(&rt, rt.alloc(), &opening)?;
     }
     Ok(())
 }
@@ -175,9 +235,12 @@ fn the_folder_of_the_name_is_synced(rt: HostRuntime) -> Result<(), Fail> {
         ("/books/ledger", "/books"),
     ];
     for (path, folder) in table {
-        let disk = Disk::new(rt.alloc(), path, folder, WHOLE);
-        assert_eq!(rt; opened(&disk, path), Ok(5), "{path}");
-        expect_steps(&rt, &disk, &NEW, None);
+        let opening = Opening {
+            path,
+            folder,
+            ..OF_A_NEW_FILE
+        };
+        comes_to_pass(&rt, rt.alloc(), &opening)?;
     }
     Ok(())
 }
@@ -199,15 +262,20 @@ fn a_file_with_the_number_of_a_stream_gets_another(rt: HostRuntime) -> Result<()
 
 #[test]
 fn without_another_number_the_file_is_refused(rt: HostRuntime) -> Result<(), Fail> {
-    let limits = Limits {
-        number: 1,
-        fails: 2,
-        ..WHOLE
+    let opening = Opening {
+        before: Some(2560),
+        limits: Limits {
+            number: 1,
+            fails: 2,
+            ..WHOLE
+        },
+        outcome: REFUSED,
+        steps: &FULL[..2],
+        last: Some(Asked::Move),
+        after: Some((2560, 2560)),
+        ..OF_AN_OLD_FILE
     };
-    let disk = disk_with(rt.alloc(), 2560, limits)?;
-    assert_eq!(rt; opened(&disk, "ledger"), Err(FileRefusal::File));
-    expect_steps(&rt, &disk, &FULL[..2], Some(Asked::Move));
-    expect_bytes(&rt, &disk, 2560, 2560)
+    comes_to_pass(&rt, rt.alloc(), &opening)
 }
 
 // For want of memory the disk is asked for nothing.

@@ -1,0 +1,103 @@
+"""Refuses each request for memory, and for a thread, of the tests of `refused_memory` and of the program.
+
+Words: the program, the tests, and a folder with the library that refuses.
+"""
+import re
+import sys
+from collections import Counter
+from pathlib import Path
+
+from refusing import Refuser, requests_beside
+
+# The calls that may tell of want of memory. A call's own device is a request of the memory device within it.
+CALLS = {
+    "Clerk::open", "Clerk::open, by its device", "Clerk::run", "Clerk::run, in a reply", "Clerk::turn",
+    "Clerk::turn, by its device", "FileDevice::open", "HeldEntries::new", "HeldFlags in an Arc", "Ledger::new",
+    "MemoryDevice::new", "MemoryDevice::sync", "MemoryDevice::write", "Office::open", "Office::turn",
+    "Office::turn_within", "Office::turn_within, by its device", "Office::turn_within, under the lock", "desk", "format",
+    "options", "reconcile", "recover", "run_day", "run_script", "run_script, in a line", "run_stations",
+}
+THREADS = "days::a_day_is_had_without_a_thread"
+
+DEPOSIT = b"format 4\nopen 3 000 100\npost 0 deposit 1 500\nturn 0\nbalances\ncrash\nopen 3 111 110\nbalances\n"
+DAY = Path("examples/three_stations")
+# So long a day is waited for that has a thread too few: its stations ask 100,000,000 times before they give up.
+SECONDS = 5
+IN_A_LINE = re.compile(rb"^(refused|station \d+) (Memory|Device)$")
+
+
+def fail(said):
+    sys.exit(f"refused memory: {said}")
+
+
+def try_tests(refuser, tests, told):
+    """Each test passes in each run. What calls tell is counted."""
+    whole = refuser.run([tests], "REQUEST", 0)
+    names = re.findall(rb"^test (\S+) \.\.\. ok$", whole.printed, re.MULTILINE)
+    if whole.status != 0 or not names or re.search(rb"^told ", whole.printed, re.MULTILINE):
+        fail(f"without a refusal the tests don't pass, or tell of one:\n{whole.printed.decode()}{whole.told.decode()}")
+    for name in (name.decode() for name in names):
+        runs = list(refuser.each([tests, name], "REQUEST"))
+        if name == THREADS:
+            runs += refuser.each([tests, name], "THREAD")
+        silent = []
+        for number, run in runs:
+            lines = re.findall(r"^told (.*)$", run.printed.decode(), re.MULTILINE)
+            if run.status != 0 or len(lines) > 1:
+                fail(f"{name}, request {number}: status {run.status}\n{run.printed.decode()}{run.told.decode()}")
+            told.update(lines)
+            silent += [] if lines else [number]
+        print(f"{name}: {len(runs)} requests refused, of which nobody told of {', '.join(map(str, silent)) or 'none'}")
+
+
+def is_lawful(run, whole):
+    """Whether a run in which a request was refused may print so much less than a whole one, or something else."""
+    if run.status == 1 and run.told == b"out of memory\n":
+        return whole.printed.startswith(run.printed)
+    if (run.status, run.told) != (whole.status, whole.told):
+        return False
+    lines = run.printed.splitlines()
+    return run.printed == whole.printed or any(IN_A_LINE.match(line) for line in lines)
+
+
+def try_program(refuser, name, words, given):
+    """The program ends as it may in each run."""
+    ledger = refuser.folder / "ledger"
+
+    def fresh():
+        ledger.unlink(missing_ok=True)
+
+    fresh()
+    whole = refuser.run(words, "REQUEST", 0, given)
+    kinds = {"REQUEST": 0, "THREAD": 0}
+    in_vain = 0
+    for kind in kinds:
+        for number, run in refuser.each(words, kind, given, SECONDS, fresh):
+            kinds[kind] += 1
+            if run.status is None and b"day " in given:
+                in_vain += 1
+            elif not is_lawful(run, whole):
+                fail(f"{name}, {kind} {number}: status {run.status}\n{run.printed.decode()}{run.told.decode()}")
+    print(f"the program, {name}: {kinds['REQUEST']} requests and {kinds['THREAD']} threads refused, {in_vain} waited in vain")
+
+
+def main(program, tests, folder):
+    for made in (program, tests):
+        if others := requests_beside(made):
+            fail(f"{made} takes memory by {', '.join(others)} too")
+    refuser, told = Refuser(folder), Counter()
+    try_tests(refuser, tests, told)
+    if missing := CALLS - told.keys():
+        fail(f"nobody told of want of memory in {', '.join(sorted(missing))}")
+    if unknown := told.keys() - CALLS:
+        fail(f"not listed here: {', '.join(sorted(unknown))}")
+    for call, count in sorted(told.items()):
+        print(f"{call}: told of {count}")
+    try_program(refuser, "a deposit", [program], DEPOSIT)
+    try_program(refuser, "a deposit in a file", [program, "--device", "ledger"], DEPOSIT)
+    try_program(refuser, "a day", [program], DAY.read_bytes())
+    try_program(refuser, "wrong words", [program, "--frob"], b"")
+    try_program(refuser, "help", [program, "--help"], b"")
+
+
+main(*sys.argv[1:])

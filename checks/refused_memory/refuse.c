@@ -1,0 +1,43 @@
+/* Refuses one request of the program that it is loaded into: of those for memory the one whose number stands in
+   REFUSED_REQUEST, and of those for a thread the one in REFUSED_THREAD, counted from 1. Where that request is made, a line
+   on file descriptor 9 says so. What the C library asks for while it makes a thread isn't counted. */
+#define _GNU_SOURCE
+#include <dlfcn.h>
+#include <errno.h>
+#include <pthread.h>
+#include <stdatomic.h>
+#include <stdlib.h>
+#include <unistd.h>
+
+static atomic_long requests, threads;
+static _Thread_local int makes_a_thread;
+
+static int is_refused(atomic_long *count, const char *name) {
+    const char *number = getenv(name);
+    if (atomic_fetch_add(count, 1) + 1 != (number ? atol(number) : 0)) return 0;
+    return write(9, "refused\n", 8) >= 0 || 1;
+}
+
+static int is_memory_refused(void) {
+    if (makes_a_thread || !is_refused(&requests, "REFUSED_REQUEST")) return 0;
+    errno = ENOMEM;
+    return 1;
+}
+
+void *__libc_malloc(size_t);
+void *__libc_realloc(void *, size_t);
+
+void *malloc(size_t size) { return is_memory_refused() ? NULL : __libc_malloc(size); }
+
+void *realloc(void *block, size_t size) { return is_memory_refused() ? NULL : __libc_realloc(block, size); }
+
+typedef int pthread_create_type(pthread_t *, const pthread_attr_t *, void *(*)(void *), void *);
+
+int pthread_create(pthread_t *to, const pthread_attr_t *how, void *(*start)(void *), void *with) {
+    pthread_create_type *create = (pthread_create_type *)dlsym(RTLD_NEXT, "pthread_create");
+    if (is_refused(&threads, "REFUSED_THREAD")) return EAGAIN;
+    makes_a_thread = 1;
+    int answer = create(to, how, start, with);
+    makes_a_thread = 0;
+    return answer;
+}

@@ -1,0 +1,64 @@
+//! What a test begins with. One request alone is refused, so a step of the test's own is made twice at most.
+ghost use Rattle.std.specs.Prelude.{◌≡◌};
+ghost use Rattle.four_state.specs.Configuration.{stations};
+
+use fault_injector::Noting;
+use gate_journal::format;
+use sector_device::MemoryDevice;
+use std::alloc::Global;
+use std::process::Abort;
+use std::test::Fail;
+use turn_clerk::{Entry, Line};
+
+/// A memory device that notes its calls.
+pub type Noted = Noting<MemoryDevice>;
+
+/// Prints the name of a call that told of want of memory.
+pub fn told(rt: &(impl Abort + Print), call: &str) {
+    println!(rt; "told {call}").expect(rt, "an output");
+}
+
+/// So many stations, of which the bottom one alone is privileged.
+pub fn line<const N: usize>(rt: &impl Abort) -> Line
+    ensures { stations result ≡ N }
+{
+    assert!(rt; 1 < N && N < 65);
+    let mut up = [false; N];
+    up[0] = true;
+    Line::from_bits(N as u64, &[false; N], &up).expect(rt, "a line")
+}
+
+pub fn deposit(to: u32, amount: u64) -> Entry {
+    Entry::Deposit {
+        to,
+        amount,
+        reference: 3,
+    }
+}
+
+/// A device of zeros.
+pub fn zeros(alloc: Global, sectors: u64) -> Result<MemoryDevice, Fail> {
+    match MemoryDevice::new(alloc, sectors) {
+        Ok(device) => Ok(device),
+        Err(_) => Ok(MemoryDevice::new(alloc, sectors)?),
+    }
+}
+
+/// An empty journal with so many slots in each bank.
+pub fn formatted(rt: &impl Abort, alloc: Global, slots: u64) -> Result<MemoryDevice, Fail> {
+    assert!(rt; 1 <= slots && slots < 100);
+    let mut device = zeros(alloc, 4 * slots + 7)?;
+    if format(&mut device, slots).is_err() {
+        format(&mut device, slots)?;
+    }
+    Ok(device)
+}
+
+/// The same on a device that notes its calls from then on.
+pub fn noted(rt: &impl Abort, alloc: Global, slots: u64) -> Result<Noted, Fail> {
+    let device = formatted(rt, alloc, slots)?;
+    match Noting::new(alloc, device, 1000) {
+        Ok(noted) => Ok(noted),
+        Err(refused) => Ok(Noting::new(alloc, refused.value, 1000).map_err(|_| "a list of calls")?),
+    }
+}

@@ -1,0 +1,65 @@
+//! The two sides of a desk, and the flags of a held sync.
+use crate::beginnings::{deposit, told};
+use fault_injector::HeldFlags;
+use station_desk::{Answer, Ask, Outcome, desk, reconcile};
+use std::sync::Arc;
+use std::sync::atomic::Ordering;
+use std::test::Fail;
+
+#[test]
+fn a_desk_is_made_and_reconciled(rt: HostRuntime) -> Result<(), Fail> {
+    let alloc = rt.alloc();
+    let (mut feed, mut desk) = match desk(alloc, 2) {
+        Ok(sides) => sides,
+        Err(_) => {
+            told(&rt, "desk");
+            desk(alloc, 2)?
+        }
+    };
+    assert_eq!(rt; feed.submit(deposit(1, 5)), Ok(0));
+    assert_eq!(rt; feed.submit(deposit(1, 6)), Ok(1));
+    assert_eq!(rt; desk.gather().len(), 2);
+    desk.give_up();
+    let undecided = Answer {
+        ticket: 0,
+        entry: deposit(1, 5),
+        outcome: Outcome::Undecided,
+    };
+    assert_eq!(rt; feed.answer(), Some(undecided));
+    assert_eq!(rt; feed.submit(deposit(1, 7)), Ok(2));
+    assert_eq!(rt; desk.gather(), [deposit(1, 7)].as_slice());
+    assert_eq!(rt; feed.submit(deposit(1, 8)), Ok(3));
+    let all = match reconcile(alloc, feed, desk) {
+        Ok(all) => all,
+        Err((feed, desk, _)) => {
+            told(&rt, "reconcile");
+            reconcile(alloc, feed, desk).map_err(|(_, _, refused)| refused)?
+        }
+    };
+    assert_eq!(rt;
+        (all.submitted, all.collected, all.answers.len()),
+        (4, 1, 1)
+    );
+    let ask = |ticket, amount| Ask {
+        ticket,
+        entry: deposit(1, amount),
+    };
+    assert_eq!(rt;
+        all.unanswered.as_slice(),
+        [ask(2, 7), ask(3, 8)].as_slice()
+    );
+    Ok(())
+}
+
+#[test]
+fn flags_are_shared(rt: HostRuntime) -> Result<(), Fail> {
+    let flags = match Arc::new(rt.alloc(), HeldFlags::new()) {
+        Ok(flags) => flags,
+        Err(_) => {
+            told(&rt, "HeldFlags in an Arc");
+            Arc::new(rt.alloc(), HeldFlags::new()).map_err(|_| "memory")?
+        }
+    };
+    assert!(rt; !flags.begun.load(Ordering::SeqCst) && !flags.go.load(Ordering::SeqCst));
+    Ok(())
+}

@@ -1,0 +1,148 @@
+//! An office: its opening, and turns through its seats.
+use crate::beginnings::{Noted, deposit, line, noted, told};
+use line_lock::{
+    Closing, Ledger, Office, OfficeRefusal, OfficeWork, OpenRefusal, Opening, Seat, TurnRefusal,
+    WithinRefusal, with_office,
+};
+use std::alloc::Global;
+use std::convert::Infallible;
+use std::process::Abort;
+use std::sync::Wait;
+use std::test::Fail;
+
+// How far an office came.
+#[derive(Clone, Copy, Debug, Drop, PartialEq, Eq)]
+enum Came {
+    ToTheEnd,
+    // its device had no memory in a turn
+    ToAFault,
+}
+
+// Two seats, that of the bottom station and that of the top one, which isn't privileged.
+#[derive(Drop)]
+struct TwoSeats<'a, R> {
+    rt: &'a R,
+}
+
+// Want of memory for a place in a seat's list stands before every other refusal, and leaves the seat as it was.
+fn asks_in_vain<L: Ledger + Opening, R: Abort + Wait + Print>(
+    rt: &R,
+    office: &Office<Noted, L>,
+    bottom: &mut Seat<L>,
+    top: &mut Seat<L>,
+) {
+    let sixteen = [deposit(1, 5); 16];
+    let mut answer = office.turn(rt, top, &sixteen);
+    if answer == Err(TurnRefusal::Memory) {
+        told(rt, "Office::turn");
+        assert_eq!(rt; (top.turns().len(), top.denied()), (0, None));
+        answer = office.turn(rt, top, &sixteen);
+    }
+    assert_eq!(rt; answer, Err(TurnRefusal::NotPrivileged));
+    assert_eq!(rt; top.denied(), Some(0));
+    let mut answer = office.turn_within(rt, bottom, &sixteen, 0);
+    if answer == Err(WithinRefusal::Turn(TurnRefusal::Memory)) {
+        told(rt, "Office::turn_within");
+        assert_eq!(rt; (bottom.turns().len(), bottom.denied()), (0, None));
+        answer = office.turn_within(rt, bottom, &sixteen, 0);
+    }
+    assert_eq!(rt; answer, Err(WithinRefusal::Reached));
+}
+
+// A turn of a seat with a place in its list: under the lock there may be no memory for the history, or for the device.
+fn takes_a_turn<L: Ledger + Opening, R: Abort + Wait + Print>(
+    rt: &R,
+    office: &Office<Noted, L>,
+    seat: &mut Seat<L>,
+    limit: u64,
+) -> Came {
+    let entries = [deposit(1, 5)];
+    let before = seat.turns().len();
+    let mut answer = office.turn_within(rt, seat, &entries, limit);
+    if answer == Err(WithinRefusal::Turn(TurnRefusal::Memory)) {
+        told(rt, "Office::turn_within, under the lock");
+        assert_eq!(rt; seat.turns().len(), before);
+        answer = office.turn_within(rt, seat, &entries, limit);
+    }
+    match answer {
+        Ok(turn) => {
+            assert_eq!(rt; turn.posted, Some(turn.index));
+            assert_eq!(rt; seat.turns().len(), before.saturating_add(1));
+            Came::ToTheEnd
+        }
+        Err(refusal) => {
+            assert_eq!(rt; refusal, WithinRefusal::Turn(TurnRefusal::Device));
+            told(rt, "Office::turn_within, by its device");
+            assert_eq!(rt; seat.turns().len(), before);
+            Came::ToAFault
+        }
+    }
+}
+
+impl<'a, R: Abort + Wait + Print> OfficeWork<Noted> for TwoSeats<'a, R> {
+    type Answer = Came;
+
+    type Failure = Infallible;
+
+    fn work<L: Ledger + Opening + Send + Sync>(
+        self,
+        office: &Office<Noted, L>,
+        mut seats: Vec<Seat<L>>,
+    ) -> Result<(Vec<Seat<L>>, Came), Infallible> {
+        let TwoSeats { rt } = self;
+        assert_eq!(rt; seats.len(), 2);
+        let [bottom, top] = seats.as_mut_slice() else {
+            panic!(rt; "two seats");
+        };
+        asks_in_vain(rt, office, bottom, top);
+        let mut came = Came::ToTheEnd;
+        for turn in 0..6u64 {
+            let seat = if turn % 2 == 0 {
+                &mut *bottom
+            } else {
+                &mut *top
+            };
+            came = takes_a_turn(rt, office, seat, 6);
+            if came == Came::ToAFault {
+                break;
+            }
+        }
+        Ok((seats, came))
+    }
+}
+
+// Opens the office, works in it and closes it; where there was no memory to open it, once more under another name.
+fn worked<R: Abort + Wait + Print>(
+    rt: &R,
+    alloc: Global,
+    device: Noted,
+) -> Result<(Closing<Noted>, Came), Fail> {
+    let (device, refusal) = match with_office(alloc, device, line::<2>(rt), TwoSeats { rt }) {
+        Ok(closed) => return Ok(closed),
+        Err(refused) => refused,
+    };
+    if refusal == OfficeRefusal::Opening(OpenRefusal::Memory) {
+        told(rt, "Office::open");
+        assert!(rt; device.calls().is_empty());
+    } else {
+        told(rt, "Office::open, by its device");
+        assert_eq!(rt; refusal, OfficeRefusal::Opening(OpenRefusal::Device));
+    }
+    match with_office(alloc, device, line::<2>(rt), TwoSeats { rt }) {
+        Ok(closed) => Ok(closed),
+        Err((_, refusal)) => panic!(rt; "{refusal}"),
+    }
+}
+
+#[test]
+fn an_office_is_opened_and_works(rt: HostRuntime) -> Result<(), Fail> {
+    let alloc = rt.alloc();
+    let (closing, came) = worked(&rt, alloc, noted(&rt, alloc, 4)?)?;
+    let Closing { clerk, audit } = closing;
+    assert_eq!(rt; clerk.is_faulted(), came == Came::ToAFault);
+    assert_eq!(rt; audit.first_legitimate, Some(0));
+    if came == Came::ToTheEnd {
+        assert_eq!(rt; (clerk.history().len(), clerk.next()), (6, 6));
+    }
+    Ok(())
+}

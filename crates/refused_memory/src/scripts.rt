@@ -1,0 +1,82 @@
+//! The words of the program, and scripts.
+use crate::beginnings::{told, zeros};
+use clap::error::ErrorKind;
+use console_engine::{ScriptFault, options, run_script};
+use std::alloc::Global;
+use std::process::Abort;
+use std::sync::Wait;
+use std::test::Fail;
+use std::thread::Threads;
+
+#[test]
+fn words_are_read(rt: HostRuntime) -> Result<(), Fail> {
+    let words = ["console", "--sectors", "23", "--device", "office.ledger"];
+    let options = match options(rt.alloc(), &words) {
+        Ok(options) => options,
+        Err(error) => {
+            told(&rt, "options");
+            assert_eq!(rt; error.kind(), ErrorKind::OutOfMemory);
+            options(rt.alloc(), &words).map_err(|_| "words that are right")?
+        }
+    };
+    assert_eq!(rt;
+        (options.sectors, options.device),
+        (23, Some("office.ledger"))
+    );
+    Ok(())
+}
+
+const SCRIPT: &[u8] =
+    b"format 4\nopen 3 000 100\npost 0 deposit 1 500\nturn 0\nbalances\ncrash\nopen 3 111 110\nbalances\n";
+
+const PRINTS: &[u8] =
+    b"formatted 4\nopened 3 next 0 total 0\nheld 0 1\nturn 0 station 0 Bottom posted 0\nentry 0 ok\naccount 1 500\ntotal 500\ncrashed\nopened 3 next 1 total 500\naccount 1 500\ntotal 500\n";
+
+// An output with room for all that a script prints, in a step of the test's own.
+fn room(alloc: Global) -> Result<Vec<u8>, Fail> {
+    match Vec::with_capacity(alloc, 4096) {
+        Ok(room) => Ok(room),
+        Err(_) => Ok(Vec::with_capacity(alloc, 4096)?),
+    }
+}
+
+// What the script prints on a device of zeros, and how it ends.
+fn run<R: Abort + Threads + Wait + Sync>(
+    rt: &R,
+    alloc: Global,
+) -> Result<(Vec<u8>, Result<(), ScriptFault>), Fail> {
+    let mut output = room(alloc)?;
+    let device = zeros(alloc, 23)?;
+    let mut reader = SCRIPT;
+    let end = run_script(rt, alloc, &mut reader, &mut output, device);
+    Ok((output, end))
+}
+
+// The first line that differs is one that tells of it.
+fn tells_of_it(output: &[u8]) -> bool {
+    let mut wanted = PRINTS.split(|byte| *byte == b'\n');
+    for line in output.split(|byte| *byte == b'\n') {
+        if wanted.next() != Some(line) {
+            return [b"refused Memory".as_slice(), b"refused Device".as_slice()].contains(&line);
+        }
+    }
+    false
+}
+
+#[test]
+fn a_script_is_run(rt: HostRuntime) -> Result<(), Fail> {
+    let alloc = rt.alloc();
+    let (mut output, mut end) = run(&rt, alloc)?;
+    if end == Err(ScriptFault::Memory) {
+        told(&rt, "run_script");
+        assert!(rt; PRINTS.starts_with(output.as_slice()));
+        (output, end) = run(&rt, alloc)?;
+    } else if output.as_slice() != PRINTS {
+        told(&rt, "run_script, in a line");
+        assert!(rt; tells_of_it(output.as_slice()));
+        (output, end) = run(&rt, alloc)?;
+    }
+    assert_eq!(rt; end, Ok(()));
+    assert_eq!(rt; output.as_slice(), PRINTS);
+    Ok(())
+}
