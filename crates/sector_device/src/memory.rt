@@ -7,13 +7,13 @@ ghost use Rattle.sector_device.specs.Memory.{IsPending};
 use crate::{Device, DeviceFault, SECTOR, Sector};
 use std::alloc::{AllocError, Global};
 use std::fmt;
-use std::snapshot::Snapshot;
+use std::snapshot::Snapshot as Ghost;
 
 /// An entry of the record that a memory device keeps of its calls.
 #[derive(Drop)]
 enum Call {
     /// A write to sector `at`, and the bytes that stood there before, which contracts alone see.
-    Wrote { at: u64, before: Snapshot<Sector> },
+    Wrote { at: u64, before: Ghost<Sector> },
     Synced,
 }
 
@@ -168,7 +168,7 @@ impl Device for MemoryDevice {
             ≡ (memory_device_state self.old).reads) }
         ensures not_pending { OnErr result (KeepsPending self.old self.new) }
     {
-        let before = Snapshot::of(&self.sectors[at as usize]);
+        let before = Ghost::of(&self.sectors[at as usize]);
         self.record(Call::Wrote { at, before })?;
         self.put(at as usize, from);
         Ok(())
