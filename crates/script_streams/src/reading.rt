@@ -11,6 +11,11 @@ use std::io::Read;
 /// The most bytes of a script.
 pub const SCRIPT_LIMIT: usize = 16_777_216;
 
+/// A script's limit in numbers, as a statement; the body does nothing.
+pub fn limit_in_numbers()
+    ensures { SCRIPT_LIMIT ≡ 16777216 }
+{}
+
 /// The most calls of the reader.
 const CALLS: u32 = 33_554_432;
 
