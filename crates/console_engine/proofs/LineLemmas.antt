@@ -49,22 +49,27 @@ pub record AreLeft (script : List ℕ) (before : ℕ) (left : List (List ℕ)) :
   pub ahead : first_fault 1 (lines script) ≡ first_fault (before + 1) left
   pub counted : before + length left ≡ length (lines script)
 
--- the next one is wrong
-pub wrong_line : (script : List ℕ) (before number : ℕ) (left : List (List ℕ)) (line : List ℕ) (more : List (List ℕ)) (cause : LineFault)
-    → length script ≤ 16777216 → AreLeft script before left → left ≡ line ∷ more → number ≡ min (before + 1) (2 ^ 64 - 1)
-    → line_fault (words_of line) ≡ Some cause → first_fault 1 (lines script) ≡ Some (Line number cause)
-wrong_line script before number left line more cause short are parts next wrong =
-    are.ahead ∙ wrong_here (before + 1) left line more cause parts wrong
-    ∙ ap (λ (n : ℕ). Some (Line n cause)) (number_of script before number left line more short are.counted parts next)
+-- the line is the next one of those that are left, with that number
+pub record IsNextLine (script : List ℕ) (before number : ℕ) (left : List (List ℕ)) (line : List ℕ) (more : List (List ℕ)) : Type 0 where
+  pub short : length script ≤ 16777216
+  pub are : AreLeft script before left
+  pub parts : left ≡ line ∷ more
+  pub next : number ≡ min (before + 1) (2 ^ 64 - 1)
 
--- the next one isn't
+-- it is wrong
+pub wrong_line : (script : List ℕ) (before number : ℕ) (left : List (List ℕ)) (line : List ℕ) (more : List (List ℕ)) (cause : LineFault)
+    → IsNextLine script before number left line more → line_fault (words_of line) ≡ Some cause → first_fault 1 (lines script) ≡ Some (Line number cause)
+wrong_line script before number left line more cause is wrong =
+    is.are.ahead ∙ wrong_here (before + 1) left line more cause is.parts wrong
+    ∙ ap (λ (n : ℕ). Some (Line n cause)) (number_of script before number left line more is.short is.are.counted is.parts is.next)
+
+-- it isn't
 pub right_line : (script : List ℕ) (before number : ℕ) (left : List (List ℕ)) (line : List ℕ) (more : List (List ℕ))
-    → length script ≤ 16777216 → AreLeft script before left → left ≡ line ∷ more → number ≡ min (before + 1) (2 ^ 64 - 1)
-    → line_fault (words_of line) ≡ None → AreLeft script number more
-right_line script before number left line more short are parts next right =
-    let is = number_of script before number left line more short are.counted parts next in
-    let one_less : length left ≡ length (line ∷ more) = ap length parts in
+    → IsNextLine script before number left line more → line_fault (words_of line) ≡ None → AreLeft script number more
+right_line script before number left line more is right =
+    let numbered = number_of script before number left line more is.short is.are.counted is.parts is.next in
+    let one_less : length left ≡ length (line ∷ more) = ap length is.parts in
     record {
-      ahead = are.ahead ∙ right_here (before + 1) left line more parts right ∙ ap (λ (n : ℕ). first_fault (n + 1) more) is;
-      counted = omega (arith, one_less, is, are.counted);
+      ahead = is.are.ahead ∙ right_here (before + 1) left line more is.parts right ∙ ap (λ (n : ℕ). first_fault (n + 1) more) numbered;
+      counted = omega (arith, one_less, numbered, is.are.counted);
     }

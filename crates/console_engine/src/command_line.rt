@@ -45,8 +45,10 @@ const MOST_SECTORS: u64 = 4_000_039;
 pub fn options<'a>(alloc: Global, words: &'a [&'a str]) -> Result<Options<'a>, Error>
     ensures some { IfOk result (λ options. 1 ≤ options.sectors) }
     ensures most { IfOk result (λ options. options.sectors ≤ 4000039) }
-    ensures asked { IfOk result (λ options. AskForSectors (map (λ word. word.now) words.entry.now) options.sectors) }
-    ensures device { IfOk result (λ options. AskForDevice (map (λ word. word.now) words.entry.now) (option_map (λ path. path.now) options.device)) }
+    ensures asked { let asked = map (λ word. word.now) words.entry.now in
+        IfOk result (λ options. AskForSectors asked options.sectors) }
+    ensures device { let asked = map (λ word. word.now) words.entry.now in
+        IfOk result (λ options. AskForDevice asked (option_map (λ path. path.now) options.device)) }
     // where the name of the program stands alone
     ensures default { IfOk result (λ options. length words.entry.now ≡ 1 → options.sectors ≡ 64) }
     ensures memory { IfOk result (λ options. length words.entry.now ≡ 1 → options.device ≡ None) }

@@ -9,7 +9,7 @@ use crate::console::Console;
 use crate::faults::ScriptFault;
 use crate::power::PowerLoss;
 use script_grammar::{Lines, read_command};
-use script_streams::{Output, read_script};
+use script_streams::{Output, SCRIPT_LIMIT, read_script};
 use std::alloc::Global;
 use std::io::{Read, Write};
 use std::sync::Wait;
@@ -25,7 +25,8 @@ pub fn run_script<H: Threads + Wait + Sync, R: Read, W: Write, D: PowerLoss + Dr
     device: D,
 ) -> Result<(), ScriptFault>
     // of a reader whose bytes are known: no line of the script is wrong, or a line is told that is the first wrong one
-    ensures sound { OnOk result (IfSome (R.remaining reader.old) (λ bytes. first_fault 1 (lines bytes) ≡ None)) }
+    ensures sound { OnOk result (IfSome (R.remaining reader.old) (λ bytes.
+        first_fault 1 (lines bytes) ≡ None)) }
     ensures line { IfErr result (λ fault. (line : ℕ) (cause : LineFault) → fault ≡ Line line cause
         → IfSome (R.remaining reader.old) (λ bytes. first_fault 1 (lines bytes) ≡ Some fault)) }
 {
@@ -48,7 +49,7 @@ fn run_lines<H: Threads + Wait + Sync, W: Write, D: PowerLoss + Drop>(
     device: D,
     output: &mut Output<'_, W>,
 ) -> Result<(), ScriptFault>
-    requires { length script.now ≤ 16777216 }
+    requires { length script.now ≤ SCRIPT_LIMIT }
     ensures sound { OnOk result (first_fault 1 (lines script.now) ≡ None) }
     ensures line { IfErr result (λ fault. (line : ℕ) (cause : LineFault) → fault ≡ Line line cause
         → first_fault 1 (lines script.now) ≡ Some fault) }

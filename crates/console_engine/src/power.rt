@@ -2,7 +2,6 @@
 ghost use Rattle.std.specs.Prelude.{◌≡◌, ℕ, []};
 ghost use Rattle.sector_device.specs.Crash.{IsDurable};
 ghost use Rattle.sector_device.specs.Device.{AreCalls};
-ghost use Rattle.sector_device.specs.Picks.{TakesPicks};
 
 use file_device::FileDevice;
 use sector_device::{Device, MemoryDevice, Picks};
@@ -13,17 +12,19 @@ pub trait PowerLoss: Device + Send {
     /// The device after a power loss: it reads as one of the images that the loss may leave, and counts no failure for it.
     fn lose_power(self, alloc: Global) -> Self
         ensures call { AreCalls (Self.state self) (Self.state result) ⊥ }
-        ensures left { (Self.state self).honest → (Self.state self).may_leave (Self.state result).reads };
+        ensures left { (Self.state self).honest
+            → (Self.state self).may_leave (Self.state result).reads };
 }
 
 impl PowerLoss for MemoryDevice {
-    ghost use Rattle.sector_device.specs.MemoryDevice.{memory_device_state, IsPendingIn};
+    ghost use Rattle.sector_device.specs.MemoryDevice.{memory_device_state, IsPendingIn, HasPicks};
 
     /// Sectors that weren't synced keep what was last written: one of the images that a power loss may leave.
     fn lose_power(self, alloc: Global) -> Self
         ensures call { AreCalls (memory_device_state self) (memory_device_state result) ⊥ }
-        ensures left { (memory_device_state self).honest → (memory_device_state self).may_leave (memory_device_state result).reads }
-        ensures picked { TakesPicks (memory_device_state self).reads [] (IsPendingIn self) (memory_device_state result).reads }
+        ensures left { (memory_device_state self).honest
+            → (memory_device_state self).may_leave (memory_device_state result).reads }
+        ensures picked { HasPicks self [] (memory_device_state result).reads }
         ensures durable { IsDurable (memory_device_state result) }
         ensures settled { (at : ℕ) → IsPendingIn result at → ⊥ }
     {

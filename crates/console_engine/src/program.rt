@@ -62,7 +62,8 @@ fn run_options<F: Files<File = File> + Threads + Wait + Sync, R: Read, W: Write>
     reader: &mut R,
     writer: &mut W,
 ) -> Result<(), ProgramFault>
-    ensures sound { OnOk result (IfSome (R.remaining reader.old) (λ bytes. first_fault 1 (lines bytes) ≡ None)) }
+    ensures sound { OnOk result (IfSome (R.remaining reader.old) (λ bytes.
+        first_fault 1 (lines bytes) ≡ None)) }
 {
     match options.device {
         Some(path) => {
@@ -100,7 +101,8 @@ pub fn tell_not_text<W: Write, E: Write>(alloc: Global, writer: &mut W, errors: 
 // Writes what `clap` answers to wrong words, or to the wish for help.
 fn tell_words<W: Write, E: Write>(alloc: Global, error: Error, writer: &mut W, errors: &mut E) -> u8
     ensures status { result ≤ 2 }
-    ensures wrong { kind_of error ≢ DisplayHelp → kind_of error ≢ DisplayVersion → (result ≡ 1) ⊎ (result ≡ 2) }
+    ensures wrong { kind_of error ≢ DisplayHelp → kind_of error ≢ DisplayVersion
+        → (result ≡ 1) ⊎ (result ≡ 2) }
 {
     if error.kind() == ErrorKind::OutOfMemory {
         return tell(alloc, ProgramFault::MEMORY, errors);

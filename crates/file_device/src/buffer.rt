@@ -63,9 +63,11 @@ impl ReadBuffer {
     pub(crate) fn fill<D: ReadRun>(&mut self, device: &mut D, at: u64) -> Result<(), DeviceFault>
         requires { at < length (D.state device.old).reads }
         ensures call { AreCalls (D.state device.old) (D.state device.new) ⊥ }
-        ensures same { (D.state device.old).honest → IsLook (D.state device.old) (D.state device.new) }
+        ensures same { (D.state device.old).honest
+            → IsLook (D.state device.old) (D.state device.new) }
         ensures holds { OnOk result (Holds self.new at) }
-        ensures mirrors { (D.state device.old).honest → OnOk result (Mirrors self.new (D.state device.old).reads) }
+        ensures mirrors { (D.state device.old).honest
+            → OnOk result (Mirrors self.new (D.state device.old).reads) }
         ensures err { OnErr result (IsEmpty self.new) }
     {
         self.held = 0;
@@ -89,7 +91,8 @@ fn read_front<D: ReadRun>(
     requires there { at + count ≤ length (D.state device.old).reads }
     ensures call { AreCalls (D.state device.old) (D.state device.new) ⊥ }
     ensures same { (D.state device.old).honest → IsLook (D.state device.old) (D.state device.new) }
-    ensures bytes { (D.state device.old).honest → OnOk result (Shows sectors.new count (D.state device.old).reads at) }
+    ensures bytes { (D.state device.old).honest
+        → OnOk result (Shows sectors.new count (D.state device.old).reads at) }
 {
     device.read_run(at, &mut sectors[..count])
 }

@@ -36,7 +36,8 @@ impl FileDevice {
     ) -> Result<FileDevice, FileRefusal>
         ensures enough { IfOk result (λ device. sectors ≤ device.inner.sectors) }
         ensures fits { IfOk result (λ device. device.inner.sectors * 512 < 2 ^ 63) }
-        ensures failures { IfOk result (λ device. (device.inner.failures ≡ 0) × (device.refused ≡ 0)) }
+        ensures failures { IfOk result (λ device.
+            (device.inner.failures ≡ 0) × (device.refused ≡ 0)) }
         ensures works { IfOk result (λ device. device.stopped ≡ false) }
     {
         open_device(rt, alloc, path, sectors)

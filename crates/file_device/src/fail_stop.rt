@@ -71,7 +71,8 @@ impl<D: Device> Device for FailStop<D> {
 
     fn read(&mut self, at: u64, into: &mut Sector) -> Result<(), DeviceFault>
         requires { at < length (D.state self.old.inner).reads }
-        ensures call { AreCalls (fail_stop_state D.state self.old) (fail_stop_state D.state self.new) (IsErr result) }
+        ensures call { AreCalls (fail_stop_state D.state self.old)
+            (fail_stop_state D.state self.new) (IsErr result) }
         ensures same { (D.state self.old.inner).honest
             → IsLook (fail_stop_state D.state self.old) (fail_stop_state D.state self.new) }
         ensures bytes { (D.state self.old.inner).honest
@@ -89,11 +90,13 @@ impl<D: Device> Device for FailStop<D> {
 
     fn write(&mut self, at: u64, from: &Sector) -> Result<(), DeviceFault>
         requires { at < length (D.state self.old.inner).reads }
-        ensures call { AreCalls (fail_stop_state D.state self.old) (fail_stop_state D.state self.new) (IsErr result) }
+        ensures call { AreCalls (fail_stop_state D.state self.old)
+            (fail_stop_state D.state self.new) (IsErr result) }
         ensures torn { (D.state self.old.inner).honest
             → IsWrite at (fail_stop_state D.state self.old) (fail_stop_state D.state self.new) }
         ensures written { (D.state self.old.inner).honest
-            → OnOk result ((D.state self.new.inner).reads ≡ with_sector (D.state self.old.inner).reads at from.now) }
+            → OnOk result ((D.state self.new.inner).reads
+            ≡ with_sector (D.state self.old.inner).reads at from.now) }
         ensures fails { IsTrue self.old.stopped → IsErr result }
         ensures unreached { IsTrue self.old.stopped → self.new.inner ≡ self.old.inner }
         ensures passed_on { (IsTrue self.old.stopped → ⊥)
@@ -106,7 +109,8 @@ impl<D: Device> Device for FailStop<D> {
     }
 
     fn sync(&mut self) -> Result<(), DeviceFault>
-        ensures call { AreCalls (fail_stop_state D.state self.old) (fail_stop_state D.state self.new) (IsErr result) }
+        ensures call { AreCalls (fail_stop_state D.state self.old)
+            (fail_stop_state D.state self.new) (IsErr result) }
         ensures same { (D.state self.old.inner).honest
             → IsLook (fail_stop_state D.state self.old) (fail_stop_state D.state self.new) }
         ensures durable { (D.state self.old.inner).honest

@@ -14,8 +14,10 @@ pub trait ReadRun: Device {
     fn read_run(&mut self, at: u64, into: &mut [Sector]) -> Result<(), DeviceFault>
         requires { at + length into.old ≤ length (Self.state self.old).reads }
         ensures call { AreCalls (Self.state self.old) (Self.state self.new) ⊥ }
-        ensures same { (Self.state self.old).honest → IsLook (Self.state self.old) (Self.state self.new) }
-        ensures bytes { (Self.state self.old).honest → OnOk result (Shows into.new (length into.new) (Self.state self.old).reads at) };
+        ensures same { (Self.state self.old).honest
+            → IsLook (Self.state self.old) (Self.state self.new) }
+        ensures bytes { (Self.state self.old).honest
+            → OnOk result (Shows into.new (length into.new) (Self.state self.old).reads at) };
 }
 
 /// It reads them one by one, and none fails.
@@ -23,9 +25,11 @@ impl ReadRun for MemoryDevice {
     fn read_run(&mut self, at: u64, into: &mut [Sector]) -> Result<(), DeviceFault>
         requires { at + length into.old ≤ length (memory_device_state self.old).reads }
         ensures call { AreCalls (memory_device_state self.old) (memory_device_state self.new) ⊥ }
-        ensures same { (memory_device_state self.old).honest → IsLook (memory_device_state self.old) (memory_device_state self.new) }
+        ensures same { (memory_device_state self.old).honest
+            → IsLook (memory_device_state self.old) (memory_device_state self.new) }
         ensures bytes { (memory_device_state self.old).honest
-            → OnOk result (Shows into.new (length into.new) (memory_device_state self.old).reads at) }
+            → OnOk result (Shows into.new (length into.new)
+            (memory_device_state self.old).reads at) }
         ensures never_fails { IsOk result }
     {
         // That the places fit their type.

@@ -60,7 +60,8 @@ impl Line {
         ensures ok { IsOk result
             ↔ (((2 ≤ n) × (n ≤ 64)) × ((length x.now ≡ n) × (length up.now ≡ n))) }
         ensures bits { IfOk result
-            (λ line. line ≡ record { x = x.now; up = slice_set (slice_set up.now 0 true) (n - 1) false }) }
+            (λ line. line
+            ≡ record { x = x.now; up = slice_set (slice_set up.now 0 true) (n - 1) false }) }
         ensures line { IfOk result IsLine }
     {
         if n < 2 || 64 < n {
@@ -77,7 +78,10 @@ impl Line {
         requires as_long { length up.now ≡ length x.now }
         requires two { 2 ≤ length x.now }
         requires at_most { length x.now ≤ 64 }
-        ensures bits { result ≡ record { x = x.now; up = slice_set (slice_set up.now 0 true) (length x.now - 1) false } }
+        ensures bits { result ≡ record {
+          x = x.now;
+          up = slice_set (slice_set up.now 0 true) (length x.now - 1) false;
+        } }
         ensures line { IsLine result }
     {
         let n = x.len();
@@ -91,8 +95,10 @@ impl Line {
     /// The bits as two words: those of x, then those of up. Bit s is that of station s, and all
     /// other bits are zero.
     pub fn words(&self) -> &[u64; 2]
-        ensures x { (s : ℕ) → IsBitSet (slice_index_or result.now 0 0) s ↔ IsTrue (x_at self.now s) }
-        ensures up { (s : ℕ) → IsBitSet (slice_index_or result.now 1 0) s ↔ IsTrue (up_at self.now s) }
+        ensures x { (s : ℕ) → IsBitSet (slice_index_or result.now 0 0) s
+            ↔ IsTrue (x_at self.now s) }
+        ensures up { (s : ℕ) → IsBitSet (slice_index_or result.now 1 0) s
+            ↔ IsTrue (up_at self.now s) }
         ensures others { (word : ℕ) → Contains result.now word
             → (s : ℕ) → stations self.now ≤ s → ¬ IsBitSet word s }
     {

@@ -10,10 +10,12 @@ use gate_journal::one_reading;
 /// An image recovers to one state, and where it does no refusal holds of it; of the others one refusal holds. So `recover` answers `Ok` on an honest
 /// device exactly where what reads give recovers to a state, want of memory and device faults apart.
 pub fn one_recovery()
-    ensures state { (image : Image) (s t : State) → RecoversTo s image → RecoversTo t image → s ≡ t }
+    ensures state { (image : Image) (s t : State) → RecoversTo s image → RecoversTo t image
+        → s ≡ t }
     ensures refused { (image : Image) (s : State) (refusal : OpenRefusal)
         → RecoversTo s image → RecoveryRefuses image refusal → ⊥ }
-    ensures refusals { (image : Image) (a b : OpenRefusal) → RecoveryRefuses image a → RecoveryRefuses image b → a ≡ b }
+    ensures refusals { (image : Image) (a b : OpenRefusal) → RecoveryRefuses image a
+        → RecoveryRefuses image b → a ≡ b }
 {
     one_reading();
 }

@@ -79,6 +79,24 @@ fn takes_a_turn<L: Ledger + Opening, R: Abort + Wait + Print>(
     }
 }
 
+// Six turns, each with the seat whose turn it is, up to the first fault.
+fn takes_turns<L: Ledger + Opening, R: Abort + Wait + Print>(
+    rt: &R,
+    office: &Office<Noted, L>,
+    bottom: &mut Seat<L>,
+    top: &mut Seat<L>,
+) -> Came {
+    for _ in 0..3u64 {
+        if takes_a_turn(rt, office, bottom, 6) == Came::ToAFault {
+            return Came::ToAFault;
+        }
+        if takes_a_turn(rt, office, top, 6) == Came::ToAFault {
+            return Came::ToAFault;
+        }
+    }
+    Came::ToTheEnd
+}
+
 impl<'a, R: Abort + Wait + Print> OfficeWork<Noted> for TwoSeats<'a, R> {
     type Answer = Came;
 
@@ -95,18 +113,7 @@ impl<'a, R: Abort + Wait + Print> OfficeWork<Noted> for TwoSeats<'a, R> {
             panic!(rt; "two seats");
         };
         asks_in_vain(rt, office, bottom, top);
-        let mut came = Came::ToTheEnd;
-        for turn in 0..6u64 {
-            let seat = if turn % 2 == 0 {
-                &mut *bottom
-            } else {
-                &mut *top
-            };
-            came = takes_a_turn(rt, office, seat, 6);
-            if came == Came::ToAFault {
-                break;
-            }
-        }
+        let came = takes_turns(rt, office, bottom, top);
         Ok((seats, came))
     }
 }

@@ -8,22 +8,25 @@ use std::sync::Wait;
 use std::test::Fail;
 use std::thread::Threads;
 
+const WORDS: [&str; 5] = ["console", "--sectors", "23", "--device", "office.ledger"];
+
+// How many sectors the words ask for, where they ask for this file, or why they are refused.
+fn asked(alloc: Global) -> Result<u64, ErrorKind> {
+    match options(alloc, &WORDS) {
+        Ok(options) if options.device == Some("office.ledger") => Ok(options.sectors),
+        Ok(_) => Ok(0),
+        Err(error) => Err(error.kind()),
+    }
+}
+
 #[test]
-fn words_are_read(rt: HostRuntime) -> Result<(), Fail> {
-    let words = ["console", "--sectors", "23", "--device", "office.ledger"];
-    let options = match options(rt.alloc(), &words) {
-        Ok(options) => options,
-        Err(error) => {
-            told(&rt, "options");
-            assert_eq!(rt; error.kind(), ErrorKind::OutOfMemory);
-            options(rt.alloc(), &words).map_err(|_| "words that are right")?
-        }
-    };
-    assert_eq!(rt;
-        (options.sectors, options.device),
-        (23, Some("office.ledger"))
-    );
-    Ok(())
+fn words_are_read(rt: HostRuntime) {
+    let mut answer = asked(rt.alloc());
+    if answer == Err(ErrorKind::OutOfMemory) {
+        told(&rt, "options");
+        answer = asked(rt.alloc());
+    }
+    assert!(rt; answer == Ok(23));
 }
 
 const SCRIPT: &[u8] =

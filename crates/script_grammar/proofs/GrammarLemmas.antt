@@ -136,12 +136,21 @@ no_name text word name same plain other =
 
 -- ---- every line
 
-pub unnamed : (name : Word) (rest : List Word) → (slice_index name 0 == 35) ≡ false
-    → bytes_eq name (codes "format") ≡ false → bytes_eq name (codes "open") ≡ false → bytes_eq name (codes "post") ≡ false
-    → bytes_eq name (codes "turn") ≡ false → bytes_eq name (codes "bits") ≡ false → bytes_eq name (codes "balances") ≡ false
-    → bytes_eq name (codes "crash") ≡ false → bytes_eq name (codes "day") ≡ false → line_fault (name ∷ rest) ≡ Some UnknownCommand
+-- the word is the name of no command
+pub record NamesNoCommand (name : Word) : Type 0 where
+  pub not_format : bytes_eq name (codes "format") ≡ false
+  pub not_open : bytes_eq name (codes "open") ≡ false
+  pub not_post : bytes_eq name (codes "post") ≡ false
+  pub not_turn : bytes_eq name (codes "turn") ≡ false
+  pub not_bits : bytes_eq name (codes "bits") ≡ false
+  pub not_balances : bytes_eq name (codes "balances") ≡ false
+  pub not_crash : bytes_eq name (codes "crash") ≡ false
+  pub not_day : bytes_eq name (codes "day") ≡ false
+
+pub unnamed : (name : Word) (rest : List Word) → (slice_index name 0 == 35) ≡ false → NamesNoCommand name → line_fault (name ∷ rest) ≡ Some UnknownCommand
 unfolding line_fault first_wrong takes
-unnamed name rest no_comment f o p t b l c d = rw (no_comment, f, o, p, t, b, l, c, d) refl
+unnamed name rest no_comment names =
+    rw (no_comment, names.not_format, names.not_open, names.not_post, names.not_turn, names.not_bits, names.not_balances, names.not_crash, names.not_day) refl
 
 pub no_words : (words : List Word) → words ≡ [] → line_fault words ≡ None
 unfolding line_fault

@@ -44,7 +44,8 @@ pub fn read_command(line: &[u8], number: u64) -> Result<Option<Command>, LineFau
     ensures fault { IfErr result (λ fault. line_fault (words_of line.now) ≡ Some fault) }
     ensures sound { OnOk result (line_fault (words_of line.now) ≡ None) }
     ensures skipped { IfOk result (λ found. is_none found ≡ is_skipped (words_of line.now)) }
-    ensures command { IfOk result (λ found. IfSome found (λ command. Spells (words_of line.now) number command)) }
+    ensures command { IfOk result (λ found.
+        IfSome found (λ command. Spells (words_of line.now) number command)) }
 {
     let mut words = Words::of(line);
     let Some(name) = words.next() else {
@@ -88,7 +89,8 @@ fn read_named(name: &[u8], words: Words<'_>, line: u64) -> Result<Command, LineF
 
 // A word as text: the empty one, which is no name, where it isn't UTF-8.
 fn text_of(word: &[u8]) -> &str
-    ensures { (name : List ℕ) → IsUtf8 name → 0 < length name → bytes_eq result.now name ≡ bytes_eq word.now name }
+    ensures { (name : List ℕ) → IsUtf8 name → 0 < length name
+        → bytes_eq result.now name ≡ bytes_eq word.now name }
 {
     match std::str::from_utf8(word) {
         Ok(text) => text,
@@ -144,7 +146,8 @@ fn read_deposit(station: &[u8], words: Words<'_>, reference: u64) -> Result<Comm
 }
 
 fn read_withdraw(station: &[u8], words: Words<'_>, reference: u64) -> Result<Command, LineFault>
-    ensures { IsRead (codes "post" ∷ station.now ∷ codes "withdraw" ∷ words.entry) reference result }
+    ensures { IsRead
+        (codes "post" ∷ station.now ∷ codes "withdraw" ∷ words.entry) reference result }
 {
     let (station, from, amount) = with_one_account(station, words)?;
     Ok(Command::Post {
@@ -161,7 +164,8 @@ fn read_withdraw(station: &[u8], words: Words<'_>, reference: u64) -> Result<Com
 fn with_one_account(station: &[u8], words: Words<'_>) -> Result<(u64, u32, u64), LineFault>
     ensures fault { IfErr result (λ fault.
         told_of_one (Number ∷ Account ∷ Number ∷ []) (station.now ∷ words.entry) ≡ Some fault) }
-    ensures ok { IfOk result (λ three. Fills (station.now ∷ words.entry) (Number ∷ Account ∷ Number ∷ [])
+    ensures ok { IfOk result (λ three.
+        Fills (station.now ∷ words.entry) (Number ∷ Account ∷ Number ∷ [])
         (NumberIs three.0 ∷ NumberIs three.1 ∷ NumberIs three.2 ∷ [])) }
 {
     let (one, amount) = two_words(words)?;
@@ -169,7 +173,8 @@ fn with_one_account(station: &[u8], words: Words<'_>) -> Result<(u64, u32, u64),
 }
 
 fn read_transfer(station: &[u8], words: Words<'_>, reference: u64) -> Result<Command, LineFault>
-    ensures { IsRead (codes "post" ∷ station.now ∷ codes "transfer" ∷ words.entry) reference result }
+    ensures { IsRead
+        (codes "post" ∷ station.now ∷ codes "transfer" ∷ words.entry) reference result }
 {
     let (from, to, amount) = three_words(words)?;
     Ok(Command::Post {
@@ -266,7 +271,8 @@ fn end(mut words: Words<'_>) -> Result<(), LineFault>
 }
 
 fn number(word: &[u8]) -> Result<u64, LineFault>
-    ensures ok { IfOk result (λ number. (takes Number word.now ≡ true) × (number ≡ digits_value 10 word.now)) }
+    ensures ok { IfOk result (λ number.
+        (takes Number word.now ≡ true) × (number ≡ digits_value 10 word.now)) }
     ensures err { IfErr result (λ fault. (takes Number word.now ≡ false) × (fault ≡ BadNumber)) }
 {
     match read_number(word) {
@@ -276,7 +282,8 @@ fn number(word: &[u8]) -> Result<u64, LineFault>
 }
 
 fn above_zero(word: &[u8]) -> Result<NonZeroU64, LineFault>
-    ensures ok { IfOk result (λ slots. (takes Slots word.now ≡ true) × (non_zero_u64_get slots ≡ digits_value 10 word.now)) }
+    ensures ok { IfOk result (λ slots.
+        (takes Slots word.now ≡ true) × (non_zero_u64_get slots ≡ digits_value 10 word.now)) }
     ensures err { IfErr result (λ fault. (takes Slots word.now ≡ false) × (fault ≡ BadNumber)) }
 {
     match NonZeroU64::new(number(word)?) {
@@ -286,7 +293,8 @@ fn above_zero(word: &[u8]) -> Result<NonZeroU64, LineFault>
 }
 
 fn moves_of_a_day(word: &[u8]) -> Result<u64, LineFault>
-    ensures ok { IfOk result (λ moves. (takes Moves word.now ≡ true) × (moves ≡ digits_value 10 word.now)) }
+    ensures ok { IfOk result (λ moves.
+        (takes Moves word.now ≡ true) × (moves ≡ digits_value 10 word.now)) }
     ensures err { IfErr result (λ fault. (takes Moves word.now ≡ false) × (fault ≡ BadNumber)) }
 {
     let moves = number(word)?;
@@ -300,7 +308,8 @@ fn moves_of_a_day(word: &[u8]) -> Result<u64, LineFault>
 }
 
 fn account(word: &[u8]) -> Result<u32, LineFault>
-    ensures ok { IfOk result (λ account. (takes Account word.now ≡ true) × (account ≡ digits_value 10 word.now)) }
+    ensures ok { IfOk result (λ account.
+        (takes Account word.now ≡ true) × (account ≡ digits_value 10 word.now)) }
     ensures err { IfErr result (λ fault. (takes Account word.now ≡ false) × (fault ≡ BadNumber)) }
 {
     match u32::try_from(number(word)?) {
@@ -310,7 +319,8 @@ fn account(word: &[u8]) -> Result<u32, LineFault>
 }
 
 fn bits(word: &[u8]) -> Result<Bits, LineFault>
-    ensures ok { IfOk result (λ bits. (takes BitText word.now ≡ true) × (bits_of bits ≡ bits_written word.now)) }
+    ensures ok { IfOk result (λ bits.
+        (takes BitText word.now ≡ true) × (bits_of bits ≡ bits_written word.now)) }
     ensures err { IfErr result (λ fault. (takes BitText word.now ≡ false) × (fault ≡ BadBits)) }
 {
     match Bits::read(word) {

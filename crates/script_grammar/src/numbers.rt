@@ -6,7 +6,8 @@ ghost use Rattle.script_grammar.specs.Script.{bits_written, is_bit_text};
 /// The number that a word writes in decimal digits, if it is one and below 2^64. Any count of leading zeros is a
 /// number, and no sign is.
 pub fn read_number(word: &[u8]) -> Option<u64>
-    ensures { SomeIff result (IsNumeral 10 word.now × (digits_value 10 word.now < 2 ^ 64)) (digits_value 10 word.now) }
+    ensures { SomeIff result (IsNumeral 10 word.now
+        × (digits_value 10 word.now < 2 ^ 64)) (digits_value 10 word.now) }
 {
     if word.first() == Some(&b'+') {
         return None;
@@ -59,7 +60,8 @@ impl Bits {
 }
 
 fn has_bits_alone(word: &[u8]) -> bool
-    ensures { IsTrue result ↔ ((0 < length word.now) × All (λ byte. (byte ≡ 48) ⊎ (byte ≡ 49)) word.now) }
+    ensures { IsTrue result
+        ↔ ((0 < length word.now) × All (λ byte. (byte ≡ 48) ⊎ (byte ≡ 49)) word.now) }
 {
     !word.is_empty() && word.iter().all(|byte| *byte == b'0' || *byte == b'1')
 }

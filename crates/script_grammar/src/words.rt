@@ -110,7 +110,8 @@ impl<'a> Iterator for Words<'a> {
 // What stands before the first such byte, and what behind it.
 fn split_at_byte(bytes: &[u8], at: u8) -> Option<(&[u8], &[u8])>
     ensures none { IsNone result → All (λ byte. (byte == at) ≡ false) bytes.now }
-    ensures some { IfSome result (λ parts. (bytes.now ≡ parts.0.now ++ at ∷ parts.1.now) × All (λ byte. (byte == at) ≡ false) parts.0.now) }
+    ensures some { IfSome result (λ parts. (bytes.now ≡ parts.0.now ++ at ∷ parts.1.now)
+        × All (λ byte. (byte == at) ≡ false) parts.0.now) }
 {
     let place = bytes.iter().position(|byte| *byte == at)?;
     Some((&bytes[..place], &bytes[place + 1..]))
@@ -118,7 +119,8 @@ fn split_at_byte(bytes: &[u8], at: u8) -> Option<(&[u8], &[u8])>
 
 // All that is left, unless it is empty.
 fn last_piece<'a>(rest: &mut &'a [u8]) -> Option<&'a [u8]>
-    ensures piece { MatchOption result (rest.old.now ≡ []) (λ piece. (piece.now ≡ rest.old.now) × (0 < length piece.now)) }
+    ensures piece { MatchOption result (rest.old.now ≡ []) (λ piece.
+        (piece.now ≡ rest.old.now) × (0 < length piece.now)) }
     ensures emptied { rest.new.now ≡ [] }
 {
     let last = *rest;

@@ -10,4 +10,4 @@ mod reading;
 
 pub use faults::StreamFault;
 pub use output::{Output, WriteFault, write_all};
-pub use reading::{SCRIPT_LIMIT, read_script};
+pub use reading::{SCRIPT_LIMIT, limit_in_numbers, read_script};

@@ -1,6 +1,7 @@
 //! Output that is gathered, and handed to a writer in large pieces.
 ghost use Rattle.std.specs.Prelude.{◌≡◌, ℕ, ◌<◌, ◌≤◌, [], ◌∷◌, ◌++◌, take, length, Some, IfOk, IfSome, OnOk, OnErr};
 ghost use Rattle.std.specs.Io.KnownBytes.{Appends, Keeps};
+ghost use Rattle.script_streams.specs.Output.{AppendsPart};
 
 use crate::faults::StreamFault;
 use std::alloc::{AllocError, Global};
@@ -34,7 +35,8 @@ impl From<WriteFault> for StreamFault {
 pub fn write_all<W: Write>(writer: &mut W, bytes: &[u8]) -> Result<(), WriteFault>
     ensures ok { OnOk result (Appends (W.contents writer.old) (W.contents writer.new) bytes.now) }
     // after a fault it has the first of them, and not all
-    ensures err { OnErr result ((n : ℕ) × (n < length bytes.now) × Appends (W.contents writer.old) (W.contents writer.new) (take n bytes.now)) }
+    ensures err { OnErr result
+        (AppendsPart (W.contents writer.old) (W.contents writer.new) bytes.now) }
 {
     let mut rest = bytes;
     while !rest.is_empty() {
@@ -49,7 +51,8 @@ pub fn write_all<W: Write>(writer: &mut W, bytes: &[u8]) -> Result<(), WriteFaul
 fn write_some<W: Write>(writer: &mut W, bytes: &[u8]) -> Result<usize, WriteFault>
     ensures some { IfOk result (λ count. 0 < count) }
     ensures within { IfOk result (λ count. count ≤ length bytes.now) }
-    ensures taken { IfOk result (λ count. Appends (W.contents writer.old) (W.contents writer.new) (take count bytes.now)) }
+    ensures taken { IfOk result (λ count.
+        Appends (W.contents writer.old) (W.contents writer.new) (take count bytes.now)) }
     ensures err { OnErr result (Keeps (W.contents writer.old) (W.contents writer.new)) }
 {
     for _ in 0..TRIES {
@@ -77,7 +80,8 @@ impl<'a, W: Write> Output<'a, W> {
 
     /// An output that was given nothing yet.
     pub fn new(alloc: Global, writer: &'a mut W) -> Result<Output<'a, W>, AllocError>
-        ensures { IfOk result (λ output. Keeps (W.contents writer.entry.now) (given_to W.contents output)) }
+        ensures { IfOk result (λ output.
+            Keeps (W.contents writer.entry.now) (given_to W.contents output)) }
     {
         Ok(Output {
             writer,
@@ -88,7 +92,8 @@ impl<'a, W: Write> Output<'a, W> {
     /// Adds a line.
     pub fn line<L: fmt::Display + Drop>(&mut self, line: L) -> Result<(), StreamFault>
         ensures { OnOk result (IfSome (L.output line) (λ bytes.
-            Appends (given_to W.contents self.old) (given_to W.contents self.new) (bytes ++ 10 ∷ []))) }
+            Appends (given_to W.contents self.old) (given_to W.contents self.new)
+            (bytes ++ 10 ∷ []))) }
     {
         writeln!(self.text, "{line}")?;
         if self.text.len() >= FULL {
@@ -99,11 +104,14 @@ impl<'a, W: Write> Output<'a, W> {
 
     /// Hands all lines so far to the writer. After a fault the output is at its end.
     pub fn flush(&mut self) -> Result<(), StreamFault>
-        ensures given { OnOk result (Keeps (given_to W.contents self.old) (given_to W.contents self.new)) }
-        ensures handed { OnOk result (Keeps (given_to W.contents self.old) (W.contents self.new.writer.now)) }
+        ensures given { OnOk result (Keeps (given_to W.contents self.old)
+            (given_to W.contents self.new)) }
+        ensures handed { OnOk result (Keeps (given_to W.contents self.old)
+            (W.contents self.new.writer.now)) }
         // after a fault it has a first part of it, and not all
         ensures err { OnErr result (IfSome (given_to W.contents self.old)
-            (λ all. (n : ℕ) × (n < length all) × (W.contents self.new.writer.now ≡ Some (take n all)))) }
+            (λ all. (n : ℕ) × (n < length all)
+            × (W.contents self.new.writer.now ≡ Some (take n all)))) }
     {
         write_all(self.writer, self.text.as_bytes())?;
         self.text.clear();

@@ -11,6 +11,11 @@ use std::io::Read;
 /// The most bytes of a script.
 pub const SCRIPT_LIMIT: usize = 16_777_216;
 
+/// A script's limit in numbers, as a statement; the body does nothing.
+pub fn limit_in_numbers()
+    ensures { SCRIPT_LIMIT ≡ 16777216 }
+{}
+
 /// The most calls of the reader.
 const CALLS: u32 = 33_554_432;
 
@@ -20,22 +25,26 @@ const CHUNK: usize = 65_536;
 /// All bytes of a script. A call that is interrupted is made again. `Read` is answered where a call fails otherwise, or
 /// where the script hasn't ended after 33,554,432 calls.
 pub fn read_script<R: Read>(alloc: Global, reader: &mut R) -> Result<Vec<u8>, StreamFault>
-    ensures limit { IfOk result (λ script. vec_len script ≤ 16777216) }
+    ensures limit { IfOk result (λ script. vec_len script ≤ SCRIPT_LIMIT) }
     // all bytes that the reader had, where they are known, and it has none left
-    ensures whole { IfOk result (λ script. IfSome (R.remaining reader.old) (λ bytes. script.items ≡ bytes)) }
+    ensures whole { IfOk result (λ script.
+        IfSome (R.remaining reader.old) (λ bytes. script.items ≡ bytes)) }
     ensures end { OnOk result (IsAtEnd (R.remaining reader.new)) }
-    ensures too_long { IfErr result (λ fault. fault ≡ TooLong → IfSome (R.remaining reader.old) (λ bytes. 16777216 < length bytes)) }
+    ensures too_long { IfErr result (λ fault.
+        fault ≡ TooLong → IfSome (R.remaining reader.old) (λ bytes. SCRIPT_LIMIT < length bytes)) }
 {
     read_within(alloc, reader, CALLS)
 }
 
 // All bytes of a script, in no more than so many calls of the reader.
 fn read_within<R: Read>(alloc: Global, reader: &mut R, calls: u32) -> Result<Vec<u8>, StreamFault>
-    ensures limit { IfOk result (λ script. vec_len script ≤ 16777216) }
+    ensures limit { IfOk result (λ script. vec_len script ≤ SCRIPT_LIMIT) }
     // all bytes that the reader had, where they are known, and it has none left
-    ensures whole { IfOk result (λ script. IfSome (R.remaining reader.old) (λ bytes. script.items ≡ bytes)) }
+    ensures whole { IfOk result (λ script.
+        IfSome (R.remaining reader.old) (λ bytes. script.items ≡ bytes)) }
     ensures end { OnOk result (IsAtEnd (R.remaining reader.new)) }
-    ensures too_long { IfErr result (λ fault. fault ≡ TooLong → IfSome (R.remaining reader.old) (λ bytes. 16777216 < length bytes)) }
+    ensures too_long { IfErr result (λ fault.
+        fault ≡ TooLong → IfSome (R.remaining reader.old) (λ bytes. SCRIPT_LIMIT < length bytes)) }
 {
     let mut script = Vec::new(alloc);
     let mut buffer = vec![in alloc; 0; CHUNK]?;
@@ -55,14 +64,14 @@ fn read_piece<R: Read>(
     script: &mut Vec<u8>,
 ) -> Result<bool, StreamFault>
     requires room { 0 < length chunk.old }
-    requires limit { vec_len script.old ≤ 16777216 }
-    ensures within { OnOk result (vec_len script.new ≤ 16777216) }
+    requires limit { vec_len script.old ≤ SCRIPT_LIMIT }
+    ensures within { OnOk result (vec_len script.new ≤ SCRIPT_LIMIT) }
     ensures added { OnOk result ((bytes : List ℕ)
         × Consumes (R.remaining reader.old) (R.remaining reader.new) bytes
         × (script.new.items ≡ script.old.items ++ bytes)) }
     ensures end { IfOk result (λ ended. ended ≡ true → IsAtEnd (R.remaining reader.new)) }
     ensures too_long { IfErr result (λ fault. fault ≡ TooLong
-        → IfSome (R.remaining reader.old) (λ bytes. 16777216 < vec_len script.old + length bytes)) }
+        → IfSome (R.remaining reader.old) (λ bytes. SCRIPT_LIMIT < vec_len script.old + length bytes)) }
 {
     let count = match reader.read(chunk) {
         Ok(0) => return Ok(true),

@@ -5,7 +5,7 @@ use Rattle.std.proofs.lemmas.Bool.{cases_eq}
 use Rattle.sector_device.specs.Image.{Image, IsImage, IsSector, sector_at, with_sector, DiffersAt}
 use Rattle.sector_device.specs.Crash.{IsLook, IsWrite}
 use Rattle.sector_device.specs.Memory.{MayLeave, LeftSince, IsPending}
-use Rattle.sector_device.specs.MemoryDevice.{memory_device_state, memory_state, calls_of}
+use Rattle.sector_device.specs.MemoryDevice.{memory_device_state, calls_of}
 use Rattle.sector_device.specs.declared.memory.Call.{Call}
 use Rattle.sector_device.specs.declared.memory.Call.TheVariants.{Wrote}
 use Rattle.sector_device.specs.declared.memory.MemoryDevice.{MemoryDevice}
@@ -59,15 +59,15 @@ module _ (reads : Image) (calls : List Call) (at : ℕ) (from : List ℕ) (lt : 
   kept_write since image le was = inr (le, subst (λ (sectors : Image). LeftSince sectors calls since image) (sym (restored from)) was)
 
 -- a write that answered Ok
-pub write_torn : (old : MemoryDevice) (reads : Image) (calls : List Call) (moment faults : ℕ) (at : ℕ) (from : List ℕ) → IsSector from → at < length old.sectors.items
-    → (before : Snapshot (List ℕ)) → before.value ≡ sector_at old.sectors.items at
-    → reads ≡ with_sector old.sectors.items at from → calls ≡ Wrote at before ∷ calls_of old → moment ≡ length calls
-    → IsWrite at (memory_device_state old) (memory_state reads calls moment faults)
-write_torn old reads calls moment faults at from sector lt before kept reads_are calls_are counts =
+pub write_torn : (old new : MemoryDevice) (at : ℕ) (from : List ℕ) (before : Snapshot (List ℕ)) → IsSector from → at < length old.sectors.items → before.value ≡ sector_at old.sectors.items at
+    → new.sectors.items ≡ with_sector old.sectors.items at from → calls_of new ≡ Wrote at before ∷ calls_of old → IsWrite at (memory_device_state old) (memory_device_state new)
+write_torn old new at from before sector lt kept reads_are calls_are =
     let was = old.sectors.items in
+    let reads = new.sectors.items in
+    let calls = calls_of new in
     let made : List Call = Wrote at before ∷ calls_of old in
     let old_moment : length old.calls.items ≡ length (calls_of old) = sym (length-reverse old.calls.items) in
-    let new_moment : moment ≡ length (calls_of old) + 1 = counts ∙ ap length calls_are ∙ omega arith in
+    let new_moment : length new.calls.items ≡ length (calls_of old) + 1 = sym (length-reverse new.calls.items) ∙ ap length calls_are ∙ omega arith in
     let same : (since : ℕ) (image : Image) → LeftSince reads calls since image ≡ LeftSince (with_sector was at from) made since image = λ since image i. LeftSince (reads_are i) (calls_are i) since image in
     let same_now : (image : Image) → MayLeave reads calls image ≡ MayLeave (with_sector was at from) made image = λ image i. MayLeave (reads_are i) (calls_are i) image in
     record {

@@ -75,6 +75,10 @@ pub record OnlyLooks (old new : DeviceState) : Type 0 where
   pub nothing_more : (image : Image) → new.may_leave image → old.may_leave image
   pub crash : LeavesOnly old new old.may_leave
 
+-- what an honest device went through is such a run
+abbrev pub LooksOnly : DeviceState → DeviceState → Type 0
+LooksOnly old new = old.honest → OnlyLooks old new
+
 pub looked_nowhere : (state : DeviceState) → IsSound state → OnlyLooks state state
 looked_nowhere state sound = record {
   reads = refl;

@@ -1,8 +1,9 @@
 -- A device in memory at one moment.
-use Rattle.std.specs.Prelude.{ℕ, List, length, reverse}
+use Rattle.std.specs.Prelude.{◌↔◌, ℕ, List, length, reverse}
 use Rattle.sector_device.specs.Image.{Image}
 use Rattle.sector_device.specs.Device.{DeviceState}
 use Rattle.sector_device.specs.Memory.{MayLeave, LeftSince, IsPending}
+use Rattle.sector_device.specs.Picks.{TakesPicks}
 use Rattle.sector_device.specs.declared.memory.Call.{Call}
 use Rattle.sector_device.specs.declared.memory.MemoryDevice.{MemoryDevice}
 
@@ -27,3 +28,11 @@ memory_device_state device = memory_state device.sectors.items (calls_of device)
 -- A write to the sector answered Ok since the last sync that answered Ok.
 abbrev pub IsPendingIn : MemoryDevice → ℕ → Type 0
 IsPendingIn device at = IsPending (calls_of device) at
+
+-- the same sectors are pending
+abbrev pub KeepsPending : MemoryDevice → MemoryDevice → Type 0
+KeepsPending old new = (sector : ℕ) → IsPendingIn new sector ↔ IsPendingIn old sector
+
+-- after a power loss with these picks reads give this image
+abbrev pub HasPicks : MemoryDevice → List (ℕ × List ℕ) → Image → Type 0
+HasPicks device picks image = TakesPicks (memory_device_state device).reads picks (IsPendingIn device) image

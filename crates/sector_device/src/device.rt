@@ -48,7 +48,8 @@ pub trait Device {
         ensures call { AreCalls (state self.old) (state self.new) (IsErr result) }
         ensures torn { (state self.old).honest → IsWrite at (state self.old) (state self.new) }
         ensures written { (state self.old).honest
-            → OnOk result ((state self.new).reads ≡ with_sector (state self.old).reads at from.now) };
+            → OnOk result ((state self.new).reads
+            ≡ with_sector (state self.old).reads at from.now) };
 
     /// Makes all that was written durable. After a fault what was pending still is.
     fn sync(&mut self) -> Result<(), DeviceFault>

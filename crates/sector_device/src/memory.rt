@@ -2,19 +2,18 @@ ghost use Rattle.std.specs.Prelude.{◌≡◌, ◌⊎◌, ◌<◌, ◌≤◌, �
 ghost use Rattle.sector_device.specs.Image.{IsImage, sector_at, with_sector};
 ghost use Rattle.sector_device.specs.Device.{HasCause, AreCalls};
 ghost use Rattle.sector_device.specs.Crash.{IsLook, IsWrite, IsDurable};
-ghost use Rattle.sector_device.specs.Picks.{TakesPicks};
 ghost use Rattle.sector_device.specs.Memory.{IsPending};
 
 use crate::{Device, DeviceFault, SECTOR, Sector};
 use std::alloc::{AllocError, Global};
 use std::fmt;
-use std::snapshot::Snapshot;
+use std::snapshot::Snapshot as Ghost;
 
 /// An entry of the record that a memory device keeps of its calls.
 #[derive(Drop)]
 enum Call {
     /// A write to sector `at`, and the bytes that stood there before, which contracts alone see.
-    Wrote { at: u64, before: Snapshot<Sector> },
+    Wrote { at: u64, before: Ghost<Sector> },
     Synced,
 }
 
@@ -49,11 +48,12 @@ pub struct MemoryDevice {
 }
 
 impl MemoryDevice {
-    ghost use Rattle.sector_device.specs.MemoryDevice.{memory_device_state, calls_of, IsPendingIn};
+    ghost use Rattle.sector_device.specs.MemoryDevice.{memory_device_state, calls_of, IsPendingIn, HasPicks};
 
     /// A device of so many sectors, all zero, with nothing pending.
     pub fn new(alloc: Global, sectors: u64) -> Result<MemoryDevice, AllocError>
-        ensures zero { IfOk result (λ device. (memory_device_state device).reads ≡ replicate sectors (replicate 512 0)) }
+        ensures zero { IfOk result (λ device.
+            (memory_device_state device).reads ≡ replicate sectors (replicate 512 0)) }
         ensures durable { IfOk result (λ device. IsDurable (memory_device_state device)) }
         ensures settled { IfOk result (λ device. (at : ℕ) → IsPendingIn device at → ⊥) }
         ensures no_failure { IfOk result (λ device. (memory_device_state device).faults ≡ 0) }
@@ -92,7 +92,7 @@ impl MemoryDevice {
     /// Loses power. A pending sector takes the bytes of its last pick, or without one keeps what reads give. Afterwards
     /// nothing is pending.
     pub fn crash(mut self, picks: &Picks) -> MemoryDevice
-        ensures picked { TakesPicks (memory_device_state self).reads picks.now.list.items (IsPendingIn self) (memory_device_state result).reads }
+        ensures picked { HasPicks self picks.now.list.items (memory_device_state result).reads }
         ensures lawful { (memory_device_state self).may_leave (memory_device_state result).reads }
         ensures durable { IsDurable (memory_device_state result) }
         ensures settled { (at : ℕ) → IsPendingIn result at → ⊥ }
@@ -107,8 +107,7 @@ impl MemoryDevice {
 
     // Puts the bytes of the pick where its sector is pending.
     fn take_pick(&mut self, pick: &(u64, Sector))
-        ensures picked { TakesPicks (memory_device_state self.old).reads (pick.now ∷ [])
-            (IsPendingIn self.old) (memory_device_state self.new).reads }
+        ensures picked { HasPicks self.old (pick.now ∷ []) (memory_device_state self.new).reads }
         ensures calls { calls_of self.new ≡ calls_of self.old }
         ensures faults { self.new.faults ≡ self.old.faults }
     {
@@ -120,7 +119,8 @@ impl MemoryDevice {
 
     fn put(&mut self, at: usize, bytes: &Sector)
         requires { at < length (memory_device_state self.old).reads }
-        ensures put { (memory_device_state self.new).reads ≡ with_sector (memory_device_state self.old).reads at bytes.now }
+        ensures put { (memory_device_state self.new).reads
+            ≡ with_sector (memory_device_state self.old).reads at bytes.now }
         ensures calls { calls_of self.new ≡ calls_of self.old }
         ensures faults { self.new.faults ≡ self.old.faults }
     {
@@ -129,7 +129,7 @@ impl MemoryDevice {
 }
 
 impl Device for MemoryDevice {
-    ghost use Rattle.sector_device.specs.MemoryDevice.{memory_device_state, IsPendingIn};
+    ghost use Rattle.sector_device.specs.MemoryDevice.{memory_device_state, IsPendingIn, KeepsPending};
     ghost use Rattle.sector_device.specs.MemoryLaws.{memory_sound};
 
     ghost state = { memory_device_state };
@@ -140,12 +140,14 @@ impl Device for MemoryDevice {
 
     fn read(&mut self, at: u64, into: &mut Sector) -> Result<(), DeviceFault>
         requires { at < length (memory_device_state self.old).reads }
-        ensures call { AreCalls (memory_device_state self.old) (memory_device_state self.new) (IsErr result) }
-        ensures same { (memory_device_state self.old).honest → IsLook (memory_device_state self.old) (memory_device_state self.new) }
+        ensures call { AreCalls (memory_device_state self.old) (memory_device_state self.new)
+            (IsErr result) }
+        ensures same { (memory_device_state self.old).honest
+            → IsLook (memory_device_state self.old) (memory_device_state self.new) }
         ensures bytes { (memory_device_state self.old).honest
             → OnOk result (into.new ≡ sector_at (memory_device_state self.old).reads at) }
         ensures never_fails { IsOk result }
-        ensures pending { (sector : ℕ) → IsPendingIn self.new sector ↔ IsPendingIn self.old sector }
+        ensures pending { KeepsPending self.old self.new }
     {
         *into = self.sectors[at as usize];
         Ok(())
@@ -153,27 +155,34 @@ impl Device for MemoryDevice {
 
     fn write(&mut self, at: u64, from: &Sector) -> Result<(), DeviceFault>
         requires { at < length (memory_device_state self.old).reads }
-        ensures call { AreCalls (memory_device_state self.old) (memory_device_state self.new) (IsErr result) }
-        ensures torn { (memory_device_state self.old).honest → IsWrite at (memory_device_state self.old) (memory_device_state self.new) }
+        ensures call { AreCalls (memory_device_state self.old) (memory_device_state self.new)
+            (IsErr result) }
+        ensures torn { (memory_device_state self.old).honest
+            → IsWrite at (memory_device_state self.old) (memory_device_state self.new) }
         ensures written { (memory_device_state self.old).honest
-            → OnOk result ((memory_device_state self.new).reads ≡ with_sector (memory_device_state self.old).reads at from.now) }
+            → OnOk result ((memory_device_state self.new).reads
+            ≡ with_sector (memory_device_state self.old).reads at from.now) }
         ensures pending { OnOk result ((sector : ℕ) → IsPendingIn self.new sector
             ↔ ((at ≡ sector) ⊎ IsPendingIn self.old sector)) }
-        ensures unwritten { OnErr result ((memory_device_state self.new).reads ≡ (memory_device_state self.old).reads) }
-        ensures not_pending { OnErr result ((sector : ℕ) → IsPendingIn self.new sector ↔ IsPendingIn self.old sector) }
+        ensures unwritten { OnErr result ((memory_device_state self.new).reads
+            ≡ (memory_device_state self.old).reads) }
+        ensures not_pending { OnErr result (KeepsPending self.old self.new) }
     {
-        let before = Snapshot::of(&self.sectors[at as usize]);
+        let before = Ghost::of(&self.sectors[at as usize]);
         self.record(Call::Wrote { at, before })?;
         self.put(at as usize, from);
         Ok(())
     }
 
     fn sync(&mut self) -> Result<(), DeviceFault>
-        ensures call { AreCalls (memory_device_state self.old) (memory_device_state self.new) (IsErr result) }
-        ensures same { (memory_device_state self.old).honest → IsLook (memory_device_state self.old) (memory_device_state self.new) }
-        ensures durable { (memory_device_state self.old).honest → OnOk result (IsDurable (memory_device_state self.new)) }
+        ensures call { AreCalls (memory_device_state self.old) (memory_device_state self.new)
+            (IsErr result) }
+        ensures same { (memory_device_state self.old).honest
+            → IsLook (memory_device_state self.old) (memory_device_state self.new) }
+        ensures durable { (memory_device_state self.old).honest
+            → OnOk result (IsDurable (memory_device_state self.new)) }
         ensures settled { OnOk result ((sector : ℕ) → IsPendingIn self.new sector → ⊥) }
-        ensures still_pending { OnErr result ((sector : ℕ) → IsPendingIn self.new sector ↔ IsPendingIn self.old sector) }
+        ensures still_pending { OnErr result (KeepsPending self.old self.new) }
     {
         self.record(Call::Synced)?;
         Ok(())

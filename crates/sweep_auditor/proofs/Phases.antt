@@ -72,10 +72,21 @@ raise_steps n s front back m k leaves_fall e long one =
 raise_steps n s front back m k leaves_none e long one =
     let parts = mark_count-append front (Rising ∷ Rising ∷ back) in absurd (omega arith)
 
-lower_steps : (n s : ℕ) (front back : List Mark) (m k : Mark) → Under m k → s ≡ length front + 1 → length front + 2 + length back ≡ n → mark_count (front ++ m ∷ Falling ∷ back) ≡ 1 → mark_count (front ++ k ∷ Still ∷ back) ≡ 1 → PhaseStep n s (place 0 (front ++ m ∷ Falling ∷ back)) (place 0 (front ++ k ∷ Still ∷ back))
-lower_steps n s front back m k under_rise e long one still =
+-- station s stands between two of n marks, which it makes others, and there is one before and after
+record Lowers (n s : ℕ) (front back : List Mark) (m k : Mark) : Type 0 where
+  station : s ≡ length front + 1
+  long : length front + 2 + length back ≡ n
+  before : mark_count (front ++ m ∷ Falling ∷ back) ≡ 1
+  later : mark_count (front ++ k ∷ Still ∷ back) ≡ 1
+
+lower_steps : (n s : ℕ) (front back : List Mark) (m k : Mark) → Under m k → Lowers n s front back m k → PhaseStep n s (place 0 (front ++ m ∷ Falling ∷ back)) (place 0 (front ++ k ∷ Still ∷ back))
+lower_steps n s front back m k under_rise lowers =
+    let one = lowers.before in
     let parts = mark_count-append front (Rising ∷ Falling ∷ back) in absurd (omega arith)
-lower_steps n s front back m k falls_on e long one still =
+lower_steps n s front back m k falls_on lowers =
+    let e = lowers.station in
+    let long = lowers.long in
+    let one = lowers.before in
     let f = length front in
     let q = length back in
     let parts = mark_count-append front (Still ∷ Falling ∷ back) in
@@ -83,7 +94,9 @@ lower_steps n s front back m k falls_on e long one still =
     let now = place-append front (Falling ∷ Still ∷ back) 0 f (omega arith) (omega arith) in
     PhaseStep-at n s _ _ (f + 1 + q + q + 1) (f + suc q + suc q + 1) was now
     (onward (omega arith) (omega arith) (going_down n (f + 1 + q + q + 1 + 1) s (omega arith) (omega arith)) (omega arith))
-lower_steps n s front back m k vanishes e long one still =
+lower_steps n s front back m k vanishes lowers =
+    let one = lowers.before in
+    let still = lowers.later in
     let parts = mark_count-append front (Still ∷ Falling ∷ back) in
     let left = mark_count-append front (Still ∷ Still ∷ back) in
     absurd (omega arith)
@@ -116,7 +129,7 @@ Step-phases n s before later (lower front back m k under e b l) long one still =
     let one_now = rw b at one in
     let still_now = rw l at still in
     let parts = length-append front (m ∷ Falling ∷ back) in
-    PhaseStep-at n s _ _ _ _ (ap (place 0) b) (ap (place 0) l) (lower_steps n s front back m k under e (omega arith) one_now still_now)
+    PhaseStep-at n s _ _ _ _ (ap (place 0) b) (ap (place 0) l) (lower_steps n s front back m k under (record { station = e; long = omega arith; before = one_now; later = still_now }))
 Step-phases n s before later (top front k turn e b l) long one still =
     let long_now = rw b at long in
     let one_now = rw b at one in

@@ -283,7 +283,7 @@ crowded_more c m moves number here rest zero l = here
 crowded_more c m moves number here rest (suc k) l = rest k (omega arith)
 
 pub lasts_more : (row later : List Cell) (s : ℕ) (rule : Rule) (number : ℕ) → 2 ≤ count row → ((c : Configuration) → IsConfiguration c → cells_of c ≡ row → Allows c s rule later) → Lasts later number → Lasts row (number + 1)
-lasts_more row later s rule number two allows lasts c h e =
+lasts_more row later s rule number two allows lasts = λ c h e.
     let a = allows c h e in
     let m : Move = record { station = s; rule = rule } in
     let rest = lasts (moved c s rule) (IsConfiguration-moved c s rule h a.privilege) a.row in

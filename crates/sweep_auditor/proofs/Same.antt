@@ -103,13 +103,22 @@ up_is c n i h e one l =
           ]
     ]
 
-up_same : (c d : Configuration) (n i : ℕ) → IsConfiguration c → IsConfiguration d → stations c ≡ n + 1 → stations d ≡ n + 1 → marks_from c 0 n ≡ marks_from d 0 n → mark_count (marks_from c 0 n) ≡ 1 → i ≤ n → up_at c i ≡ up_at d i
-up_same c d n i h k ec ed same one l =
+-- two lines of n + 1 stations have the same one mark
+record HaveOneMark (c d : Configuration) (n : ℕ) : Type 0 where
+  first : IsConfiguration c
+  second : IsConfiguration d
+  first_long : stations c ≡ n + 1
+  second_long : stations d ≡ n + 1
+  same : marks_from c 0 n ≡ marks_from d 0 n
+  one : mark_count (marks_from c 0 n) ≡ 1
+
+up_same : (c d : Configuration) (n i : ℕ) → HaveOneMark c d n → i ≤ n → up_at c i ≡ up_at d i
+up_same c d n i have l =
     let front : marks_from c 0 i ≡ marks_from d 0 i =
-    sym (take-map-range_with_len (mark_at c) 0 n i l) ∙ ap (take i) same ∙ take-map-range_with_len (mark_at d) 0 n i l in
+    sym (take-map-range_with_len (mark_at c) 0 n i l) ∙ ap (take i) have.same ∙ take-map-range_with_len (mark_at d) 0 n i l in
     let count = ap mark_count front in
-    let of_c = up_is c n i h ec one l in
-    let of_d = up_is d n i k ed (ap mark_count (sym same) ∙ one) l in
+    let of_c = up_is c n i have.first have.first_long have.one l in
+    let of_d = up_is d n i have.second have.second_long (ap mark_count (sym have.same) ∙ have.one) l in
     elim of_c [
       | inl a ↦ elim of_d [ inl b ↦ a.1 ∙ sym b.1 | inr b ↦ absurd (omega (arith, a.0, b.0)) ]
       | inr a ↦ elim of_d [ inl b ↦ absurd (omega (arith, a.0, b.0)) | inr b ↦ a.1 ∙ sym b.1 ]
@@ -143,6 +152,6 @@ same_configuration n c d h k ec ed one_c one_d phase =
     let long_up_d = k.as_long in
     let xs : c.x ≡ d.x = ext_get_or false c.x d.x (ec ∙ sym ed) (λ i l. x_same c d n i each parts.0 (omega arith)) in
     let ups : c.up ≡ d.up =
-    ext_get_or false c.up d.up (omega arith) (λ i l. up_same c d n i h k ec ed marks_n one (omega arith)) in
+    ext_get_or false c.up d.up (omega arith) (λ i l. up_same c d n i (record { first = h; second = k; first_long = ec; second_long = ed; same = marks_n; one = one }) (omega arith)) in
     let along_x : c ≡ record { x = d.x; up = c.up } = ap (λ (l : List Bool). record { x = l; up = c.up }) xs in
     along_x ∙ ap (λ (l : List Bool). record { x = d.x; up = l }) ups

@@ -138,8 +138,19 @@ IsRun-drop (suc i) [] c run = tt
 IsRun-drop (suc i) (m ∷ moves) c run = IsRun-drop i moves (next c m) run.1
 
 -- two configurations of a run from a legitimate one
-comes_round : (moves : List Move) (c : Configuration) (n a b : ℕ) → IsConfiguration c → stations c ≡ n + 1 → IsRun c moves → IsLegitimate c → a ≤ b → b ≤ length moves → (configuration_at c moves a ≡ configuration_at c moves b) ↔ ((b - a) % (4 * n) ≡ 0)
-comes_round moves c n a b h e run one order within =
+-- a run of a line of n + 1 stations that is legitimate
+record RunsLegitimate (moves : List Move) (c : Configuration) (n : ℕ) : Type 0 where
+  is : IsConfiguration c
+  long : stations c ≡ n + 1
+  run : IsRun c moves
+  one : IsLegitimate c
+
+comes_round : (moves : List Move) (c : Configuration) (n a b : ℕ) → RunsLegitimate moves c n → a ≤ b → b ≤ length moves → (configuration_at c moves a ≡ configuration_at c moves b) ↔ ((b - a) % (4 * n) ≡ 0)
+comes_round moves c n a b runs order within =
+    let h = runs.is in
+    let e = runs.long in
+    let run = runs.run in
+    let one = runs.one in
     let first = configuration_at c moves a in
     let last = configuration_at c moves b in
     let first_is = IsConfiguration-after (take a moves) c h (IsRun-take a moves c run) in
@@ -183,6 +194,6 @@ sweeps c moves i h run within one =
           let apart : b - i - (a - i) ≡ b - a = omega arith in
           let to_a = sym (configuration_at-add c moves i (a - i)) ∙ ap (configuration_at c moves) at_a in
           let to_b = sym (configuration_at-add c moves i (b - i)) ∙ ap (configuration_at c moves) at_b in
-          let both = comes_round rest here n (a - i) (b - i) here_is here_long rest_run one (omega arith) (omega arith) in
+          let both = comes_round rest here n (a - i) (b - i) (record { is = here_is; long = here_long; run = rest_run; one = one }) (omega arith) (omega arith) in
           rw (to_a, to_b, apart) at both;
     }

@@ -45,7 +45,8 @@ pub fn audit(start: Line, moves: &[Move]) -> Result<Audit, AuditRefusal>
     ensures stays_legitimate { IfOk result
         (λ audit. IfSome audit.first_legitimate (λ i. LegitimateFrom start moves.now i)) }
     ensures sweeps { IfOk result
-        (λ audit. IfSome audit.first_legitimate (λ i. IsStretch (top_of start) (drop i moves.now))) }
+        (λ audit. IfSome audit.first_legitimate (λ i.
+        IsStretch (top_of start) (drop i moves.now))) }
     ensures comes_round { IfOk result
         (λ audit. IfSome audit.first_legitimate (λ i. ComesRound start moves.now i)) }
 {

@@ -12,7 +12,7 @@ use Rattle.turn_ledger.specs.State.{LedgerState, IsLedger}
 use Rattle.turn_ledger.specs.Screen.{AreAccepted, posted_in_order}
 use Rattle.turn_ledger.specs.Ledger.{entries_of}
 use Rattle.journal_recovery.specs.State.{State, state_after}
-use Rattle.journal_recovery.specs.Recovery.{RecoversTo, HoldsState}
+use Rattle.journal_recovery.specs.Recovery.{RecoversTo, RecoversWithOrWithout, HoldsState}
 use Rattle.sweep_auditor.specs.Run.{IsRun}
 use Rattle.turn_clerk.specs.declared.turns.Turn.{Turn}
 use Rattle.turn_clerk.specs.Room.{bank_for, after_batches, after_failed_batch}
@@ -94,6 +94,10 @@ pub record RecoversToPrefix (from : State) (batches : List (List Entry)) (least 
 -- each image that a crash now leaves recovers to the present state
 abbrev pub LeavesState : {D : Type 0} → (D → DeviceState) → ClerkState D → Type 0
 LeavesState state clerk = (image : Image) → (state clerk.journal.device).may_leave image → RecoversTo (present_state clerk) image
+
+-- each image that a crash now leaves recovers to the present state, or to that and the batch in flight
+abbrev pub LeavesWithOrWithoutFlight : {D : Type 0} → (D → DeviceState) → ClerkState D → Type 0
+LeavesWithOrWithoutFlight state clerk = (image : Image) → (state clerk.journal.device).may_leave image → RecoversWithOrWithout (present_state clerk) (in_flight_batch clerk.in_flight) image
 
 -- Each image that a crash leaves from one moment of the clerk's life to a later one recovers to the ledger of a prefix
 -- of the accepted batches, with all those of the turns that were taken before.

@@ -25,7 +25,8 @@ pub fn lives_join()
 /// the last opening finds is the ledger of batches that are, life by life, a prefix of those
 /// that were accepted, and hold every one that was acknowledged in any life.
 pub fn lives_in_a_row()
-    ensures { (from found : State) (lives : List Life) → IsLedger from.ledger → AreLives from lives found
+    ensures { (from found : State) (lives : List Life) → IsLedger from.ledger
+        → AreLives from lives found
         → IsAfterLives from lives found }
 {
     one_recovery();

@@ -131,12 +131,12 @@ pub with_yes-drop_no : (entries : List Entry) (verdicts : List Verdict) (i : ℕ
 with_yes-drop_no entries verdicts i refusal err = rw add-one (with_yes_from_no entries verdicts i refusal err)
 
 -- a batch that is gathered entry by entry
-pub gathered_yes : (batch entries all : List Entry) (verdicts : List Verdict) (i : ℕ) (d : Entry) (answer : Verdict) → i < length entries → slice_get verdicts i ≡ Some answer → is_ok answer ≡ true
-    → batch ++ with_yes (drop i entries) (drop i verdicts) ≡ all → (batch ++ get_or entries i d ∷ []) ++ with_yes (drop (i + 1) entries) (drop (i + 1) verdicts) ≡ all
-gathered_yes batch entries all verdicts i d (Ok u) h here accepted told =
+pub gathered_yes : (batch entries : List Entry) (verdicts : List Verdict) (i : ℕ) (d : Entry) (answer : Verdict) → i < length entries → slice_get verdicts i ≡ Some answer → is_ok answer ≡ true
+    → (batch ++ get_or entries i d ∷ []) ++ with_yes (drop (i + 1) entries) (drop (i + 1) verdicts) ≡ batch ++ with_yes (drop i entries) (drop i verdicts)
+gathered_yes batch entries verdicts i d (Ok u) h here accepted =
     append_assoc batch (get_or entries i d ∷ []) (with_yes (drop (i + 1) entries) (drop (i + 1) verdicts))
-    ∙ ap (λ (rest : List Entry). batch ++ rest) (sym (with_yes-drop_yes entries verdicts i d h here)) ∙ told
-gathered_yes batch entries all verdicts i d (Err refusal) h here accepted told = absurd (cc)
+    ∙ ap (λ (rest : List Entry). batch ++ rest) (sym (with_yes-drop_yes entries verdicts i d h here))
+gathered_yes batch entries verdicts i d (Err refusal) h here accepted = absurd (cc)
 
 pub gathered_no : (batch entries all : List Entry) (verdicts : List Verdict) (i : ℕ) (answer : Verdict) → slice_get verdicts i ≡ Some answer → is_ok answer ≡ false
     → batch ++ with_yes (drop i entries) (drop i verdicts) ≡ all → batch ++ with_yes (drop (i + 1) entries) (drop (i + 1) verdicts) ≡ all

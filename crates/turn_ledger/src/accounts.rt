@@ -124,7 +124,7 @@ fn check_on<A: Accounts>(accounts: &A, entry: &Entry) -> Result<(), EntryRefusal
 
 /// Posts an entry that has a yes.
 #[inline]
-fn change_balances<A: Accounts>(accounts: &mut A, entry: &Entry)
+pub(crate) fn change_balances<A: Accounts>(accounts: &mut A, entry: &Entry)
     requires ledger { IsLedger (A.state accounts.old) }
     requires accepted { verdict (A.state accounts.old) entry.now ≡ Ok tt }
     requires room { 2 ≤ A.room accounts.old }

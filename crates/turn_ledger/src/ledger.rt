@@ -1,11 +1,11 @@
 //! The ledger.
-ghost use Rattle.std.specs.Prelude.{◌≡◌, ◌<◌, ◌≤◌, ◌↔◌, true, false, length, sum, IfOk, OnOk, OnErr, SomeIff};
+ghost use Rattle.std.specs.Prelude.{◌≡◌, ◌<◌, ◌≤◌, ◌↔◌, true, false, length, sum, IfOk, Ok, OnOk, OnErr, SomeIff};
 ghost use Rattle.turn_ledger.specs.State.{IsAccount, IsLedger, balance_of, total_of, empty_ledger};
 ghost use Rattle.turn_ledger.specs.AccountList.{accounts_of};
 ghost use Rattle.turn_ledger.specs.Entry.{verdict, posted};
 ghost use Rattle.turn_ledger.specs.Screen.{screened};
 
-use crate::accounts::{Accounts, is_account, post};
+use crate::accounts::{Accounts, change_balances, is_account, post};
 use crate::scratch::Scratch;
 use crate::{
     ACCOUNTS, ALL_ACCOUNTS, AccountBalances, BATCH_LIMIT, Entry, EntryRefusal, TOTAL_LIMIT,
@@ -114,6 +114,16 @@ impl Ledger {
         ensures err { OnErr result (self.new ≡ self.old) }
     {
         post(self, entry)
+    }
+
+    /// Posts an entry that has a yes, and judges it no more.
+    pub fn post_accepted(&mut self, entry: &Entry)
+        requires { verdict self.old entry.now ≡ Ok tt }
+        ensures { self.new ≡ posted self.old entry.now }
+    {
+        // for the contract alone: what every ledger keeps
+        let _ = &self.total;
+        change_balances(self, entry);
     }
 
     /// The verdicts of a list of at most [`BATCH_LIMIT`] entries, each judged after the accepted ones before it. Nothing is

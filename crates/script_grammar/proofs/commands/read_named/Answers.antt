@@ -52,4 +52,13 @@ returns-in-day c = same_words _ _ _ _ (named _ _ (codes "day") c.args.words c.te
 
 pub returns-in_default : goal.returns-in_default
 unfolding IsRead
-returns-in_default c = unnamed _ _ c.requires (no_name _ _ (codes "format") c.text_of.ensures refl c.in_default.not-format) (no_name _ _ (codes "open") c.text_of.ensures refl c.in_default.not-open) (no_name _ _ (codes "post") c.text_of.ensures refl c.in_default.not-post) (no_name _ _ (codes "turn") c.text_of.ensures refl c.in_default.not-turn) (no_name _ _ (codes "bits") c.text_of.ensures refl c.in_default.not-bits) (no_name _ _ (codes "balances") c.text_of.ensures refl c.in_default.not-balances) (no_name _ _ (codes "crash") c.text_of.ensures refl c.in_default.not-crash) (no_name _ _ (codes "day") c.text_of.ensures refl c.in_default.not-day)
+returns-in_default c = unnamed _ _ c.requires (record {
+  not_format = no_name _ _ (codes "format") c.text_of.ensures refl c.in_default.not-format;
+  not_open = no_name _ _ (codes "open") c.text_of.ensures refl c.in_default.not-open;
+  not_post = no_name _ _ (codes "post") c.text_of.ensures refl c.in_default.not-post;
+  not_turn = no_name _ _ (codes "turn") c.text_of.ensures refl c.in_default.not-turn;
+  not_bits = no_name _ _ (codes "bits") c.text_of.ensures refl c.in_default.not-bits;
+  not_balances = no_name _ _ (codes "balances") c.text_of.ensures refl c.in_default.not-balances;
+  not_crash = no_name _ _ (codes "crash") c.text_of.ensures refl c.in_default.not-crash;
+  not_day = no_name _ _ (codes "day") c.text_of.ensures refl c.in_default.not-day;
+})

@@ -1,7 +1,7 @@
-use Rattle.std.proofs.Common.{[], sym, ◌∙◌, ap, length}
-use Rattle.std.proofs.lemmas.List.{get_or_read, length-reverse}
+use Rattle.std.proofs.Common.{[], ◌∙◌, ap}
+use Rattle.std.proofs.lemmas.List.{get_or_read}
 use Rattle.sector_device.specs.Image.{Image, with_sector}
-use Rattle.sector_device.specs.MemoryDevice.{memory_device_state, calls_of}
+use Rattle.sector_device.specs.MemoryDevice.{memory_device_state}
 use Rattle.sector_device.specs.MemoryLaws.{memory_sound}
 use Rattle.sector_device.specs.Crash.{torn_nothing}
 use Rattle.sector_device.proofs.Loss.{same_record, write_torn}
@@ -15,9 +15,8 @@ returns-in_err-record-clause-torn c honest =
 pub returns-clause-torn : goal.returns-clause-torn
 returns-clause-torn c honest =
     let reads = c.args.self.now.sectors.items in
-    write_torn c.args.self.now (memory_device_state c.put.new.self).reads (calls_of c.put.new.self) (length c.put.new.self.calls.items) c.put.new.self.faults c.args.at c.args.from.now
+    write_torn c.args.self.now c.put.new.self c.args.at c.args.from.now c.of-before.result
     (record { size = c.told-from; values = c.fits-from }) c.requires
-    c.of-before.result (c.of-before.ensures ∙ get_or_read reads c.args.at c.index.result.now c.requires c.index.ensures [])
+    (c.of-before.ensures ∙ get_or_read reads c.args.at c.index.result.now c.requires c.index.ensures [])
     (c.put.ensures.put ∙ ap (λ (image : Image). with_sector image c.args.at c.args.from.now) c.record.ensures.sectors)
     (c.put.ensures.calls ∙ c.in_ok-record.ensures.ok.0)
-    (sym (length-reverse c.put.new.self.calls.items))

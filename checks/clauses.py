@@ -1,0 +1,69 @@
+"""Looks how wide the public clauses are: of each clause of a public function, or of a method of a trait or of an impl of
+one, the longest line counts. Prints how many are over 100 columns, of which crates, and each that is over 140. Status 1
+where more than 60 are over 100 or any is over 140. It reads the crates that are no crates of tests, and needs Python
+alone."""
+import re
+import sys
+from collections import Counter
+from pathlib import Path
+
+ROOT = Path(__file__).resolve().parent.parent
+PAGE = 100
+MOST_OVER_THE_PAGE = 60
+NEVER_OVER = 140
+
+FUNCTION = re.compile(r"(\s*)(pub (?!\()|pub\([\w: ]+\) )?(?:const )?(?:unsafe )?fn (\w+)")
+OWNER = re.compile(r"(?:pub )?(?:unsafe )?(?:impl|trait)\b")
+PROMISES_OF_A_TRAIT = re.compile(r"(?:pub )?(?:unsafe )?(?:trait\b|impl\b.* for )")
+CLAUSE = re.compile(r"\s*(requires|ensures)\*? (\w+)?")
+
+
+def sources():
+    """The files of code of the crates that are no crates of tests."""
+    for path in sorted((ROOT / "crates").glob("*/src/**/*.rt")):
+        if not path.relative_to(ROOT / "crates").parts[0].endswith("_tests"):
+            yield path
+
+
+def width(lines, first):
+    """The longest line of the clause that begins on that line: it ends where its braces do."""
+    depth, longest = 0, 0
+    for line in lines[first:]:
+        longest = max(longest, len(line))
+        depth += line.count("{") - line.count("}")
+        if depth <= 0:
+            break
+    return longest
+
+
+def public_clauses(lines):
+    """Number of the line, function, label and width of each public clause."""
+    function, public, owner = "", False, ""
+    for number, line in enumerate(lines):
+        if OWNER.match(line):
+            owner = line
+        elif found := FUNCTION.match(line):
+            indent, visible, function = found.groups()
+            public = visible == "pub " or bool(indent and PROMISES_OF_A_TRAIT.match(owner))
+        elif public and (found := CLAUSE.match(line)):
+            kind, label = found.groups()
+            yield number + 1, function, label or kind, width(lines, number)
+
+
+def main():
+    over, far_over, counted = Counter(), [], 0
+    for path in sources():
+        name = path.relative_to(ROOT)
+        for number, function, label, columns in public_clauses(path.read_text(encoding="utf-8").splitlines()):
+            counted += 1
+            if columns > PAGE:
+                over[name.parts[1]] += 1
+            if columns > NEVER_OVER:
+                far_over.append(f"{name}:{number}: {label} of {function} has {columns} columns")
+    print(f"{sum(over.values())} of {counted} public clauses are over {PAGE} columns, of which {MOST_OVER_THE_PAGE} may be, and {len(far_over)} over {NEVER_OVER}")
+    print("\n".join([*(f"  {crate}: {count}" for crate, count in sorted(over.items())), *far_over]))
+    return int(sum(over.values()) > MOST_OVER_THE_PAGE or bool(far_over))
+
+
+if __name__ == "__main__":
+    sys.exit(main())
