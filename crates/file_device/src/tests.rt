@@ -59,13 +59,10 @@ fn find_grown<R: Files<File = File> + AllocGlobal + Abort>(
     second: &Sector,
 ) -> Result<(), Fail> {
     let mut device = FileDevice::open(rt, rt.alloc(), GROWN, asked)?;
-    assert_eq!(rt; device.sectors(), found);
-    assert_eq!(rt; read_at(rt, &mut device, 0)?, [0; SECTOR]);
-    assert_eq!(rt; read_at(rt, &mut device, 1)?, *second);
-    assert_eq!(rt;
-        read_at(rt, &mut device, found.saturating_sub(1))?,
-        [0; SECTOR]
-    );
+    assert!(rt; device.sectors() == found);
+    assert!(rt; read_at(rt, &mut device, 0)? == [0; SECTOR]);
+    assert!(rt; read_at(rt, &mut device, 1)? == *second);
+    assert!(rt; read_at(rt, &mut device, found.saturating_sub(1))? == [0; SECTOR]);
     Ok(())
 }
 
@@ -80,7 +77,7 @@ fn a_file_is_made_and_grown_and_never_cut(rt: HostRuntime) -> Result<(), Fail> {
     // How many sectors are asked for next, and how many there are then.
     for (asked, found) in [(0, 3), (2, 3), (600, 600), (1, 600), (601, 601)] {
         find_grown(&rt, asked, found, &sector_of(1))?;
-        assert_eq!(rt; fs::metadata(&rt, GROWN)?.len(), found * 512);
+        assert!(rt; fs::metadata(&rt, GROWN)?.len() == found * 512);
     }
     fs::remove_dir_all(&rt, "file_device_grown")?;
     Ok(())
@@ -120,12 +117,9 @@ fn what_is_no_file_of_whole_sectors_is_refused(rt: HostRuntime) -> Result<(), Fa
     ];
     for (path, sectors) in table {
         let refused = FileDevice::open(&rt, rt.alloc(), path, sectors).err();
-        assert_eq!(rt; refused, Some(FileRefusal::File), "{path:?}");
+        assert!(rt; refused == Some(FileRefusal::File), "{path:?}");
     }
-    assert_eq!(rt;
-        fs::read(&rt, "file_device_refused/short")?.as_slice(),
-        [7; 511].as_slice()
-    );
+    assert!(rt; fs::read(&rt, "file_device_refused/short")?.as_slice() == [7; 511].as_slice());
     assert!(rt; !fs::exists(&rt, "file_device_refused/huge")?);
     fs::remove_dir_all(&rt, "file_device_refused")?;
     Ok(())
@@ -152,9 +146,9 @@ fn agrees_with_a_list<D: Device>(
             write_at(rt, device, at as u64, &sector_of(number))?;
             written[at] = number;
         }
-        assert_eq!(rt; read_at(rt, device, at as u64)?, sector_of(written[at]));
+        assert!(rt; read_at(rt, device, at as u64)? == sector_of(written[at]));
         let next = (at + 1) % 300;
-        assert_eq!(rt; read_at(rt, device, next as u64)?, sector_of(written[next]));
+        assert!(rt; read_at(rt, device, next as u64)? == sector_of(written[next]));
     }
     Ok(())
 }
@@ -189,17 +183,17 @@ fn neighbours_are_read_in_one_call(rt: HostRuntime) -> Result<(), Fail> {
     make_folder(&rt, "file_device_ahead")?;
     let path = "file_device_ahead/sectors";
     let mut device = FileDevice::open(&rt, rt.alloc(), path, 600)?;
-    assert_eq!(rt; read_at(&rt, &mut device, 100)?, [0; SECTOR]);
+    assert!(rt; read_at(&rt, &mut device, 100)? == [0; SECTOR]);
     fill_file(&rt, path, 9)?;
     // From the eighth sector before it on, 256 of them.
     for (at, seen) in [(99, 0), (92, 0), (347, 0), (348, 9), (340, 9), (595, 9)] {
-        assert_eq!(rt; read_at(&rt, &mut device, at)?, [seen; SECTOR], "{at}");
+        assert!(rt; read_at(&rt, &mut device, at)? == [seen; SECTOR], "{at}");
     }
     fill_file(&rt, path, 8)?;
     write_at(&rt, &mut device, 339, &[7; SECTOR])?;
-    assert_eq!(rt; read_at(&rt, &mut device, 341)?, [9; SECTOR]);
+    assert!(rt; read_at(&rt, &mut device, 341)? == [9; SECTOR]);
     write_at(&rt, &mut device, 340, &[7; SECTOR])?;
-    assert_eq!(rt; read_at(&rt, &mut device, 341)?, [8; SECTOR]);
+    assert!(rt; read_at(&rt, &mut device, 341)? == [8; SECTOR]);
     fs::remove_dir_all(&rt, "file_device_ahead")?;
     Ok(())
 }
@@ -211,8 +205,8 @@ fn without_memory_no_file_is_made(rt: HostRuntime) -> Result<(), Fail> {
     let made = fs::exists(&rt, "file_device_memory/sectors")?;
     fs::remove_dir_all(&rt, "file_device_memory")?;
     match opened {
-        Ok(device) => assert_eq!(rt; (device.sectors(), made), (1, true)),
-        Err(refusal) => assert_eq!(rt; (refusal, made), (FileRefusal::Memory, false)),
+        Ok(device) => assert!(rt; (device.sectors(), made) == (1, true)),
+        Err(refusal) => assert!(rt; (refusal, made) == (FileRefusal::Memory, false)),
     }
     Ok(())
 }
@@ -224,7 +218,7 @@ fn refusals_have_texts(rt: HostRuntime) -> Result<(), Fail> {
         (FileRefusal::File, "the file can't be used as a device"),
     ];
     for (refusal, text) in table {
-        assert_eq!(rt; refusal.to_string(rt.alloc())?.as_str(), text);
+        assert!(rt; refusal.to_string(rt.alloc())?.as_str() == text);
     }
     Ok(())
 }

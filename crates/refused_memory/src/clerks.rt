@@ -35,7 +35,7 @@ fn told_opening(
         assert!(rt; device.calls().is_empty());
     } else {
         told(rt, "Clerk::open, by its device");
-        assert_eq!(rt; refusal, OpenRefusal::Device);
+        assert!(rt; refusal == OpenRefusal::Device);
     }
     Ok(Clerk::open(alloc, device, line).map_err(|(_, refusal)| refusal)?)
 }
@@ -45,8 +45,8 @@ fn a_clerk_is_opened(rt: HostRuntime) -> Result<(), Fail> {
     let alloc = rt.alloc();
     let line = line::<3>(&rt);
     let clerk = told_opening(&rt, alloc, noted(&rt, alloc, 4)?, line)?;
-    assert_eq!(rt; (clerk.opening_next(), clerk.ledger().total()), (0, 0));
-    assert_eq!(rt; clerk.line(), line);
+    assert!(rt; (clerk.opening_next(), clerk.ledger().total()) == (0, 0));
+    assert!(rt; clerk.line() == line);
     Ok(())
 }
 
@@ -72,7 +72,7 @@ fn ask(rt: &impl Abort, clerk: &mut Clerk<Noted>, station: u8, entries: &[Entry]
         Ok(turn) => return Asked::Taken(turn),
         Err(TurnRefusal::Memory) => Asked::AsBefore,
         Err(refusal) => {
-            assert_eq!(rt; refusal, TurnRefusal::Device);
+            assert!(rt; refusal == TurnRefusal::Device);
             Asked::InFlight
         }
     };
@@ -82,9 +82,9 @@ fn ask(rt: &impl Abort, clerk: &mut Clerk<Noted>, station: u8, entries: &[Entry]
         clerk.ledger().total(),
         clerk.history().len(),
     );
-    assert_eq!(rt; before, after);
-    assert_eq!(rt; clerk.is_faulted(), asked == Asked::InFlight);
-    assert_eq!(rt; clerk.in_flight().is_some(), asked == Asked::InFlight);
+    assert!(rt; before == after);
+    assert!(rt; clerk.is_faulted() == (asked == Asked::InFlight));
+    assert!(rt; clerk.in_flight().is_some() == (asked == Asked::InFlight));
     asked
 }
 
@@ -109,7 +109,7 @@ fn turns_are_taken(rt: HostRuntime) -> Result<(), Fail> {
             asked = ask(&rt, &mut clerk, place % 2, &entries);
         }
         match asked {
-            Asked::Taken(turn) => assert_eq!(rt; turn.posted, Some(u64::from(place))),
+            Asked::Taken(turn) => assert!(rt; turn.posted == Some(u64::from(place))),
             Asked::InFlight => {
                 told(&rt, "Clerk::turn, by its device");
                 return decided(alloc, clerk, u64::from(place));
@@ -118,7 +118,7 @@ fn turns_are_taken(rt: HostRuntime) -> Result<(), Fail> {
         }
     }
     let calls = clerk.into_device().calls().len();
-    assert_eq!(rt; calls, CALLS_OF_AN_OPENING + 4 * CALLS_OF_A_TURN);
+    assert!(rt; calls == CALLS_OF_AN_OPENING + 4 * CALLS_OF_A_TURN);
     Ok(())
 }
 
@@ -147,12 +147,12 @@ fn run_one(
     let (turns, answered) = (clerk.history().len(), replies.len());
     if clerk.run(event, replies).is_err() {
         told(rt, "Clerk::run");
-        assert_eq!(rt; (clerk.history().len(), replies.len()), (turns, answered));
+        assert!(rt; (clerk.history().len(), replies.len()) == (turns, answered));
         clerk.run(event, replies)?;
     }
     if replies.last() == Some(&Err(TurnRefusal::Memory)) {
         told(rt, "Clerk::run, in a reply");
-        assert_eq!(rt; clerk.history().len(), turns);
+        assert!(rt; clerk.history().len() == turns);
         replies.pop();
         clerk.run(event, replies)?;
     }
@@ -191,14 +191,14 @@ fn events_are_run(rt: HostRuntime) -> Result<(), Fail> {
             &mut replies,
         )?;
     }
-    assert_eq!(rt; replies.len(), 3);
-    assert_eq!(rt; replies.as_slice()[1], Err(TurnRefusal::NotPrivileged));
+    assert!(rt; replies.len() == 3);
+    assert!(rt; replies.as_slice()[1] == Err(TurnRefusal::NotPrivileged));
     let (Ok(first), Ok(third)) = (replies.as_slice()[0], replies.as_slice()[2]) else {
         assert!(rt; clerk.is_faulted());
         return Ok(());
     };
-    assert_eq!(rt; (first.rule, first.posted), (Rule::Bottom, Some(0)));
-    assert_eq!(rt; third.verdicts.get(0), Some(Err(EntryRefusal::Short)));
-    assert_eq!(rt; clerk.history(), [first, third].as_slice());
+    assert!(rt; (first.rule, first.posted) == (Rule::Bottom, Some(0)));
+    assert!(rt; third.verdicts.get(0) == Some(Err(EntryRefusal::Short)));
+    assert!(rt; clerk.history() == [first, third].as_slice());
     Ok(())
 }

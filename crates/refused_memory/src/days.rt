@@ -63,7 +63,7 @@ fn had<R: Abort + Print + Wait + Threads + Sync>(
         told(rt, "run_day");
     } else {
         told(rt, "run_day, by its device");
-        assert_eq!(rt; refusal, DayRefusal::Opening(OpenRefusal::Device));
+        assert!(rt; refusal == DayRefusal::Opening(OpenRefusal::Device));
     }
     let clerk = found(rt, alloc, device);
     let before = clerk.ledger().total();
@@ -76,12 +76,12 @@ fn had<R: Abort + Print + Wait + Threads + Sync>(
 
 // What a station's client is told. One whose turn met want of memory still holds its deposit.
 fn hear(rt: &(impl Abort + Print), station: &StationDay, heard: &mut Heard) -> Result<(), Fail> {
-    assert_eq!(rt;
+    assert!(rt;
         station
             .answers
             .len()
-            .saturating_add(station.unanswered.len()),
-        1
+            .saturating_add(station.unanswered.len())
+            == 1
     );
     if station.end == End::Refused(TurnRefusal::Memory) {
         told(rt, "run_stations");
@@ -114,7 +114,7 @@ fn goes_on<R: Abort + Print + Wait + Threads + Sync>(
     held: &[HeldEntries; 2],
     heard: &mut Heard,
 ) -> Result<MemoryDevice, Fail> {
-    assert_eq!(rt; line.stations(), 2);
+    assert!(rt; line.stations() == 2);
     match run_day(rt, alloc, device, line, held, 4, TRIES) {
         Ok(
             Day {
@@ -124,7 +124,7 @@ fn goes_on<R: Abort + Print + Wait + Threads + Sync>(
             },
         ) => {
             for station in &stations {
-                assert_eq!(rt; (station.end, station.unanswered.len()), (End::Reached, 0));
+                assert!(rt; (station.end, station.unanswered.len()) == (End::Reached, 0));
                 for answer in &station.answers {
                     assert!(rt; matches!(answer.outcome, Outcome::Posted(_)));
                 }

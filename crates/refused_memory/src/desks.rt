@@ -16,19 +16,19 @@ fn a_desk_is_made_and_reconciled(rt: HostRuntime) -> Result<(), Fail> {
             desk(alloc, 2)?
         }
     };
-    assert_eq!(rt; feed.submit(deposit(1, 5)), Ok(0));
-    assert_eq!(rt; feed.submit(deposit(1, 6)), Ok(1));
-    assert_eq!(rt; desk.gather().len(), 2);
+    assert!(rt; feed.submit(deposit(1, 5)) == Ok(0));
+    assert!(rt; feed.submit(deposit(1, 6)) == Ok(1));
+    assert!(rt; desk.gather().len() == 2);
     desk.give_up();
     let undecided = Answer {
         ticket: 0,
         entry: deposit(1, 5),
         outcome: Outcome::Undecided,
     };
-    assert_eq!(rt; feed.answer(), Some(undecided));
-    assert_eq!(rt; feed.submit(deposit(1, 7)), Ok(2));
-    assert_eq!(rt; desk.gather(), [deposit(1, 7)].as_slice());
-    assert_eq!(rt; feed.submit(deposit(1, 8)), Ok(3));
+    assert!(rt; feed.answer() == Some(undecided));
+    assert!(rt; feed.submit(deposit(1, 7)) == Ok(2));
+    assert!(rt; desk.gather() == [deposit(1, 7)].as_slice());
+    assert!(rt; feed.submit(deposit(1, 8)) == Ok(3));
     let all = match reconcile(alloc, feed, desk) {
         Ok(all) => all,
         Err((feed, desk, _)) => {
@@ -36,18 +36,12 @@ fn a_desk_is_made_and_reconciled(rt: HostRuntime) -> Result<(), Fail> {
             reconcile(alloc, feed, desk).map_err(|(_, _, refused)| refused)?
         }
     };
-    assert_eq!(rt;
-        (all.submitted, all.collected, all.answers.len()),
-        (4, 1, 1)
-    );
+    assert!(rt; (all.submitted, all.collected, all.answers.len()) == (4, 1, 1));
     let ask = |ticket, amount| Ask {
         ticket,
         entry: deposit(1, amount),
     };
-    assert_eq!(rt;
-        all.unanswered.as_slice(),
-        [ask(2, 7), ask(3, 8)].as_slice()
-    );
+    assert!(rt; all.unanswered.as_slice() == [ask(2, 7), ask(3, 8)].as_slice());
     Ok(())
 }
 

@@ -23,7 +23,7 @@ fn a_device_is_made(rt: HostRuntime) -> Result<(), Fail> {
             MemoryDevice::new(rt.alloc(), 23)?
         }
     };
-    assert_eq!(rt; device.sectors(), 23);
+    assert!(rt; device.sectors() == 23);
     Ok(())
 }
 
@@ -37,11 +37,11 @@ fn written(
     assert!(rt; at < device.sectors());
     if device.write(at, bytes).is_err() {
         told(rt, "MemoryDevice::write");
-        assert_eq!(rt; read_at(rt, device, at)?, [0; SECTOR]);
+        assert!(rt; read_at(rt, device, at)? == [0; SECTOR]);
         assert!(rt; at < device.sectors() && !device.pending(at));
         device.write(at, bytes)?;
     }
-    assert_eq!(rt; read_at(rt, device, at)?, *bytes);
+    assert!(rt; read_at(rt, device, at)? == *bytes);
     assert!(rt; at < device.sectors() && device.pending(at));
     Ok(())
 }
@@ -51,7 +51,7 @@ fn synced(rt: &(impl Abort + Print), device: &mut MemoryDevice, pending: u64) ->
     let bytes = read_at(rt, device, pending)?;
     if device.sync().is_err() {
         told(rt, "MemoryDevice::sync");
-        assert_eq!(rt; read_at(rt, device, pending)?, bytes);
+        assert!(rt; read_at(rt, device, pending)? == bytes);
         assert!(rt; pending < device.sectors() && device.pending(pending));
         device.sync()?;
     }
@@ -87,14 +87,14 @@ fn sectors_are_written_and_synced(rt: HostRuntime) -> Result<(), Fail> {
 fn a_device_is_formatted(rt: HostRuntime) -> Result<(), Fail> {
     let mut device = zeros(rt.alloc(), 23)?;
     if let Err(refusal) = format(&mut device, 4) {
-        assert_eq!(rt; refusal, FormatRefusal::Device);
+        assert!(rt; refusal == FormatRefusal::Device);
         told(&rt, "format");
         format(&mut device, 4)?;
     }
     let mut superblock = [0; SECTOR];
     superblock[..6].copy_from_slice(&[0x54, 0x4c, 0x44, 0x47, 0, 2]);
     superblock[15] = 4;
-    assert_eq!(rt; read_at(&rt, &mut device, 0)?, superblock);
+    assert!(rt; read_at(&rt, &mut device, 0)? == superblock);
     Ok(())
 }
 
@@ -107,7 +107,7 @@ fn a_ledger_is_made(rt: HostRuntime) -> Result<(), Fail> {
             Ledger::new(rt.alloc())?
         }
     };
-    assert_eq!(rt; (ledger.total(), ledger.balance(1)), (0, Some(0)));
+    assert!(rt; (ledger.total(), ledger.balance(1)) == (0, Some(0)));
     Ok(())
 }
 
@@ -123,14 +123,11 @@ fn a_device_is_recovered(rt: HostRuntime) -> Result<(), Fail> {
         }
         // the record of calls can't grow at the sync
         Err((device, refusal)) => {
-            assert_eq!(rt; refusal, OpenRefusal::Device);
+            assert!(rt; refusal == OpenRefusal::Device);
             told(&rt, "recover, by its device");
             recover(alloc, device).map_err(|(_, refusal)| refusal)?
         }
     };
-    assert_eq!(rt;
-        (recovered.journal.next(), recovered.ledger.total()),
-        (0, 0)
-    );
+    assert!(rt; (recovered.journal.next(), recovered.ledger.total()) == (0, 0));
     Ok(())
 }

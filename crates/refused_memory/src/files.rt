@@ -26,12 +26,12 @@ fn opened<R: Abort + AllocGlobal + Files<File = File> + Print>(
         Ok(device) => device,
         Err(refusal) => {
             told(rt, "FileDevice::open");
-            assert_eq!(rt; (refusal, length(rt)), (FileRefusal::Memory, before));
+            assert!(rt; (refusal, length(rt)) == (FileRefusal::Memory, before));
             FileDevice::open(rt, rt.alloc(), PATH, sectors)?
         }
     };
-    assert_eq!(rt; device.sectors(), sectors);
-    assert_eq!(rt; length(rt), Some(sectors.saturating_mul(512)));
+    assert!(rt; device.sectors() == sectors);
+    assert!(rt; length(rt) == Some(sectors.saturating_mul(512)));
     Ok(())
 }
 

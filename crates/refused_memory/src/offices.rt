@@ -35,18 +35,18 @@ fn asks_in_vain<L: Ledger + Opening, R: Abort + Wait + Print>(
     let mut answer = office.turn(rt, top, &sixteen);
     if answer == Err(TurnRefusal::Memory) {
         told(rt, "Office::turn");
-        assert_eq!(rt; (top.turns().len(), top.denied()), (0, None));
+        assert!(rt; (top.turns().len(), top.denied()) == (0, None));
         answer = office.turn(rt, top, &sixteen);
     }
-    assert_eq!(rt; answer, Err(TurnRefusal::NotPrivileged));
-    assert_eq!(rt; top.denied(), Some(0));
+    assert!(rt; answer == Err(TurnRefusal::NotPrivileged));
+    assert!(rt; top.denied() == Some(0));
     let mut answer = office.turn_within(rt, bottom, &sixteen, 0);
     if answer == Err(WithinRefusal::Turn(TurnRefusal::Memory)) {
         told(rt, "Office::turn_within");
-        assert_eq!(rt; (bottom.turns().len(), bottom.denied()), (0, None));
+        assert!(rt; (bottom.turns().len(), bottom.denied()) == (0, None));
         answer = office.turn_within(rt, bottom, &sixteen, 0);
     }
-    assert_eq!(rt; answer, Err(WithinRefusal::Reached));
+    assert!(rt; answer == Err(WithinRefusal::Reached));
 }
 
 // A turn of a seat with a place in its list: under the lock there may be no memory for the history, or for the device.
@@ -61,19 +61,19 @@ fn takes_a_turn<L: Ledger + Opening, R: Abort + Wait + Print>(
     let mut answer = office.turn_within(rt, seat, &entries, limit);
     if answer == Err(WithinRefusal::Turn(TurnRefusal::Memory)) {
         told(rt, "Office::turn_within, under the lock");
-        assert_eq!(rt; seat.turns().len(), before);
+        assert!(rt; seat.turns().len() == before);
         answer = office.turn_within(rt, seat, &entries, limit);
     }
     match answer {
         Ok(turn) => {
-            assert_eq!(rt; turn.posted, Some(turn.index));
-            assert_eq!(rt; seat.turns().len(), before.saturating_add(1));
+            assert!(rt; turn.posted == Some(turn.index));
+            assert!(rt; seat.turns().len() == before.saturating_add(1));
             Came::ToTheEnd
         }
         Err(refusal) => {
-            assert_eq!(rt; refusal, WithinRefusal::Turn(TurnRefusal::Device));
+            assert!(rt; refusal == WithinRefusal::Turn(TurnRefusal::Device));
             told(rt, "Office::turn_within, by its device");
-            assert_eq!(rt; seat.turns().len(), before);
+            assert!(rt; seat.turns().len() == before);
             Came::ToAFault
         }
     }
@@ -108,7 +108,7 @@ impl<'a, R: Abort + Wait + Print> OfficeWork<Noted> for TwoSeats<'a, R> {
         mut seats: Vec<Seat<L>>,
     ) -> Result<(Vec<Seat<L>>, Came), Infallible> {
         let TwoSeats { rt } = self;
-        assert_eq!(rt; seats.len(), 2);
+        assert!(rt; seats.len() == 2);
         let [bottom, top] = seats.as_mut_slice() else {
             panic!(rt; "two seats");
         };
@@ -133,7 +133,7 @@ fn worked<R: Abort + Wait + Print>(
         assert!(rt; device.calls().is_empty());
     } else {
         told(rt, "Office::open, by its device");
-        assert_eq!(rt; refusal, OfficeRefusal::Opening(OpenRefusal::Device));
+        assert!(rt; refusal == OfficeRefusal::Opening(OpenRefusal::Device));
     }
     match with_office(alloc, device, line::<2>(rt), TwoSeats { rt }) {
         Ok(closed) => Ok(closed),
@@ -146,10 +146,10 @@ fn an_office_is_opened_and_works(rt: HostRuntime) -> Result<(), Fail> {
     let alloc = rt.alloc();
     let (closing, came) = worked(&rt, alloc, noted(&rt, alloc, 4)?)?;
     let Closing { clerk, audit } = closing;
-    assert_eq!(rt; clerk.is_faulted(), came == Came::ToAFault);
-    assert_eq!(rt; audit.first_legitimate, Some(0));
+    assert!(rt; clerk.is_faulted() == (came == Came::ToAFault));
+    assert!(rt; audit.first_legitimate == Some(0));
     if came == Came::ToTheEnd {
-        assert_eq!(rt; (clerk.history().len(), clerk.next()), (6, 6));
+        assert!(rt; (clerk.history().len(), clerk.next()) == (6, 6));
     }
     Ok(())
 }

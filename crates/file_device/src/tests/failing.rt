@@ -25,7 +25,7 @@ fn a_sector_behind_the_end_spoils_no_other(rt: HostRuntime) -> Result<(), Fail> 
     let mut device = FileDevice::open(&rt, rt.alloc(), path, 20)?;
     write_at(&rt, &mut device, 9, &sector_of(9))?;
     File::options().write(true).open(&rt, path)?.set_len(5120)?;
-    assert_eq!(rt; read_at(&rt, &mut device, 9)?, sector_of(9));
+    assert!(rt; read_at(&rt, &mut device, 9)? == sector_of(9));
     assert!(rt; read_at(&rt, &mut device, 10).is_err());
     fs::remove_dir_all(&rt, "file_device_shortened")?;
     Ok(())
@@ -37,9 +37,9 @@ fn a_file_that_may_not_be_written_tells_it(rt: HostRuntime) -> Result<(), Fail> 
     let path = "file_device_unwritable/sectors";
     fs::write(&rt, path, [3; 2 * SECTOR].as_slice())?;
     let mut device = two_sectors(&rt, File::open(&rt, path)?)?;
-    assert_eq!(rt; read_at(&rt, &mut device, 1)?, [3; SECTOR]);
+    assert!(rt; read_at(&rt, &mut device, 1)? == [3; SECTOR]);
     assert!(rt; write_at(&rt, &mut device, 1, &[4; SECTOR]).is_err());
-    assert_eq!(rt; read_at(&rt, &mut device, 1)?, [3; SECTOR]);
+    assert!(rt; read_at(&rt, &mut device, 1)? == [3; SECTOR]);
     fs::remove_dir_all(&rt, "file_device_unwritable")?;
     Ok(())
 }
@@ -52,7 +52,7 @@ fn after_a_failed_sync_every_call_fails(rt: HostRuntime) -> Result<(), Fail> {
         .write(true)
         .open(&rt, "/dev/zero")?;
     let mut device = two_sectors(&rt, file)?;
-    assert_eq!(rt; read_at(&rt, &mut device, 1)?, [0; SECTOR]);
+    assert!(rt; read_at(&rt, &mut device, 1)? == [0; SECTOR]);
     write_at(&rt, &mut device, 1, &sector_of(1))?;
     assert!(rt; device.sync().is_err());
     assert!(rt; read_at(&rt, &mut device, 0).is_err());
@@ -107,9 +107,9 @@ fn after_a_failed_sync_the_buffer_is_read_anew(rt: HostRuntime) -> Result<(), Fa
         failures: 0,
     };
     let mut ahead = ReadAhead::new(forgetful, ReadBuffer::new(rt.alloc())?);
-    assert_eq!(rt; read_at(&rt, &mut ahead, 0)?, [1; SECTOR]);
+    assert!(rt; read_at(&rt, &mut ahead, 0)? == [1; SECTOR]);
     assert!(rt; ahead.sync().is_err());
-    assert_eq!(rt; read_at(&rt, &mut ahead, 0)?, [2; SECTOR]);
+    assert!(rt; read_at(&rt, &mut ahead, 0)? == [2; SECTOR]);
     Ok(())
 }
 
@@ -119,12 +119,12 @@ fn a_device_that_stopped_hands_nothing_on(rt: HostRuntime) -> Result<(), Fail> {
         byte: 1,
         failures: 0,
     });
-    assert_eq!(rt; read_at(&rt, &mut device, 1)?, [1; SECTOR]);
+    assert!(rt; read_at(&rt, &mut device, 1)? == [1; SECTOR]);
     write_at(&rt, &mut device, 1, &[4; SECTOR])?;
     assert!(rt; device.sync().is_err());
     assert!(rt; read_at(&rt, &mut device, 1).is_err());
     assert!(rt; write_at(&rt, &mut device, 1, &[4; SECTOR]).is_err());
     assert!(rt; device.sync().is_err());
-    assert_eq!(rt; device.sectors(), 2);
+    assert!(rt; device.sectors() == 2);
     Ok(())
 }

@@ -88,21 +88,15 @@ fn a_folder_that_may_not_be_read_keeps_no_old_file_closed(rt: HostRuntime) -> Re
         rt: &rt,
         reason: ErrorKind::PermissionDenied,
     };
-    assert_eq!(rt;
-        opened(&unreadable, rt.alloc(), INSIDE, 2),
-        Err(FileRefusal::File)
-    );
+    assert!(rt; opened(&unreadable, rt.alloc(), INSIDE, 2) == Err(FileRefusal::File));
     assert!(rt; !fs::exists(&rt, INSIDE)?);
-    assert_eq!(rt; opened(&rt, rt.alloc(), INSIDE, 2), Ok(2));
-    assert_eq!(rt; opened(&unreadable, rt.alloc(), INSIDE, 3), Ok(3));
+    assert!(rt; opened(&rt, rt.alloc(), INSIDE, 2) == Ok(2));
+    assert!(rt; opened(&unreadable, rt.alloc(), INSIDE, 3) == Ok(3));
     let broken = WithoutFolder {
         rt: &rt,
         reason: ErrorKind::TimedOut,
     };
-    assert_eq!(rt;
-        opened(&broken, rt.alloc(), INSIDE, 3),
-        Err(FileRefusal::File)
-    );
+    assert!(rt; opened(&broken, rt.alloc(), INSIDE, 3) == Err(FileRefusal::File));
     fs::remove_dir_all(&rt, FOLDER)?;
     Ok(())
 }
@@ -114,8 +108,8 @@ fn a_file_that_cant_be_synced_is_refused(rt: HostRuntime) -> Result<(), Fail> {
     let link = "file_device_unsynced/link";
     symlink(&rt, "/proc/self/comm", link)?;
     assert!(rt; fs::metadata(&rt, link)?.is_file());
-    assert_eq!(rt; fs::metadata(&rt, link)?.len(), 0);
-    assert_eq!(rt; opened(&rt, rt.alloc(), link, 0), Err(FileRefusal::File));
+    assert!(rt; fs::metadata(&rt, link)?.len() == 0);
+    assert!(rt; opened(&rt, rt.alloc(), link, 0) == Err(FileRefusal::File));
     fs::remove_dir_all(&rt, "file_device_unsynced")?;
     Ok(())
 }
@@ -125,15 +119,12 @@ fn a_file_that_cant_be_synced_is_refused(rt: HostRuntime) -> Result<(), Fail> {
 fn a_file_whose_folder_cant_be_synced_is_refused(rt: HostRuntime) -> Result<(), Fail> {
     make_folder(&rt, "file_device_numbers")?;
     let path = "file_device_numbers/sectors";
-    assert_eq!(rt; opened(&rt, rt.alloc(), path, 2), Ok(2));
+    assert!(rt; opened(&rt, rt.alloc(), path, 2) == Ok(2));
     let file = File::open(&rt, path)?;
     let number = file.as_raw_fd();
     let name = format!(in rt.alloc(); "/proc/self/fd/{number}")?;
-    assert_eq!(rt; fs::metadata(&rt, name.as_str())?.len(), 1024);
-    assert_eq!(rt;
-        opened(&rt, rt.alloc(), name.as_str(), 2),
-        Err(FileRefusal::File)
-    );
+    assert!(rt; fs::metadata(&rt, name.as_str())?.len() == 1024);
+    assert!(rt; opened(&rt, rt.alloc(), name.as_str(), 2) == Err(FileRefusal::File));
     fs::remove_dir_all(&rt, "file_device_numbers")?;
     Ok(())
 }
@@ -141,8 +132,8 @@ fn a_file_whose_folder_cant_be_synced_is_refused(rt: HostRuntime) -> Result<(), 
 #[test]
 fn what_is_no_regular_file_has_no_sectors(rt: HostRuntime) -> Result<(), Fail> {
     let file = File::open(&rt, "/dev/zero")?;
-    assert_eq!(rt; file.metadata()?.len(), 0);
-    assert_eq!(rt; whole_sectors(&file.metadata()?), Err(FileRefusal::File));
+    assert!(rt; file.metadata()?.len() == 0);
+    assert!(rt; whole_sectors(&file.metadata()?) == Err(FileRefusal::File));
     Ok(())
 }
 
@@ -151,10 +142,10 @@ fn a_file_is_opened_by_one_at_a_time(rt: HostRuntime) -> Result<(), Fail> {
     make_folder(&rt, "file_device_locked")?;
     let path = "file_device_locked/sectors";
     let device = FileDevice::open(&rt, rt.alloc(), path, 2)?;
-    assert_eq!(rt; opened(&rt, rt.alloc(), path, 5), Err(FileRefusal::File));
-    assert_eq!(rt; fs::metadata(&rt, path)?.len(), 1024);
+    assert!(rt; opened(&rt, rt.alloc(), path, 5) == Err(FileRefusal::File));
+    assert!(rt; fs::metadata(&rt, path)?.len() == 1024);
     drop(device);
-    assert_eq!(rt; opened(&rt, rt.alloc(), path, 5), Ok(5));
+    assert!(rt; opened(&rt, rt.alloc(), path, 5) == Ok(5));
     fs::remove_dir_all(&rt, "file_device_locked")?;
     Ok(())
 }

@@ -112,9 +112,9 @@ fn expect_bytes(rt: &impl Abort, disk: &Disk, after: Option<(usize, usize)>) {
         return;
     };
     let bytes = disk.take_bytes().expect(rt, "a file");
-    assert_eq!(rt; bytes.len(), length);
+    assert!(rt; bytes.len() == length);
     for (place, byte) in bytes.iter().enumerate() {
-        assert_eq!(rt; *byte, if place < old { 7 } else { 0 }, "{place}");
+        assert!(rt; *byte == (if place < old { 7 } else { 0 }), "{place}");
     }
 }
 
@@ -131,7 +131,7 @@ fn comes_to_pass(rt: &impl Abort, alloc: Global, opening: &Opening) -> Result<()
     if let Some(length) = opening.before {
         disk.holds(vec![in alloc; 7; length]?);
     }
-    assert_eq!(rt; opened(&disk, opening.path), opening.outcome);
+    assert!(rt; opened(&disk, opening.path) == opening.outcome);
     expect_steps(rt, &disk, opening.steps, opening.last);
     expect_bytes(rt, &disk, opening.after);
     Ok(())
@@ -202,7 +202,7 @@ fn zeros_that_are_written_in_part_are_finished(rt: HostRuntime) -> Result<(), Fa
             ..WHOLE
         };
         let disk = Disk::new(rt.alloc(), "ledger", ".", limits);
-        assert_eq!(rt; opened(&disk, "ledger"), REFUSED);
+        assert!(rt; opened(&disk, "ledger") == REFUSED);
         expect_bytes(&rt, &disk, Some((0, if fails == 36 { 2560 } else { 0 })));
     }
     Ok(())
@@ -251,11 +251,11 @@ fn a_file_with_the_number_of_a_stream_gets_another(rt: HostRuntime) -> Result<()
     for number in 0..4 {
         let limits = Limits { number, ..WHOLE };
         let disk = disk_with(rt.alloc(), 2560, limits)?;
-        assert_eq!(rt; opened(&disk, "ledger"), Ok(5), "{number}");
+        assert!(rt; opened(&disk, "ledger") == Ok(5), "{number}");
         let asked = disk.take_asked();
         let moved = if number <= 2 { 3 } else { 2 };
-        assert_eq!(rt; asked.contains(&Asked::Move), number <= 2, "{number}");
-        assert_eq!(rt; asked.get(moved..), FULL.get(2..), "{number}");
+        assert!(rt; asked.contains(&Asked::Move) == (number <= 2), "{number}");
+        assert!(rt; asked.get(moved..) == FULL.get(2..), "{number}");
     }
     Ok(())
 }
@@ -285,8 +285,8 @@ fn memory_is_taken_before_the_disk_is_asked(rt: HostRuntime) -> Result<(), Fail>
     let opened = open_device(&OnDisk { disk: &disk }, rt.alloc(), "ledger", 5);
     let asked = disk.take_asked().len();
     match opened {
-        Ok(device) => assert_eq!(rt; (device.sectors(), asked), (5, 9)),
-        Err(refusal) => assert_eq!(rt; (refusal, asked), (FileRefusal::Memory, 0)),
+        Ok(device) => assert!(rt; (device.sectors(), asked) == (5, 9)),
+        Err(refusal) => assert!(rt; (refusal, asked) == (FileRefusal::Memory, 0)),
     }
     Ok(())
 }

@@ -45,14 +45,14 @@ fn read_all(
 // The disk was asked to write these parts, or to read them.
 fn expect_parts(rt: &impl Abort, disk: &Disk, parts: &[(u64, usize)], writes: bool) {
     let asked = disk.take_asked();
-    assert_eq!(rt; asked.len(), parts.len());
+    assert!(rt; asked.len() == parts.len());
     for (call, (at, count)) in asked.iter().zip(parts) {
         let expected = if writes {
             Asked::Write(*at, *count)
         } else {
             Asked::Read(*at, *count)
         };
-        assert_eq!(rt; *call, expected);
+        assert!(rt; *call == expected);
     }
 }
 
@@ -71,7 +71,7 @@ fn each_call_is_one_call_of_the_system(rt: HostRuntime) -> Result<(), Fail> {
         Asked::SyncData,
         Asked::Read(0, 2560),
     ];
-    assert_eq!(rt; disk.take_asked().as_slice(), expected.as_slice());
+    assert!(rt; disk.take_asked().as_slice() == expected.as_slice());
     Ok(())
 }
 
@@ -82,12 +82,12 @@ fn what_is_moved_in_part_is_finished(rt: HostRuntime) -> Result<(), Fail> {
     disk.limit(in_parts(usize::MAX));
     write_at(&rt, &mut file, 1, &sector_of(1))?;
     expect_parts(&rt, &disk, &PARTS, true);
-    assert_eq!(rt; read_at(&rt, &mut file, 1)?, sector_of(1));
+    assert!(rt; read_at(&rt, &mut file, 1)? == sector_of(1));
     expect_parts(&rt, &disk, &PARTS, false);
     let mut all = [[1; SECTOR]; 5];
     read_all(&rt, &mut file, &mut all)?;
     let zero = [0; SECTOR];
-    assert_eq!(rt; all, [zero, sector_of(1), zero, zero, zero]);
+    assert!(rt; all == [zero, sector_of(1), zero, zero, zero]);
     Ok(())
 }
 
@@ -114,11 +114,11 @@ fn a_run_or_a_sync_that_fails_is_told(rt: HostRuntime) -> Result<(), Fail> {
     for fails in 0..26 {
         disk.limit(in_parts(fails));
         assert!(rt; read_all(&rt, &mut file, &mut all).is_err(), "{fails}");
-        assert_eq!(rt; disk.take_asked().len(), fails + 1);
+        assert!(rt; disk.take_asked().len() == fails + 1);
     }
     disk.limit(in_parts(0));
     assert!(rt; file.sync().is_err());
-    assert_eq!(rt; disk.take_asked().as_slice(), [Asked::SyncData].as_slice());
+    assert!(rt; disk.take_asked().as_slice() == [Asked::SyncData].as_slice());
     disk.limit(in_parts(26));
     assert!(rt; read_all(&rt, &mut file, &mut all).is_ok());
     Ok(())
