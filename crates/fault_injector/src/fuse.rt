@@ -30,7 +30,8 @@ impl<D: Device> Model for Fuse<D> {
 impl<D: Device> Fuse<D> {
     /// A fuse that blows at call number `at` of that kind.
     pub fn new(inner: D, op: Op, at: u64) -> Fuse<D>
-        ensures { result ≡ record { inner = inner; op = op; at = at; calls = 0; blown = false; failures = 0 } }
+        ensures { result
+            ≡ record { inner = inner; op = op; at = at; calls = 0; blown = false; failures = 0 } }
     {
         Fuse {
             inner,
@@ -81,7 +82,8 @@ impl<D: Device> Device for Fuse<D> {
 
     fn read(&mut self, at: u64, into: &mut Sector) -> Result<(), DeviceFault>
         requires { at < length (D.state self.old.inner).reads }
-        ensures call { AreCalls (fuse_state D.state self.old) (fuse_state D.state self.new) (IsErr result) }
+        ensures call { AreCalls (fuse_state D.state self.old) (fuse_state D.state self.new)
+            (IsErr result) }
         ensures same { (D.state self.old.inner).honest
             → IsLook (fuse_state D.state self.old) (fuse_state D.state self.new) }
         ensures bytes { (D.state self.old.inner).honest
@@ -89,7 +91,8 @@ impl<D: Device> Device for Fuse<D> {
         ensures counted { HasCounted self.old self.new Op.Read }
         ensures fails { Fails self.old Op.Read → IsErr result }
         ensures unreached { Fails self.old Op.Read → self.new.inner ≡ self.old.inner }
-        ensures passed_on { (Fails self.old Op.Read → ⊥) → AreCalls (D.state self.old.inner) (D.state self.new.inner) (IsErr result) }
+        ensures passed_on { (Fails self.old Op.Read → ⊥)
+            → AreCalls (D.state self.old.inner) (D.state self.new.inner) (IsErr result) }
     {
         if self.fails(Op::Read) {
             return Err(DeviceFault);
@@ -99,11 +102,13 @@ impl<D: Device> Device for Fuse<D> {
 
     fn write(&mut self, at: u64, from: &Sector) -> Result<(), DeviceFault>
         requires { at < length (D.state self.old.inner).reads }
-        ensures call { AreCalls (fuse_state D.state self.old) (fuse_state D.state self.new) (IsErr result) }
+        ensures call { AreCalls (fuse_state D.state self.old) (fuse_state D.state self.new)
+            (IsErr result) }
         ensures torn { (D.state self.old.inner).honest
             → IsWrite at (fuse_state D.state self.old) (fuse_state D.state self.new) }
         ensures written { (D.state self.old.inner).honest
-            → OnOk result ((D.state self.new.inner).reads ≡ with_sector (D.state self.old.inner).reads at from.now) }
+            → OnOk result ((D.state self.new.inner).reads
+            ≡ with_sector (D.state self.old.inner).reads at from.now) }
         ensures counted { HasCounted self.old self.new Op.Write }
         ensures fails { Fails self.old Op.Write → IsErr result }
         ensures unreached { Fails self.old Op.Write → self.new.inner ≡ self.old.inner }
@@ -117,7 +122,8 @@ impl<D: Device> Device for Fuse<D> {
     }
 
     fn sync(&mut self) -> Result<(), DeviceFault>
-        ensures call { AreCalls (fuse_state D.state self.old) (fuse_state D.state self.new) (IsErr result) }
+        ensures call { AreCalls (fuse_state D.state self.old) (fuse_state D.state self.new)
+            (IsErr result) }
         ensures same { (D.state self.old.inner).honest
             → IsLook (fuse_state D.state self.old) (fuse_state D.state self.new) }
         ensures durable { (D.state self.old.inner).honest
@@ -125,7 +131,8 @@ impl<D: Device> Device for Fuse<D> {
         ensures counted { HasCounted self.old self.new Op.Sync }
         ensures fails { Fails self.old Op.Sync → IsErr result }
         ensures unreached { Fails self.old Op.Sync → self.new.inner ≡ self.old.inner }
-        ensures passed_on { (Fails self.old Op.Sync → ⊥) → AreCalls (D.state self.old.inner) (D.state self.new.inner) (IsErr result) }
+        ensures passed_on { (Fails self.old Op.Sync → ⊥)
+            → AreCalls (D.state self.old.inner) (D.state self.new.inner) (IsErr result) }
     {
         if self.fails(Op::Sync) {
             return Err(DeviceFault);

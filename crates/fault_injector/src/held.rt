@@ -117,7 +117,8 @@ impl<D: Device> Device for Held<D> {
 
     fn read(&mut self, at: u64, into: &mut Sector) -> Result<(), DeviceFault>
         requires { at < length (D.state self.old.inner).reads }
-        ensures call { AreCalls (held_state D.state self.old) (held_state D.state self.new) (IsErr result) }
+        ensures call { AreCalls (held_state D.state self.old) (held_state D.state self.new)
+            (IsErr result) }
         ensures same { (D.state self.old.inner).honest
             → IsLook (held_state D.state self.old) (held_state D.state self.new) }
         ensures bytes { (D.state self.old.inner).honest
@@ -130,11 +131,13 @@ impl<D: Device> Device for Held<D> {
 
     fn write(&mut self, at: u64, from: &Sector) -> Result<(), DeviceFault>
         requires { at < length (D.state self.old.inner).reads }
-        ensures call { AreCalls (held_state D.state self.old) (held_state D.state self.new) (IsErr result) }
+        ensures call { AreCalls (held_state D.state self.old) (held_state D.state self.new)
+            (IsErr result) }
         ensures torn { (D.state self.old.inner).honest
             → IsWrite at (held_state D.state self.old) (held_state D.state self.new) }
         ensures written { (D.state self.old.inner).honest
-            → OnOk result ((D.state self.new.inner).reads ≡ with_sector (D.state self.old.inner).reads at from.now) }
+            → OnOk result ((D.state self.new.inner).reads
+            ≡ with_sector (D.state self.old.inner).reads at from.now) }
         ensures own { self.new ≡ record self.old { inner = self.new.inner } }
         ensures passed_on { IsPassedOn D.state self.old self.new (IsErr result) }
     {
@@ -142,7 +145,8 @@ impl<D: Device> Device for Held<D> {
     }
 
     fn sync(&mut self) -> Result<(), DeviceFault>
-        ensures call { AreCalls (held_state D.state self.old) (held_state D.state self.new) (IsErr result) }
+        ensures call { AreCalls (held_state D.state self.old) (held_state D.state self.new)
+            (IsErr result) }
         ensures same { (D.state self.old.inner).honest
             → IsLook (held_state D.state self.old) (held_state D.state self.new) }
         ensures durable { (D.state self.old.inner).honest

@@ -74,7 +74,8 @@ impl<D: Device> Device for Noting<D> {
     fn read(&mut self, at: u64, into: &mut Sector) -> Result<(), DeviceFault>
         requires { at < length (D.state self.old.inner).reads }
         ensures call { AreCalls (D.state self.old.inner) (D.state self.new.inner) (IsErr result) }
-        ensures same { (D.state self.old.inner).honest → IsLook (D.state self.old.inner) (D.state self.new.inner) }
+        ensures same { (D.state self.old.inner).honest
+            → IsLook (D.state self.old.inner) (D.state self.new.inner) }
         ensures bytes { (D.state self.old.inner).honest
             → OnOk result (into.new ≡ sector_at (D.state self.old.inner).reads at) }
         ensures noted { HasNoted self.old self.new (Call.Read at) }
@@ -86,9 +87,11 @@ impl<D: Device> Device for Noting<D> {
     fn write(&mut self, at: u64, from: &Sector) -> Result<(), DeviceFault>
         requires { at < length (D.state self.old.inner).reads }
         ensures call { AreCalls (D.state self.old.inner) (D.state self.new.inner) (IsErr result) }
-        ensures torn { (D.state self.old.inner).honest → IsWrite at (D.state self.old.inner) (D.state self.new.inner) }
+        ensures torn { (D.state self.old.inner).honest
+            → IsWrite at (D.state self.old.inner) (D.state self.new.inner) }
         ensures written { (D.state self.old.inner).honest
-            → OnOk result ((D.state self.new.inner).reads ≡ with_sector (D.state self.old.inner).reads at from.now) }
+            → OnOk result ((D.state self.new.inner).reads
+            ≡ with_sector (D.state self.old.inner).reads at from.now) }
         ensures noted { HasNoted self.old self.new (Call.Write at) }
     {
         self.note(Call::Write(at));
@@ -97,8 +100,10 @@ impl<D: Device> Device for Noting<D> {
 
     fn sync(&mut self) -> Result<(), DeviceFault>
         ensures call { AreCalls (D.state self.old.inner) (D.state self.new.inner) (IsErr result) }
-        ensures same { (D.state self.old.inner).honest → IsLook (D.state self.old.inner) (D.state self.new.inner) }
-        ensures durable { (D.state self.old.inner).honest → OnOk result (IsDurable (D.state self.new.inner)) }
+        ensures same { (D.state self.old.inner).honest
+            → IsLook (D.state self.old.inner) (D.state self.new.inner) }
+        ensures durable { (D.state self.old.inner).honest
+            → OnOk result (IsDurable (D.state self.new.inner)) }
         ensures noted { HasNoted self.old self.new Call.Sync }
     {
         self.note(Call::Sync);

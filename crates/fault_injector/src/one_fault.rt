@@ -77,7 +77,8 @@ impl<D: Device> Device for OneFault<D> {
 
     fn read(&mut self, at: u64, into: &mut Sector) -> Result<(), DeviceFault>
         requires { at < length (D.state self.old.inner).reads }
-        ensures call { AreCalls (one_fault_state D.state self.old) (one_fault_state D.state self.new) (IsErr result) }
+        ensures call { AreCalls (one_fault_state D.state self.old)
+            (one_fault_state D.state self.new) (IsErr result) }
         ensures same { (D.state self.old.inner).honest
             → IsLook (one_fault_state D.state self.old) (one_fault_state D.state self.new) }
         ensures bytes { (D.state self.old.inner).honest
@@ -96,11 +97,13 @@ impl<D: Device> Device for OneFault<D> {
 
     fn write(&mut self, at: u64, from: &Sector) -> Result<(), DeviceFault>
         requires { at < length (D.state self.old.inner).reads }
-        ensures call { AreCalls (one_fault_state D.state self.old) (one_fault_state D.state self.new) (IsErr result) }
+        ensures call { AreCalls (one_fault_state D.state self.old)
+            (one_fault_state D.state self.new) (IsErr result) }
         ensures torn { (D.state self.old.inner).honest
             → IsWrite at (one_fault_state D.state self.old) (one_fault_state D.state self.new) }
         ensures written { (D.state self.old.inner).honest
-            → OnOk result ((D.state self.new.inner).reads ≡ with_sector (D.state self.old.inner).reads at from.now) }
+            → OnOk result ((D.state self.new.inner).reads
+            ≡ with_sector (D.state self.old.inner).reads at from.now) }
         ensures counted { HasCountedOne self.old self.new Op.Write }
         ensures fails { FailsThis self.old Op.Write → IsErr result }
         ensures unreached { FailsThis self.old Op.Write → self.new.inner ≡ self.old.inner }
@@ -114,7 +117,8 @@ impl<D: Device> Device for OneFault<D> {
     }
 
     fn sync(&mut self) -> Result<(), DeviceFault>
-        ensures call { AreCalls (one_fault_state D.state self.old) (one_fault_state D.state self.new) (IsErr result) }
+        ensures call { AreCalls (one_fault_state D.state self.old)
+            (one_fault_state D.state self.new) (IsErr result) }
         ensures same { (D.state self.old.inner).honest
             → IsLook (one_fault_state D.state self.old) (one_fault_state D.state self.new) }
         ensures durable { (D.state self.old.inner).honest

@@ -1,9 +1,10 @@
 -- What an office was opened on, and what its clerk keeps of it.
 use Rattle.std.specs.Prelude.{◌≡◌, ◌↔◌, ℕ, List, [], length}
+use Rattle.std.specs.declared.sync.ledger.Blank.{Blank}
 use Rattle.sector_device.specs.Image.{Image}
 use Rattle.sector_device.specs.Device.{DeviceState}
 use Rattle.sector_device.specs.Crash.{OnlyLooks, IsDurable}
-use Rattle.four_state.specs.Configuration.{Configuration}
+use Rattle.four_state.specs.Configuration.{Configuration, stations}
 use Rattle.journal_recovery.specs.State.{State}
 use Rattle.journal_recovery.specs.Recovery.{RecoversTo}
 use Rattle.turn_clerk.specs.declared.turns.Turn.{Turn}
@@ -18,6 +19,16 @@ pub record SayTheSame (one other : DeviceState) : Type 0 where
   pub left_since : (since : ℕ) (image : Image) → one.left_since since image ↔ other.left_since since image
   pub honest : one.honest ↔ other.honest
   pub faults : one.faults ≡ other.faults
+
+-- What the type says that names an office is its ledger's name and number of parts, a device and a line. This blank and this
+-- name are of an office that is opened on the device `opened` with the line `start`: the blank is of the name's ledger, which
+-- has a part for each station, and the name says what the device and the line are.
+pub record Names (ledger count : ℕ) (said : DeviceState) (from : Configuration) (blank : Blank) (opened : DeviceState) (start : Configuration) : Type 0 where
+  pub name : blank.name ≡ ledger
+  pub parts : blank.parts ≡ count
+  pub one_each : count ≡ stations start
+  pub device : SayTheSame said opened
+  pub line : from ≡ start
 
 -- The clerk is one that was opened on that device, as it was then, with that line: up to its first turn it only looked
 -- at the device, no call of which failed; then nothing on it was pending, and what it found is what the device's image

@@ -123,12 +123,16 @@ pub(crate) fn look_at<D: Device, L: Ledger>(
     requires { stations clerk.now.line ≡ L.parts }
     ensures missing { (result ≡ Err CloseRefusal.SeatMissing) ↔ IsSeatMissing L.parts seats.now }
     ensures foreign { result ≡ Err CloseRefusal.ForeignSeat
-        → (length seats.now ≢ L.parts) ⊎ ¬ All (IsBorneOut clerk.now.opening.line clerk.now.history) seats.now }
-    ensures one_each { OnOk result ((station : ℕ) → station < L.parts → seats_of station seats.now ≡ 1) }
+        → (length seats.now ≢ L.parts)
+        ⊎ ¬ All (IsBorneOut clerk.now.opening.line clerk.now.history) seats.now }
+    ensures one_each { OnOk result ((station : ℕ) → station < L.parts
+        → seats_of station seats.now ≡ 1) }
     ensures as_many { OnOk result (length seats.now ≡ L.parts) }
-    ensures borne_out { OnOk result (All (IsBorneOut clerk.now.opening.line clerk.now.history) seats.now) }
+    ensures borne_out { OnOk result
+        (All (IsBorneOut clerk.now.opening.line clerk.now.history) seats.now) }
     ensures there { OnOk result (All (λ turn. turn.station < L.parts) clerk.now.history) }
-    ensures counted { OnOk result (length clerk.now.history ≡ sum_by (λ seat. length seat.turns) seats.now) }
+    ensures counted { OnOk result (length clerk.now.history
+        ≡ sum_by (λ seat. length seat.turns) seats.now) }
 {
     let stations = clerk.line().stations();
     if is_seat_missing(seats, stations) {

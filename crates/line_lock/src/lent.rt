@@ -2,7 +2,7 @@
 ghost use Rattle.std.specs.Prelude.{◌≡◌, ℕ, List, IfOk, IfErr};
 ghost use Rattle.sector_device.specs.Device.{DeviceState};
 ghost use Rattle.four_state.specs.Configuration.{Configuration, stations};
-ghost use Rattle.line_lock.specs.Opening.{SayTheSame, WasLeftByClerk};
+ghost use Rattle.line_lock.specs.Opening.{Names, WasLeftByClerk};
 ghost use Rattle.line_lock.specs.Seat.{SeatState};
 ghost use Rattle.line_lock.specs.Lent.{new_seats, AccountFor, IsClosed, IsRefused, IfOpening, UnlessOpening};
 
@@ -42,7 +42,8 @@ pub trait OfficeWork<D: Device>: Drop {
     ) -> Result<(Vec<Seat<L>>, Self::Answer), Self::Failure>
         requires ready { ready self L.parts }
         requires seats { seats.items ≡ new_seats L.parts }
-        ensures made { IfOk result (λ done. makes self L.device L.line seats.items done.0.items done.1) };
+        ensures made { IfOk result (λ done.
+            makes self L.device L.line seats.items done.0.items done.1) };
 }
 
 /// Why an office was not opened, worked in and closed.
@@ -79,10 +80,12 @@ pub fn with_office<D: Device, W: OfficeWork<D>>(
         × AccountFor (stations line) seats done.0.clerk) }
 
     // The clerk, over its whole life, and the audit.
-    ensures closed { IfOk result (λ done. IsClosed D.state (D.state device) line done.0.clerk done.0.audit) }
+    ensures closed { IfOk result (λ done.
+        IsClosed D.state (D.state device) line done.0.clerk done.0.audit) }
 
     // What an office that isn't closed leaves.
-    ensures left { IfErr result (λ e. UnlessOpening e.1 (WasLeftByClerk D.state (D.state device) line e.0)) }
+    ensures left { IfErr result (λ e.
+        UnlessOpening e.1 (WasLeftByClerk D.state (D.state device) line e.0)) }
     ensures opening { IfErr result (λ e. IfOpening e.1 (IsRefused D.state device e.0)) }
 {
     let blank = Blank::new(line.stations() as u64);
@@ -98,17 +101,15 @@ fn lent<D: Device, L: Ledger + Opening + Send + Sync, W: OfficeWork<D>>(
     blank: Blank,
     work: W,
 ) -> Result<(Closing<D>, W::Answer), (D, OfficeRefusal<W::Failure>)>
-    requires name { blank.name ≡ L.name }
-    requires parts { blank.parts ≡ L.parts }
-    requires one_each { L.parts ≡ stations line }
-    requires device { SayTheSame L.device (D.state device) }
-    requires line { L.line ≡ line }
+    requires named { Names L.name L.parts L.device L.line blank (D.state device) line }
     requires ready { W.ready work (stations line) }
     ensures worked { IfOk result (λ done. (seats : List SeatState)
         × W.makes work L.device L.line (new_seats (stations line)) seats done.1
         × AccountFor (stations line) seats done.0.clerk) }
-    ensures closed { IfOk result (λ done. IsClosed D.state L.device L.line done.0.clerk done.0.audit) }
-    ensures left { IfErr result (λ e. UnlessOpening e.1 (WasLeftByClerk D.state L.device L.line e.0)) }
+    ensures closed { IfOk result (λ done.
+        IsClosed D.state L.device L.line done.0.clerk done.0.audit) }
+    ensures left { IfErr result (λ e.
+        UnlessOpening e.1 (WasLeftByClerk D.state L.device L.line e.0)) }
     ensures opening { IfErr result (λ e. IfOpening e.1 (IsRefused D.state device e.0)) }
 {
     let (office, seats) = match Office::<D, L>::open(alloc, device, line, blank) {

@@ -10,7 +10,7 @@ ghost use Rattle.turn_clerk.specs.Clerk.{KeepsHistory, LeavesAcknowledged, LeftP
 ghost use Rattle.turn_clerk.specs.History.{moves_of};
 ghost use Rattle.line_lock.specs.Account.{IsBorneOut, failed_turns, seats_of, IsSeatMissing};
 ghost use Rattle.journal_recovery.specs.Refused.{RecoveryRefuses};
-ghost use Rattle.line_lock.specs.Opening.{SayTheSame, WasOpenedOn, WasLeftByClerk};
+ghost use Rattle.line_lock.specs.Opening.{Names, WasOpenedOn, WasLeftByClerk};
 ghost use Rattle.line_lock.specs.Seat.{new_seat, HasReached};
 ghost use Rattle.line_lock.specs.Told.{WasTold};
 
@@ -43,21 +43,21 @@ impl<D: Device, L: Ledger + Opening> Office<D, L> {
         line: Line,
         blank: Blank,
     ) -> Result<(Office<D, L>, Vec<Seat<L>>), (D, OpenRefusal)>
-        requires name { blank.name ≡ L.name }
-        requires parts { blank.parts ≡ L.parts }
-        requires one_each { L.parts ≡ stations line }
-        requires device { SayTheSame L.device (D.state device) }
-        requires line { L.line ≡ line }
-        ensures seats { IfOk result (λ opened. opened.1.items ≡ map new_seat (range_with_len 0 (stations line))) }
-        ensures call { IfErr result (λ e. AreCalls (D.state device) (D.state e.0) (e.1 ≡ OpenRefusal.Device)) }
+        requires named { Names L.name L.parts L.device L.line blank (D.state device) line }
+        ensures seats { IfOk result (λ opened.
+            opened.1.items ≡ map new_seat (range_with_len 0 (stations line))) }
+        ensures call { IfErr result (λ e.
+            AreCalls (D.state device) (D.state e.0) (e.1 ≡ OpenRefusal.Device)) }
         ensures untouched { IfErr result (λ e. e.1 ≡ OpenRefusal.Memory → e.0 ≡ device) }
 
         // On an honest device.
-        ensures looks { (D.state device).honest → IfErr result (λ e. OnlyLooks (D.state device) (D.state e.0)) }
-        ensures settled { (D.state device).honest
-            → IfErr result (λ e. e.1 ≢ OpenRefusal.Memory → e.1 ≢ OpenRefusal.Device → IsDurable (D.state e.0)) }
-        ensures refused { (D.state device).honest
-            → IfErr result (λ e. e.1 ≢ OpenRefusal.Memory → e.1 ≢ OpenRefusal.Device → RecoveryRefuses (D.state device).reads e.1) }
+        ensures looks { (D.state device).honest
+            → IfErr result (λ e. OnlyLooks (D.state device) (D.state e.0)) }
+        ensures settled { (D.state device).honest → IfErr result (λ e.
+            e.1 ≢ OpenRefusal.Memory → e.1 ≢ OpenRefusal.Device → IsDurable (D.state e.0)) }
+        ensures refused { (D.state device).honest → IfErr result (λ e.
+            e.1 ≢ OpenRefusal.Memory → e.1 ≢ OpenRefusal.Device
+            → RecoveryRefuses (D.state device).reads e.1) }
     {
         let mut seats = Vec::new(alloc);
         if seats.reserve(line.stations() as usize).is_err() {
@@ -80,7 +80,8 @@ impl<D: Device, L: Ledger + Opening> Office<D, L> {
         seat: &mut Seat<L>,
         entries: &[Entry],
     ) -> Result<Turn, TurnRefusal>
-        ensures told { WasTold L.device L.line seat.old seat.new entries.now result (λ refusal. refusal) }
+        ensures told { WasTold L.device L.line seat.old seat.new
+            entries.now result (λ refusal. refusal) }
         ensures reached { seat.new.reached ≡ seat.old.reached }
     {
         let Seat {
@@ -106,12 +107,15 @@ impl<D: Device, L: Ledger + Opening> Office<D, L> {
         entries: &[Entry],
         limit: u64,
     ) -> Result<Turn, WithinRefusal>
-        ensures told { WasTold L.device L.line seat.old seat.new entries.now result WithinRefusal.Turn }
+        ensures told { WasTold L.device L.line seat.old seat.new
+            entries.now result WithinRefusal.Turn }
         ensures within { IfOk result (λ turn. turn.index < limit) }
         ensures reached { result ≡ Err WithinRefusal.Reached → limit ≤ seat.new.reached }
-        ensures rightly_reached { result ≡ Err WithinRefusal.Reached → HasReached L.device L.line limit }
+        ensures rightly_reached { result ≡ Err WithinRefusal.Reached
+            → HasReached L.device L.line limit }
         ensures no_more { (seat.new.reached ≡ limit) ⊎ (seat.new.reached ≡ seat.old.reached) }
-        ensures not_reached { result ≢ Err WithinRefusal.Reached → seat.new.reached ≡ seat.old.reached }
+        ensures not_reached { result ≢ Err WithinRefusal.Reached
+            → seat.new.reached ≡ seat.old.reached }
         ensures never_falls { seat.old.reached ≤ seat.new.reached }
     {
         let Seat {
@@ -144,25 +148,32 @@ impl<D: Device, L: Ledger + Opening> Office<D, L> {
         self,
         seats: Vec<Seat<L>>,
     ) -> Result<Closing<D>, (Office<D, L>, Vec<Seat<L>>, CloseRefusal)>
-        ensures missing { (IsErrAnd result (λ e. e.2 ≡ CloseRefusal.SeatMissing)) ↔ IsSeatMissing L.parts seats.items }
+        ensures missing { (IsErrAnd result (λ e. e.2 ≡ CloseRefusal.SeatMissing))
+            ↔ IsSeatMissing L.parts seats.items }
         ensures handed_back { IfErr result (λ e. e.1.items ≡ seats.items) }
 
         // What the seats hold, turn by turn.
         ensures stations { IfOk result (λ closing. stations closing.clerk.opening.line ≡ L.parts) }
-        ensures one_seat { OnOk result ((station : ℕ) → station < L.parts → seats_of station seats.items ≡ 1) }
+        ensures one_seat { OnOk result ((station : ℕ) → station < L.parts
+            → seats_of station seats.items ≡ 1) }
         ensures borne_out { IfOk result (λ closing.
             All (IsBorneOut closing.clerk.opening.line closing.clerk.history) seats.items) }
         ensures counted { IfOk result (λ closing.
             length closing.clerk.history ≡ sum_by (λ seat. length seat.turns) seats.items) }
-        ensures there { IfOk result (λ closing. All (λ turn. turn.station < L.parts) closing.clerk.history) }
-        ensures failed { IfOk result (λ closing. sum_by (λ seat. seat.failed) seats.items ≡ failed_turns closing.clerk) }
+        ensures there { IfOk result (λ closing.
+            All (λ turn. turn.station < L.parts) closing.clerk.history) }
+        ensures failed { IfOk result (λ closing.
+            sum_by (λ seat. seat.failed) seats.items ≡ failed_turns closing.clerk) }
 
         // The clerk, over its whole life.
-        ensures opened { IfOk result (λ closing. WasOpenedOn D.state L.device L.line closing.clerk) }
+        ensures opened { IfOk result (λ closing.
+            WasOpenedOn D.state L.device L.line closing.clerk) }
         ensures legal { IfOk result (λ closing. KeepsHistory closing.clerk) }
-        ensures run { IfOk result (λ closing. IsRun closing.clerk.opening.line (moves_of closing.clerk.history)) }
+        ensures run { IfOk result (λ closing.
+            IsRun closing.clerk.opening.line (moves_of closing.clerk.history)) }
         ensures acknowledged { IfOk result (λ closing.
-            (D.state closing.clerk.journal.device).honest → LeavesAcknowledged D.state closing.clerk) }
+            (D.state closing.clerk.journal.device).honest
+            → LeavesAcknowledged D.state closing.clerk) }
         ensures at_any_moment { IfOk result (λ closing.
             (D.state closing.clerk.journal.device).honest → LeftPrefixEver D.state closing.clerk) }
 
@@ -195,8 +206,10 @@ impl<D: Device, L: Ledger + Opening> Office<D, L> {
         ensures stations { stations result.opening.line ≡ L.parts }
         ensures opened { WasOpenedOn D.state L.device L.line result }
         ensures legal { KeepsHistory result }
-        ensures acknowledged { (D.state result.journal.device).honest → LeavesAcknowledged D.state result }
-        ensures at_any_moment { (D.state result.journal.device).honest → LeftPrefixEver D.state result }
+        ensures acknowledged { (D.state result.journal.device).honest
+            → LeavesAcknowledged D.state result }
+        ensures at_any_moment { (D.state result.journal.device).honest
+            → LeftPrefixEver D.state result }
     {
         let Office { locked } = self;
         let locked = locked.into_inner();

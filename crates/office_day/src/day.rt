@@ -66,9 +66,11 @@ pub fn run_day<D: Device + Send, R: Threads + Wait + Sync>(
     requires held { length held.now ≡ stations line }
 
     // What became of what the stations held.
-    ensures days { IfOk result (λ day. HadTheirDay day.clerk.history moves held.now day.stations.items) }
+    ensures days { IfOk result (λ day.
+        HadTheirDay day.clerk.history moves held.now day.stations.items) }
     ensures within { IfOk result (λ day. length day.clerk.history ≤ moves) }
-    ensures failed { IfOk result (λ day. failures_told day.stations.items ≡ failed_turns day.clerk) }
+    ensures failed { IfOk result (λ day.
+        failures_told day.stations.items ≡ failed_turns day.clerk) }
 
     // The clerk, over its whole life.
     ensures stations { IfOk result (λ day. stations day.clerk.line ≡ stations line) }
@@ -82,15 +84,18 @@ pub fn run_day<D: Device + Send, R: Threads + Wait + Sync>(
 
     // The audit of its opening line and all its moves.
     ensures last { IfOk result (λ day. day.audit.last ≡ day.clerk.line) }
-    ensures audit { IfOk result (λ day. IsAuditOf day.clerk.opening.line (moves_of day.clerk.history) day.audit) }
+    ensures audit { IfOk result (λ day.
+        IsAuditOf day.clerk.opening.line (moves_of day.clerk.history) day.audit) }
 
     // What a day that isn't told leaves.
-    ensures left { IfErr result (λ e. UnlessOpening e.1 ((e.0 ≡ device) ⊎ WasLeftByClerk D.state (D.state device) line e.0)) }
+    ensures left { IfErr result (λ e.
+        UnlessOpening e.1 ((e.0 ≡ device) ⊎ WasLeftByClerk D.state (D.state device) line e.0)) }
 
     // A refused opening.
     ensures call { IfErr result (λ e. IfOpening e.1 (λ refusal.
         AreCalls (D.state device) (D.state e.0) (refusal ≡ OpenRefusal.Device))) }
-    ensures looks { (D.state device).honest → IfErr result (λ e. IfOpening e.1 (λ _. OnlyLooks (D.state device) (D.state e.0))) }
+    ensures looks { (D.state device).honest
+        → IfErr result (λ e. IfOpening e.1 (λ _. OnlyLooks (D.state device) (D.state e.0))) }
     ensures settled { (D.state device).honest → IfErr result (λ e. IfOpening e.1 (λ refusal.
         refusal ≢ OpenRefusal.Device → IsDurable (D.state e.0))) }
     ensures refused { (D.state device).honest → IfErr result (λ e. IfOpening e.1 (λ refusal.

@@ -1,7 +1,7 @@
 //! An office that is opened for its stations, runs, and is closed.
 ghost use Rattle.std.specs.Prelude.{◌≡◌, ◌-◌, List, length, IfOk, IfErr};
 ghost use Rattle.four_state.specs.Configuration.{stations};
-ghost use Rattle.line_lock.specs.Opening.{SayTheSame, WasLeftByClerk};
+ghost use Rattle.line_lock.specs.Opening.{Names, WasLeftByClerk};
 ghost use Rattle.line_lock.specs.Seat.{SeatState};
 ghost use Rattle.line_lock.specs.Lent.{new_seats, AccountFor, IsClosed, IsRefused, IfOpening, UnlessOpening};
 ghost use Rattle.office_day.specs.Day.{HaveServed};
@@ -38,14 +38,17 @@ pub fn run_office<D: Device + Send, G: Gate + Sync, R: Threads + Wait + Sync>(
 
     // What the stations made of their desks and of their seats, which account for the whole history.
     ensures ran { IfOk result (λ run. (seats : List SeatState)
-        × HaveServed (D.state device) line (new_seats (stations line)) desks.items seats run.1.items moves
+        × HaveServed (D.state device) line (new_seats (stations line)) desks.items
+        seats run.1.items moves
         × AccountFor (stations line) seats run.0.clerk) }
 
     // The clerk, over its whole life, and the audit.
-    ensures closed { IfOk result (λ run. IsClosed D.state (D.state device) line run.0.clerk run.0.audit) }
+    ensures closed { IfOk result (λ run.
+        IsClosed D.state (D.state device) line run.0.clerk run.0.audit) }
 
     // What an office that isn't closed leaves.
-    ensures left { IfErr result (λ e. UnlessOpening e.1 (WasLeftByClerk D.state (D.state device) line e.0)) }
+    ensures left { IfErr result (λ e.
+        UnlessOpening e.1 (WasLeftByClerk D.state (D.state device) line e.0)) }
     ensures opening { IfErr result (λ e. IfOpening e.1 (IsRefused D.state device e.0)) }
 {
     let blank = Blank::new(line.stations() as u64);
@@ -70,17 +73,14 @@ fn named_run<
     moves: u64,
     tries: u64,
 ) -> Result<OfficeRun<D>, (D, OfficeRefusal<AllocError>)>
-    requires name { blank.name ≡ L.name }
-    requires parts { blank.parts ≡ L.parts }
-    requires one_each { L.parts ≡ stations line }
-    requires device { SayTheSame L.device (D.state device) }
-    requires line { L.line ≡ line }
+    requires named { Names L.name L.parts L.device L.line blank (D.state device) line }
     requires as_many { length desks.items ≡ stations line }
     ensures ran { IfOk result (λ run. (seats : List SeatState)
         × HaveServed L.device L.line (new_seats (stations line)) desks.items seats run.1.items moves
         × AccountFor (stations line) seats run.0.clerk) }
     ensures closed { IfOk result (λ run. IsClosed D.state L.device L.line run.0.clerk run.0.audit) }
-    ensures left { IfErr result (λ e. UnlessOpening e.1 (WasLeftByClerk D.state L.device L.line e.0)) }
+    ensures left { IfErr result (λ e.
+        UnlessOpening e.1 (WasLeftByClerk D.state L.device L.line e.0)) }
     ensures opening { IfErr result (λ e. IfOpening e.1 (IsRefused D.state device e.0)) }
 {
     let (office, seats) = match Office::<D, L>::open(alloc, device, line, blank) {
@@ -114,7 +114,8 @@ fn served<
     tries: u64,
 ) -> Result<(Vec<Seat<L>>, Vec<Left>), AllocError>
     requires as_many { length desks.items ≡ length seats.items }
-    ensures { IfOk result (λ both. HaveServed L.device L.line seats.items desks.items both.0.items both.1.items moves) }
+    ensures { IfOk result (λ both.
+        HaveServed L.device L.line seats.items desks.items both.0.items both.1.items moves) }
 {
     let mut stations = seated(alloc, seats, desks)?;
     run_stations(rt, office, stations.as_mut_slice(), gate, moves, tries);

@@ -22,8 +22,10 @@ pub(crate) fn seated<L: Ledger>(
     desks: Vec<Desk>,
 ) -> Result<Vec<Station<L>>, AllocError>
     requires as_many { length desks.items ≡ length seats.items }
-    ensures seats { IfOk result (λ stations. map (λ station. station.seat) stations.items ≡ seats.items) }
-    ensures desks { IfOk result (λ stations. map (λ station. station.desk) stations.items ≡ desks.items) }
+    ensures seats { IfOk result (λ stations.
+        map (λ station. station.seat) stations.items ≡ seats.items) }
+    ensures desks { IfOk result (λ stations.
+        map (λ station. station.desk) stations.items ≡ desks.items) }
 {
     let mut stations = Vec::with_capacity(alloc, seats.len())?;
     for (seat, desk) in seats.into_iter().zip(desks) {
@@ -41,7 +43,8 @@ pub(crate) fn risen<L: Ledger>(
     alloc: Global,
     stations: Vec<Station<L>>,
 ) -> Result<(Vec<Seat<L>>, Vec<Left>), AllocError>
-    ensures seats { IfOk result (λ both. both.0.items ≡ map (λ station. station.seat) stations.items) }
+    ensures seats { IfOk result (λ both.
+        both.0.items ≡ map (λ station. station.seat) stations.items) }
     ensures left { IfOk result (λ both. both.1.items ≡ map left_of stations.items) }
 {
     let mut seats = Vec::with_capacity(alloc, stations.len())?;

@@ -1,23 +1,14 @@
 //! The two sides of a desk.
 ghost use Rattle.station_desk.specs.Rings.{AreTogether};
 
-use crate::beginnings::{formatted, line};
 use station_desk::{
     Answer, Ask, Desk, Entry, EntryRefusal, Feed, Outcome, Reconciled, desk, reconcile,
 };
 use std::alloc::Global;
 use std::process::Abort;
 use std::test::Fail;
+use test_scenes::{deposit, formatted, line, withdrawal};
 use turn_clerk::Clerk;
-
-// A deposit to account 1.
-fn deposit(amount: u64) -> Entry {
-    Entry::Deposit {
-        to: 1,
-        amount,
-        reference: 0,
-    }
-}
 
 fn answer(ticket: u64, entry: Entry, outcome: Outcome) -> Answer {
     Answer {
@@ -28,7 +19,7 @@ fn answer(ticket: u64, entry: Entry, outcome: Outcome) -> Answer {
 }
 
 fn undecided(ticket: u64, amount: u64) -> Option<Answer> {
-    Some(answer(ticket, deposit(amount), Outcome::Undecided))
+    Some(answer(ticket, deposit(1, amount), Outcome::Undecided))
 }
 
 fn reconciled(rt: &impl Abort, alloc: Global, feed: Feed, desk: Desk) -> Reconciled
@@ -44,12 +35,12 @@ fn reconciled(rt: &impl Abort, alloc: Global, feed: Feed, desk: Desk) -> Reconci
 fn full_rings_and_a_desk_that_gives_up(rt: HostRuntime) -> Result<(), Fail> {
     let alloc = rt.alloc();
     let (mut feed, mut desk) = desk(alloc, 2)?;
-    assert_eq!(rt; feed.submit(deposit(5)), Ok(0));
-    assert_eq!(rt; feed.submit(deposit(6)), Ok(1));
-    assert_eq!(rt; feed.submit(deposit(7)), Err(deposit(7)));
-    let both = [deposit(5), deposit(6)];
+    assert_eq!(rt; feed.submit(deposit(1, 5)), Ok(0));
+    assert_eq!(rt; feed.submit(deposit(1, 6)), Ok(1));
+    assert_eq!(rt; feed.submit(deposit(1, 7)), Err(deposit(1, 7)));
+    let both = [deposit(1, 5), deposit(1, 6)];
     assert_eq!(rt; desk.gather(), both.as_slice());
-    assert_eq!(rt; feed.submit(deposit(7)), Ok(2));
+    assert_eq!(rt; feed.submit(deposit(1, 7)), Ok(2));
     // There are two places for answers, and both are spoken for.
     assert_eq!(rt; desk.gather(), both.as_slice());
     let shown = format!(in alloc; "{feed:?} {desk:?}")?;
@@ -61,7 +52,7 @@ fn full_rings_and_a_desk_that_gives_up(rt: HostRuntime) -> Result<(), Fail> {
     let all = reconciled(&rt, alloc, feed, desk);
     let left = [Ask {
         ticket: 2,
-        entry: deposit(7),
+        entry: deposit(1, 7),
     }];
     assert_eq!(rt; (all.submitted, all.collected), (3, 2));
     assert_eq!(rt; all.answers.as_slice(), [].as_slice());
@@ -74,38 +65,34 @@ fn full_rings_and_a_desk_that_gives_up(rt: HostRuntime) -> Result<(), Fail> {
 fn what_is_left_is_reconciled_in_order(rt: HostRuntime) -> Result<(), Fail> {
     let alloc = rt.alloc();
     let (mut feed, mut desk) = desk(alloc, 3)?;
-    assert_eq!(rt; feed.submit(deposit(10)), Ok(0));
-    assert_eq!(rt; feed.submit(deposit(11)), Ok(1));
-    assert_eq!(rt; feed.submit(deposit(12)), Ok(2));
+    assert_eq!(rt; feed.submit(deposit(1, 10)), Ok(0));
+    assert_eq!(rt; feed.submit(deposit(1, 11)), Ok(1));
+    assert_eq!(rt; feed.submit(deposit(1, 12)), Ok(2));
     assert_eq!(rt; desk.gather().len(), 3);
     desk.give_up();
     assert_eq!(rt; feed.answer(), undecided(0, 10));
-    assert_eq!(rt; feed.submit(deposit(13)), Ok(3));
-    assert_eq!(rt; feed.submit(deposit(14)), Ok(4));
-    assert_eq!(rt; desk.gather(), [deposit(13)].as_slice());
+    assert_eq!(rt; feed.submit(deposit(1, 13)), Ok(3));
+    assert_eq!(rt; feed.submit(deposit(1, 14)), Ok(4));
+    assert_eq!(rt; desk.gather(), [deposit(1, 13)].as_slice());
     let all = reconciled(&rt, alloc, feed, desk);
     assert_eq!(rt; (all.submitted, all.collected), (5, 1));
     let answers = all.answers.iter().map(|answer| answer.ticket);
     assert!(rt; answers.eq([1, 2]));
     let unanswered = all.unanswered.iter().map(|ask| (ask.ticket, ask.entry));
-    assert!(rt; unanswered.eq([(3, deposit(13)), (4, deposit(14))]));
+    assert!(rt; unanswered.eq([(3, deposit(1, 13)), (4, deposit(1, 14))]));
     Ok(())
 }
 
 #[test]
 fn a_turn_answers_what_was_gathered(rt: HostRuntime) -> Result<(), Fail> {
     let alloc = rt.alloc();
-    let line = line(&rt, [0, 0], [1, 0]);
+    let line = line([0, 0], [1, 0])?;
     let Ok(mut clerk) = Clerk::open(alloc, formatted(alloc, 4)?, line) else {
         panic!(rt; "a clerk");
     };
-    let withdrawal = Entry::Withdraw {
-        from: 1,
-        amount: 500,
-        reference: 0,
-    };
+    let withdrawal = withdrawal(1, 500);
     let (mut feed, mut desk) = desk(alloc, 4)?;
-    for entry in [deposit(100), withdrawal, deposit(20)] {
+    for entry in [deposit(1, 100), withdrawal, deposit(1, 20)] {
         let _ = feed.submit(entry);
     }
     let turn = clerk.turn(0, desk.gather())?;
@@ -114,12 +101,12 @@ fn a_turn_answers_what_was_gathered(rt: HostRuntime) -> Result<(), Fail> {
     let refused = Outcome::Refused(EntryRefusal::Short);
     assert_eq!(rt;
         feed.answer(),
-        Some(answer(0, deposit(100), Outcome::Posted(0)))
+        Some(answer(0, deposit(1, 100), Outcome::Posted(0)))
     );
     assert_eq!(rt; feed.answer(), Some(answer(1, withdrawal, refused)));
     assert_eq!(rt;
         feed.answer(),
-        Some(answer(2, deposit(20), Outcome::Posted(0)))
+        Some(answer(2, deposit(1, 20), Outcome::Posted(0)))
     );
     assert_eq!(rt; feed.answer(), None);
     Ok(())
@@ -129,9 +116,9 @@ fn a_turn_answers_what_was_gathered(rt: HostRuntime) -> Result<(), Fail> {
 fn the_largest_rings_and_fifteen_at_a_time(rt: HostRuntime) -> Result<(), Fail> {
     let (mut feed, mut desk) = desk(rt.alloc(), 4_096)?;
     for ticket in 0..4_096 {
-        assert_eq!(rt; feed.submit(deposit(ticket)), Ok(ticket));
+        assert_eq!(rt; feed.submit(deposit(1, ticket)), Ok(ticket));
     }
-    assert_eq!(rt; feed.submit(deposit(1)), Err(deposit(1)));
+    assert_eq!(rt; feed.submit(deposit(1, 1)), Err(deposit(1, 1)));
     let mut gathered = 0usize;
     for _ in 0..274 {
         gathered = gathered.saturating_add(desk.gather().len());

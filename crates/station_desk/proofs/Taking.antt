@@ -23,12 +23,17 @@ none_taken ring held = record {
   held = sym (append-nil held);
 }
 
+-- one request more has come out of the ring
+pub record Popped (old new : Consumer Ask Global AnyItems) (ask : Ask) : Type 0 where
+  pub ring : SameConsumer old new
+  pub taken : received new ≡ received old ++ ask ∷ []
+
 pub one_more_taken : (old mid new : Consumer Ask Global AnyItems) (before held after : List Ask) (ask : Ask) → Taking old mid before held
-    → SameConsumer mid new → received new ≡ received mid ++ ask ∷ [] → after ≡ held ++ ask ∷ [] → Taking old new before after
-one_more_taken old mid new before held after ask far ring taken more_held = record {
+    → Popped mid new ask → after ≡ held ++ ask ∷ [] → Taking old new before after
+one_more_taken old mid new before held after ask far popped more_held = let ring = popped.ring in record {
   more = far.more ++ ask ∷ [];
   ring = ((ring.0.0 ∙ far.ring.0.0, ring.0.1 ∙ far.ring.0.1, ring.0.2 ∙ far.ring.0.2, ring.0.3 ∙ far.ring.0.3), ring.1 ∙ far.ring.1);
-  taken = taken ∙ ap (λ (asks : List Ask). asks ++ ask ∷ []) far.taken ∙ append_assoc (received old) far.more (ask ∷ []);
+  taken = popped.taken ∙ ap (λ (asks : List Ask). asks ++ ask ∷ []) far.taken ∙ append_assoc (received old) far.more (ask ∷ []);
   held = more_held ∙ ap (λ (asks : List Ask). asks ++ ask ∷ []) far.held ∙ append_assoc before far.more (ask ∷ []);
 }
 

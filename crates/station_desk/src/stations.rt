@@ -36,11 +36,13 @@ fn round<D: Device, L: Ledger + Opening, G: Gate, R: Wait>(
     gate: &G,
     moves: u64,
 ) -> Result<(), WithinRefusal>
-    ensures worked { HasWorked seat.old seat.new desk.old desk.new moves (result ≡ Err (WithinRefusal.Turn TurnRefusal.Device)) }
+    ensures worked { HasWorked seat.old seat.new desk.old desk.new moves (result
+        ≡ Err (WithinRefusal.Turn TurnRefusal.Device)) }
     ensures one_turn { OnOk result (length seat.new.turns ≡ length seat.old.turns + 1) }
     ensures no_turn { OnErr result (seat.new.turns ≡ seat.old.turns) }
     ensures reached { result ≡ Err WithinRefusal.Reached → moves ≤ seat.new.reached }
-    ensures rightly_reached { result ≡ Err WithinRefusal.Reached → HasReached L.device L.line moves }
+    ensures rightly_reached { result ≡ Err WithinRefusal.Reached
+        → HasReached L.device L.line moves }
     ensures denied { result ≡ Err (WithinRefusal.Turn TurnRefusal.NotPrivileged)
         → IsSomeAnd seat.new.denied (IsDeniedAfter L.device L.line seat.old.station) }
     ensures there { result ≢ Err (WithinRefusal.Turn TurnRefusal.NoStation) }
@@ -67,10 +69,12 @@ fn round<D: Device, L: Ledger + Opening, G: Gate, R: Wait>(
 // How a station's run ends by a refusal, where it ends by it: one whose turn it isn't tries again.
 fn end_of(refusal: WithinRefusal) -> Option<End>
     ensures reached { result ≡ Some End.Reached → refusal ≡ WithinRefusal.Reached }
-    ensures device { (result ≡ Some (End.Refused TurnRefusal.Device)) ↔ (refusal ≡ WithinRefusal.Turn TurnRefusal.Device) }
+    ensures device { (result ≡ Some (End.Refused TurnRefusal.Device))
+        ↔ (refusal ≡ WithinRefusal.Turn TurnRefusal.Device) }
     ensures started { result ≢ Some End.NotStarted }
     ensures none { (result ≡ None) ↔ (refusal ≡ WithinRefusal.Turn TurnRefusal.NotPrivileged) }
-    ensures refused { (why : TurnRefusal) → result ≡ Some (End.Refused why) → refusal ≡ WithinRefusal.Turn why }
+    ensures refused { (why : TurnRefusal) → result ≡ Some (End.Refused why)
+        → refusal ≡ WithinRefusal.Turn why }
     ensures stopped { result ≢ Some End.Stopped }
     ensures tries { result ≢ Some End.Tries }
 {
@@ -97,10 +101,12 @@ fn work<D: Device, L: Ledger + Opening, G: Gate, R: Wait>(
     moves: u64,
     tries: u64,
 ) -> End
-    ensures worked { HasWorked seat.old seat.new desk.old desk.new moves (result ≡ End.Refused TurnRefusal.Device) }
+    ensures worked { HasWorked seat.old seat.new desk.old desk.new moves (result
+        ≡ End.Refused TurnRefusal.Device) }
     ensures reached { result ≡ End.Reached → moves ≤ seat.new.reached }
     ensures rightly_reached { result ≡ End.Reached → HasReached L.device L.line moves }
-    ensures tries { result ≡ End.Tries → IsSomeAnd seat.new.denied (IsDeniedAfter L.device L.line seat.old.station) }
+    ensures tries { result ≡ End.Tries
+        → IsSomeAnd seat.new.denied (IsDeniedAfter L.device L.line seat.old.station) }
     ensures refused { result ≢ End.Refused TurnRefusal.NotPrivileged }
     ensures there { result ≢ End.Refused TurnRefusal.NoStation }
     ensures started { result ≢ End.NotStarted }

@@ -1,26 +1,23 @@
 //! Stations in threads. But for those of `beside`, `clients` and `moments`, which need threads at once, each test holds
 //! whatever thread runs when.
-ghost use Rattle.std.specs.Prelude.{◌≡◌, ◌<◌, ◌≤◌, length, IfOk};
-ghost use Rattle.four_state.specs.Configuration.{stations};
+ghost use Rattle.std.specs.Prelude.{◌<◌, length, IfOk};
 ghost use Rattle.station_desk.specs.Pairs.{ArePaired};
 ghost use Rattle.station_desk.specs.PairLaws.{AllStandAt};
 
 mod beside;
 mod clients;
 mod day;
-mod days;
 mod limits;
 mod moments;
+mod requests;
 mod runs;
 mod tries;
 
-use gate_journal::format;
-use line_lock::{Ledger, Line, Office, Opening, Seat};
-use sector_device::{Device, MemoryDevice};
+use line_lock::{Closing, Ledger, Office, Opening, Seat};
+use sector_device::Device;
 use station_desk::{Answer, End, Entry, Feed, Gate, Reconciled, Station, desk, reconcile};
-use std::alloc::Global;
+use std::alloc::{AllocError, Global};
 use std::process::Abort;
-use std::test::Fail;
 
 const TRIES: u64 = 100_000_000;
 
@@ -33,36 +30,11 @@ impl Gate for NoGate {
     fn answered(&self, _station: u8) {}
 }
 
-fn deposit(to: u32, amount: u64) -> Entry {
-    Entry::Deposit {
-        to,
-        amount,
-        reference: 1,
-    }
-}
-
-// As many stations as there are digits.
-fn line<const N: usize>(rt: &impl Abort, x: [u8; N], up: [u8; N]) -> Line
-    ensures { stations result ≡ N }
-{
-    assert!(rt; N < 65);
-    let x = x.map(|bit| bit == 1);
-    let up = up.map(|bit| bit == 1);
-    Line::from_bits(N as u64, &x, &up).expect(rt, "a line")
-}
-
-// An empty journal of 4 slots.
-fn formatted(alloc: Global) -> Result<MemoryDevice, Fail> {
-    let mut device = MemoryDevice::new(alloc, 23)?;
-    format(&mut device, 4)?;
-    Ok(device)
-}
-
 // A feed for each seat, and the stations that serve them.
 fn seated<L: Ledger>(
     alloc: Global,
     seats: Vec<Seat<L>>,
-) -> Result<(Vec<Feed>, Vec<Station<L>>), Fail>
+) -> Result<(Vec<Feed>, Vec<Station<L>>), AllocError>
     ensures { IfOk result (λ made. ArePaired made.0.items made.1.items) }
 {
     let mut feeds = Vec::new(alloc);
@@ -91,7 +63,7 @@ fn reconciled<L: Ledger>(
     alloc: Global,
     feeds: Vec<Feed>,
     stations: Vec<Station<L>>,
-) -> Result<Remains<L>, Fail>
+) -> Result<Remains<L>, AllocError>
     requires { ArePaired feeds.items stations.items }
 {
     let mut accounts = Vec::new(alloc);
@@ -101,7 +73,7 @@ fn reconciled<L: Ledger>(
         let Station { seat, desk, end } = station;
         match reconcile(alloc, feed, desk) {
             Ok(account) => accounts.push(account)?,
-            Err((_, _, error)) => return Err(error.into()),
+            Err((_, _, error)) => return Err(error),
         }
         ends.push(end)?;
         seats.push(seat)?;
@@ -134,7 +106,7 @@ fn closed<D: Device, L: Ledger + Opening>(
     rt: &impl Abort,
     office: Office<D, L>,
     seats: Vec<Seat<L>>,
-) -> line_lock::Closing<D> {
+) -> Closing<D> {
     match office.close(seats) {
         Ok(closing) => closing,
         Err((_, _, refusal)) => panic!(rt; "{refusal}"),

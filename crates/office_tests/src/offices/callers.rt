@@ -1,10 +1,8 @@
 //! Two threads of a caller.
-ghost use Rattle.std.specs.Prelude.{◌≡◌, ◌<◌, length};
-ghost use Rattle.four_state.specs.Configuration.{stations};
+ghost use Rattle.std.specs.Prelude.{◌<◌, length};
 ghost use Rattle.sector_device.specs.MemoryDevice.{memory_device_state};
-ghost use Rattle.line_lock.specs.Opening.{SayTheSame};
+ghost use Rattle.line_lock.specs.Opening.{Names};
 
-use crate::beginnings::{formatted, line};
 use line_lock::{Blank, Closing, Ledger, Line, Office, Opening, Seat, TurnRefusal};
 use sector_device::{Device, MemoryDevice};
 use std::alloc::Global;
@@ -14,6 +12,7 @@ use std::sync::Wait;
 use std::sync::atomic::{AtomicBool, Ordering};
 use std::test::Fail;
 use std::thread::{Threads, for_each_mut, yield_now};
+use test_scenes::{formatted, line};
 
 const TURNS: usize = 50;
 
@@ -64,11 +63,7 @@ fn two_callers_in<L: Ledger + Opening + Send + Sync, R: Abort + Wait + Threads +
     line: Line,
     blank: Blank,
 ) -> Result<(), Fail>
-    requires name { blank.name ≡ L.name }
-    requires parts { blank.parts ≡ L.parts }
-    requires one_each { blank.parts ≡ stations line }
-    requires device { SayTheSame L.device (memory_device_state device) }
-    requires line { L.line ≡ line }
+    requires { Names L.name L.parts L.device L.line blank (memory_device_state device) line }
 {
     let (office, mut seats) = match Office::<MemoryDevice, L>::open(alloc, device, line, blank) {
         Ok(opened) => opened,
@@ -91,7 +86,7 @@ fn two_callers_in<L: Ledger + Opening + Send + Sync, R: Abort + Wait + Threads +
 #[test]
 fn two_callers(rt: HostRuntime) -> Result<(), Fail> {
     let alloc = rt.alloc();
-    let line = line(&rt, [0, 0], [1, 0]);
+    let line = line([0, 0], [1, 0])?;
     let blank = Blank::new(line.stations() as u64);
     two_callers_in::<Brand, _>(&rt, alloc, formatted(alloc, 4)?, line, blank)
 }

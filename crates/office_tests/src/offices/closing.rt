@@ -1,14 +1,51 @@
-//! Closing: what is missing, what is foreign, and what is handed back.
+//! Closing: what is missing, what is foreign, and what is handed back. Who closes an office twice, or not at all, opens it
+//! by hand. Each office has a book of its own, so such a test is a scene that is played in whichever office it is given.
+ghost use Rattle.sector_device.specs.MemoryDevice.{memory_device_state};
+ghost use Rattle.line_lock.specs.Opening.{Names};
 
-use super::{Scene, act, deposit};
-use crate::beginnings::{formatted, line};
-use line_lock::{Clerk, CloseRefusal, Closing, Ledger, Office, Opening, Seat};
+use line_lock::{
+    Blank, Clerk, CloseRefusal, Closing, Ledger, Line, Office, OfficeWork, Opening, Seat,
+    with_office,
+};
 use sector_device::MemoryDevice;
-use std::alloc::Global;
+use std::alloc::{AllocError, Global};
+use std::marker::Brand;
 use std::process::Abort;
 use std::sync::Wait;
 use std::test::Fail;
-use std::thread::Threads;
+use test_scenes::{deposit, formatted, line};
+
+// What is done with an office of two stations.
+trait Scene {
+    fn play<L: Ledger + Opening, R: Abort + Wait>(
+        rt: &R,
+        office: Office<MemoryDevice, L>,
+        seats: Vec<Seat<L>>,
+    ) -> Result<(), Fail>;
+}
+
+// Opens an office of two stations on an empty journal, and plays the scene with it.
+fn act<S: Scene, R: Abort + Wait>(rt: &R, alloc: Global) -> Result<(), Fail> {
+    let device = formatted(alloc, 4)?;
+    let line = line([0, 0], [1, 0])?;
+    let blank = Blank::new(line.stations() as u64);
+    act_in::<S, Brand, R>(rt, alloc, device, line, blank)
+}
+
+fn act_in<S: Scene, L: Ledger + Opening, R: Abort + Wait>(
+    rt: &R,
+    alloc: Global,
+    device: MemoryDevice,
+    line: Line,
+    blank: Blank,
+) -> Result<(), Fail>
+    requires { Names L.name L.parts L.device L.line blank (memory_device_state device) line }
+{
+    match Office::<MemoryDevice, L>::open(alloc, device, line, blank) {
+        Ok((office, seats)) => S::play(rt, office, seats),
+        Err((_, refusal)) => panic!(rt; "{refusal}"),
+    }
+}
 
 // Closes the office, which refuses, and hands out what it handed back.
 fn refused<L: Ledger + Opening>(
@@ -40,7 +77,7 @@ fn closed<L: Ledger + Opening>(
 struct OneSeatIsMissing;
 
 impl Scene for OneSeatIsMissing {
-    fn play<L: Ledger + Opening + Send + Sync, R: Abort + Wait + Threads + Sync>(
+    fn play<L: Ledger + Opening, R: Abort + Wait>(
         rt: &R,
         office: Office<MemoryDevice, L>,
         mut seats: Vec<Seat<L>>,
@@ -51,7 +88,7 @@ impl Scene for OneSeatIsMissing {
 
         // the office goes on after a refusal
         let mut bottom = seats.pop().ok_or("the seat of station 0")?;
-        assert_eq!(rt; office.turn(rt, &mut bottom, &[deposit(7)])?.index, 0);
+        assert_eq!(rt; office.turn(rt, &mut bottom, &[deposit(1, 7)])?.index, 0);
         assert_eq!(rt; office.turn(rt, &mut top, &[])?.index, 1);
         seats.push(bottom)?;
         seats.push(top)?;
@@ -67,36 +104,33 @@ impl Scene for OneSeatIsMissing {
 
 #[test]
 fn a_missing_seat_is_told_and_the_office_goes_on(rt: HostRuntime) -> Result<(), Fail> {
-    let alloc = rt.alloc();
-    act::<OneSeatIsMissing, _>(&rt, alloc, formatted(alloc, 4)?, line(&rt, [0, 0], [1, 0]))
+    act::<OneSeatIsMissing, _>(&rt, rt.alloc())
 }
 
-struct NobodyTookATurn;
+#[derive(Clone, Copy)]
+struct NobodyTakesATurn;
 
-impl Scene for NobodyTookATurn {
-    fn play<L: Ledger + Opening + Send + Sync, R: Abort + Wait + Threads + Sync>(
-        rt: &R,
-        office: Office<MemoryDevice, L>,
+impl OfficeWork<MemoryDevice> for NobodyTakesATurn {
+    type Answer = ();
+
+    type Failure = AllocError;
+
+    fn work<L: Ledger + Opening + Send + Sync>(
+        self,
+        _office: &Office<MemoryDevice, L>,
         seats: Vec<Seat<L>>,
-    ) -> Result<(), Fail> {
-        let Closing { clerk, audit } = closed(rt, office, seats);
-        assert_eq!(rt; clerk.history().len(), 0);
-        assert_eq!(rt; clerk.opening(), line(rt, [1, 1, 0], [1, 1, 0]));
-        assert_eq!(rt;
-            (clerk.opening_balance(1), clerk.opening_next()),
-            (Some(500), 1)
-        );
-        assert_eq!(rt; audit.last, clerk.opening());
-        Ok(())
+    ) -> Result<(Vec<Seat<L>>, ()), AllocError> {
+        let NobodyTakesATurn = self;
+        Ok((seats, ()))
     }
 }
 
 // A device with one posted deposit, after a power failure.
 fn with_one_deposit(rt: &impl Abort, alloc: Global) -> Result<MemoryDevice, Fail> {
     let device = formatted(alloc, 4)?;
-    match Clerk::open(alloc, device, line(rt, [0, 0, 0], [1, 0, 0])) {
+    match Clerk::open(alloc, device, line([0, 0, 0], [1, 0, 0])?) {
         Ok(mut clerk) => {
-            assert_eq!(rt; clerk.turn(0, &[deposit(500)])?.posted, Some(0));
+            assert_eq!(rt; clerk.turn(0, &[deposit(1, 500)])?.posted, Some(0));
             Ok(clerk.into_device())
         }
         Err((_, refusal)) => panic!(rt; "{refusal}"),
@@ -107,32 +141,44 @@ fn with_one_deposit(rt: &impl Abort, alloc: Global) -> Result<MemoryDevice, Fail
 fn close_keeps_opening(rt: HostRuntime) -> Result<(), Fail> {
     let alloc = rt.alloc();
     let device = with_one_deposit(&rt, alloc)?;
-    act::<NobodyTookATurn, _>(&rt, alloc, device, line(&rt, [1, 1, 0], [1, 1, 0]))
+    let opening = line([1, 1, 0], [1, 1, 0])?;
+    match with_office(alloc, device, opening, NobodyTakesATurn) {
+        Ok((Closing { clerk, audit }, _)) => {
+            assert_eq!(rt; clerk.history().len(), 0);
+            assert_eq!(rt; clerk.opening(), opening);
+            assert_eq!(rt;
+                (clerk.opening_balance(1), clerk.opening_next()),
+                (Some(500), 1)
+            );
+            assert_eq!(rt; audit.last, clerk.opening());
+            Ok(())
+        }
+        Err((_, refusal)) => panic!(rt; "{refusal}"),
+    }
 }
 
 struct NobodyCloses;
 
 impl Scene for NobodyCloses {
-    fn play<L: Ledger + Opening + Send + Sync, R: Abort + Wait + Threads + Sync>(
+    fn play<L: Ledger + Opening, R: Abort + Wait>(
         rt: &R,
         office: Office<MemoryDevice, L>,
         mut seats: Vec<Seat<L>>,
     ) -> Result<(), Fail> {
         let mut top = seats.pop().ok_or("the seat of station 1")?;
         let mut bottom = seats.pop().ok_or("the seat of station 0")?;
-        let first = office.turn(rt, &mut bottom, &[deposit(7)])?;
+        let first = office.turn(rt, &mut bottom, &[deposit(1, 7)])?;
         let second = office.turn(rt, &mut top, &[])?;
 
         // it is the bottom station's turn again
         let clerk = office.into_clerk();
         assert!(rt; clerk.history() == [first, second].as_slice());
-        assert_eq!(rt; clerk.opening(), line(rt, [0, 0], [1, 0]));
+        assert_eq!(rt; clerk.opening(), line([0, 0], [1, 0])?);
         Ok(())
     }
 }
 
 #[test]
 fn the_clerk_of_an_office_that_nobody_closes_is_as_it_was(rt: HostRuntime) -> Result<(), Fail> {
-    let alloc = rt.alloc();
-    act::<NobodyCloses, _>(&rt, alloc, formatted(alloc, 4)?, line(&rt, [0, 0], [1, 0]))
+    act::<NobodyCloses, _>(&rt, rt.alloc())
 }

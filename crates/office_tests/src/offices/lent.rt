@@ -1,7 +1,5 @@
 //! An office that is lent to a piece of work.
 
-use super::deposit;
-use crate::beginnings::{formatted, line};
 use line_lock::{
     Clerk, CloseRefusal, Ledger, Office, OfficeRefusal, OfficeWork, OpenRefusal, Opening, Seat,
     TurnRefusal, with_office,
@@ -11,6 +9,7 @@ use std::alloc::Global;
 use std::process::Abort;
 use std::sync::Wait;
 use std::test::Fail;
+use test_scenes::{deposit, formatted, line};
 
 // What becomes of the work after its turn.
 #[derive(Clone, Copy, PartialEq, Eq)]
@@ -41,7 +40,7 @@ impl<'a, R: Wait> OfficeWork<MemoryDevice> for OneTurn<'a, R> {
         let Some(bottom) = seats.first_mut() else {
             return Err(TurnRefusal::NoStation);
         };
-        let turn = office.turn(rt, bottom, &[deposit(7)])?;
+        let turn = office.turn(rt, bottom, &[deposit(1, 7)])?;
         if ends == Ends::ByGivingUp {
             return Err(TurnRefusal::TooMany);
         }
@@ -53,11 +52,12 @@ impl<'a, R: Wait> OfficeWork<MemoryDevice> for OneTurn<'a, R> {
 }
 
 // The device has the turn's batch, as a clerk finds it.
-fn holds_the_turn(rt: &impl Abort, alloc: Global, device: MemoryDevice) {
-    match Clerk::open(alloc, device, line(rt, [0, 0], [1, 0])) {
+fn holds_the_turn(rt: &impl Abort, alloc: Global, device: MemoryDevice) -> Result<(), Fail> {
+    match Clerk::open(alloc, device, line([0, 0], [1, 0])?) {
         Ok(clerk) => assert_eq!(rt; (clerk.next(), clerk.ledger().balance(1)), (1, Some(7))),
         Err((_, refusal)) => panic!(rt; "{refusal}"),
     }
+    Ok(())
 }
 
 #[test]
@@ -67,11 +67,11 @@ fn an_office_is_lent_and_closed(rt: HostRuntime) -> Result<(), Fail> {
         rt: &rt,
         ends: Ends::Well,
     };
-    match with_office(alloc, formatted(alloc, 4)?, line(&rt, [0, 0], [1, 0]), work) {
+    match with_office(alloc, formatted(alloc, 4)?, line([0, 0], [1, 0])?, work) {
         Ok((closing, index)) => {
             assert_eq!(rt; (closing.clerk.history().len(), index), (1, 0));
             assert_eq!(rt; closing.audit.first_legitimate, Some(0));
-            holds_the_turn(&rt, alloc, closing.clerk.into_device());
+            holds_the_turn(&rt, alloc, closing.clerk.into_device())?;
         }
         Err((_, refusal)) => panic!(rt; "{refusal}"),
     }
@@ -90,11 +90,11 @@ fn a_work_that_ends_otherwise_hands_the_device_back(rt: HostRuntime) -> Result<(
     ];
     for (ends, expected) in refusals {
         let work = OneTurn { rt: &rt, ends };
-        match with_office(alloc, formatted(alloc, 4)?, line(&rt, [0, 0], [1, 0]), work) {
+        match with_office(alloc, formatted(alloc, 4)?, line([0, 0], [1, 0])?, work) {
             Ok(_) => panic!(rt; "closed"),
             Err((device, refusal)) => {
                 assert_eq!(rt; refusal, expected);
-                holds_the_turn(&rt, alloc, device);
+                holds_the_turn(&rt, alloc, device)?;
             }
         }
     }
@@ -109,7 +109,7 @@ fn a_device_without_a_journal_is_not_lent(rt: HostRuntime) -> Result<(), Fail> {
         ends: Ends::Well,
     };
     let device = MemoryDevice::new(alloc, 23)?;
-    match with_office(alloc, device, line(&rt, [0, 0], [1, 0]), work) {
+    match with_office(alloc, device, line([0, 0], [1, 0])?, work) {
         Ok(_) => panic!(rt; "opened"),
         Err((_, refusal)) => {
             assert_eq!(rt; refusal, OfficeRefusal::Opening(OpenRefusal::Unformatted));

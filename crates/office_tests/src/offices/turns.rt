@@ -1,49 +1,50 @@
 //! What a seat is answered.
 
-use super::{Scene, act, deposit};
-use crate::beginnings::{formatted, line};
-use line_lock::{Closing, Ledger, Office, Opening, Rule, Seat, Turn, TurnRefusal, WithinRefusal};
+use line_lock::{
+    Closing, Ledger, Office, OfficeWork, Opening, Rule, Seat, Turn, TurnRefusal, WithinRefusal,
+    with_office,
+};
 use sector_device::MemoryDevice;
 use std::process::Abort;
 use std::sync::Wait;
 use std::test::Fail;
-use std::thread::Threads;
+use test_scenes::{deposit, formatted, line};
 
-struct OneTurnAfterTheOther;
+// Two turns, which are the answer, and what the seats are told before, between and after them.
+#[derive(Drop)]
+struct OneTurnAfterTheOther<'a, R> {
+    rt: &'a R,
+}
 
-impl Scene for OneTurnAfterTheOther {
-    fn play<L: Ledger + Opening + Send + Sync, R: Abort + Wait + Threads + Sync>(
-        rt: &R,
-        office: Office<MemoryDevice, L>,
+impl<'a, R: Abort + Wait> OfficeWork<MemoryDevice> for OneTurnAfterTheOther<'a, R> {
+    type Answer = (Turn, Turn);
+
+    type Failure = WithinRefusal;
+
+    fn work<L: Ledger + Opening + Send + Sync>(
+        self,
+        office: &Office<MemoryDevice, L>,
         mut seats: Vec<Seat<L>>,
-    ) -> Result<(), Fail> {
-        let mut top = seats.pop().ok_or("the seat of station 1")?;
-        let mut bottom = seats.pop().ok_or("the seat of station 0")?;
+    ) -> Result<(Vec<Seat<L>>, (Turn, Turn)), WithinRefusal> {
+        let OneTurnAfterTheOther { rt } = self;
+        let mut top = seats.pop().expect(rt, "the seat of station 1");
+        let mut bottom = seats.pop().expect(rt, "the seat of station 0");
         assert_eq!(rt; (bottom.station(), top.station()), (0, 1));
         assert_eq!(rt; (bottom.turns().len(), bottom.denied()), (0, None));
-        let first = bottom_turn(rt, &office, &mut bottom, &mut top)?;
-        let second = top_turn(rt, &office, &mut top)?;
+        let first = bottom_turn(rt, office, &mut bottom, &mut top)?;
+        let second = top_turn(rt, office, &mut top)?;
         assert_eq!(rt; bottom.reached(), 0);
         assert!(rt; bottom.turns() == [first].as_slice() && top.turns() == [second].as_slice());
-        let shown = format!(in *seats.allocator(); "{office:?} {top:?}")?;
+        let shown = format!(in *seats.allocator(); "{office:?} {top:?}").expect(rt, "memory");
         assert_eq!(rt;
             shown.as_str(),
             "Office { .. } Seat { station: 1, turns: 1, denied: Some(2), reached: 1, .. }"
         );
 
         // in whatever order the seats are handed in
-        seats.push(top)?;
-        seats.push(bottom)?;
-        match office.close(seats) {
-            Ok(Closing { clerk, audit }) => {
-                assert!(rt; clerk.history() == [first, second].as_slice());
-                assert_eq!(rt; clerk.ledger().balance(1), Some(5));
-                assert_eq!(rt; audit.last, line(rt, [1, 1], [1, 0]));
-                assert_eq!(rt; audit.first_legitimate, Some(0));
-                Ok(())
-            }
-            Err((_, _, refusal)) => panic!(rt; "{refusal}"),
-        }
+        seats.push(top).expect(rt, "memory");
+        seats.push(bottom).expect(rt, "memory");
+        Ok((seats, (first, second)))
     }
 }
 
@@ -53,11 +54,11 @@ fn bottom_turn<L: Ledger + Opening, R: Abort + Wait>(
     office: &Office<MemoryDevice, L>,
     bottom: &mut Seat<L>,
     top: &mut Seat<L>,
-) -> Result<Turn, Fail> {
+) -> Result<Turn, WithinRefusal> {
     let denied = Err(TurnRefusal::NotPrivileged);
     assert_eq!(rt; office.turn(rt, top, &[]), denied);
     assert_eq!(rt; top.denied(), Some(0));
-    let first = office.turn(rt, bottom, &[deposit(5)])?;
+    let first = office.turn(rt, bottom, &[deposit(1, 5)])?;
     assert_eq!(rt;
         (first.index, first.rule, first.posted),
         (0, Rule::Bottom, Some(0))
@@ -72,7 +73,7 @@ fn top_turn<L: Ledger + Opening, R: Abort + Wait>(
     rt: &R,
     office: &Office<MemoryDevice, L>,
     top: &mut Seat<L>,
-) -> Result<Turn, Fail> {
+) -> Result<Turn, WithinRefusal> {
     let stopped = office.turn_within(rt, top, &[], 1);
     assert_eq!(rt; (stopped, top.reached()), (Err(WithinRefusal::Reached), 1));
     let second = office.turn_within(rt, top, &[], 2)?;
@@ -92,5 +93,15 @@ fn top_turn<L: Ledger + Opening, R: Abort + Wait>(
 #[test]
 fn turns_are_listed_and_refusals_noted(rt: HostRuntime) -> Result<(), Fail> {
     let alloc = rt.alloc();
-    act::<OneTurnAfterTheOther, _>(&rt, alloc, formatted(alloc, 4)?, line(&rt, [0, 0], [1, 0]))
+    let work = OneTurnAfterTheOther { rt: &rt };
+    match with_office(alloc, formatted(alloc, 4)?, line([0, 0], [1, 0])?, work) {
+        Ok((Closing { clerk, audit }, (first, second))) => {
+            assert!(rt; clerk.history() == [first, second].as_slice());
+            assert_eq!(rt; clerk.ledger().balance(1), Some(5));
+            assert_eq!(rt; audit.last, line([1, 1], [1, 0])?);
+            assert_eq!(rt; audit.first_legitimate, Some(0));
+            Ok(())
+        }
+        Err((_, refusal)) => panic!(rt; "{refusal}"),
+    }
 }

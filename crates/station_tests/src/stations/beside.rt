@@ -1,6 +1,6 @@
 //! Threads at once: a station gathers while another one's sync is under way.
 
-use super::{TRIES, deposit, formatted, line};
+use super::TRIES;
 use fault_injector::{Held, HeldFlags};
 use office_day::{Closing, run_office};
 use station_desk::{Gate, Outcome, desk};
@@ -9,6 +9,7 @@ use std::sync::Arc;
 use std::sync::atomic::{AtomicBool, Ordering};
 use std::test::Fail;
 use std::thread::yield_now;
+use test_scenes::{deposit, formatted, line};
 
 const LOOKS: u32 = 10_000_000;
 
@@ -45,7 +46,7 @@ impl Gate for BesideSync {
 fn gather_runs_beside_sync(rt: HostRuntime) -> Result<(), Fail> {
     let alloc = rt.alloc();
     let flags = Arc::new(alloc, HeldFlags::new())?;
-    let device = Held::new(formatted(alloc)?, 1, Arc::try_clone(&flags)?);
+    let device = Held::new(formatted(alloc, 4)?, 1, Arc::try_clone(&flags)?);
     let gate = BesideSync {
         flags,
         asked: AtomicBool::new(false),
@@ -57,7 +58,7 @@ fn gather_runs_beside_sync(rt: HostRuntime) -> Result<(), Fail> {
     let mut desks = Vec::new(alloc);
     desks.push(bottom)?;
     desks.push(top)?;
-    let line = line(&rt, [0, 0], [1, 0]);
+    let line = line([0, 0], [1, 0])?;
     let run = run_office(&rt, alloc, device, line, desks, &gate, 1, TRIES);
     let (closing, left) = match run {
         Ok(run) => run,

@@ -1,15 +1,12 @@
 //! Clients that submit and collect while the stations take turns. Like its neighbour it needs threads at once.
 ghost use Rattle.std.specs.Prelude.{◌≡◌, map, IfOk};
 ghost use Rattle.sector_device.specs.MemoryDevice.{memory_device_state};
-ghost use Rattle.four_state.specs.Configuration.{stations};
-ghost use Rattle.line_lock.specs.Opening.{SayTheSame};
-ghost use Rattle.station_desk.specs.Pairs.{ArePaired};
+ghost use Rattle.line_lock.specs.Opening.{Names};
 ghost use Rattle.station_desk.specs.PairLaws.{AllStandAt};
 ghost use Rattle.station_desk.specs.Rings.{StandsAt};
 ghost use Rattle.station_desk.specs.Run.{HaveRun};
 
-use super::{NoGate, Remains, TRIES, closed, deposit, line, reconciled, seated};
-use gate_journal::format;
+use super::{NoGate, Remains, TRIES, closed, reconciled, seated};
 use line_lock::{Blank, Closing, Ledger, Line, Office, Opening};
 use sector_device::{Device, MemoryDevice};
 use station_desk::{Answer, End, Feed, Outcome, Reconciled, Station, run_stations};
@@ -20,6 +17,7 @@ use std::sync::Wait;
 use std::sync::atomic::{AtomicBool, Ordering};
 use std::test::Fail;
 use std::thread::{Threads, for_each_mut, join_mut, yield_now};
+use test_scenes::{deposit, formatted, line};
 
 const REQUESTS: u64 = 200;
 
@@ -176,11 +174,7 @@ fn many_moves<L: Ledger + Opening + Send + Sync, R: Abort + Wait + Threads + Syn
     line: Line,
     blank: Blank,
 ) -> Result<(), Fail>
-    requires name { blank.name ≡ L.name }
-    requires parts { blank.parts ≡ L.parts }
-    requires one_each { blank.parts ≡ stations line }
-    requires device { SayTheSame L.device (memory_device_state device) }
-    requires line { L.line ≡ line }
+    requires { Names L.name L.parts L.device L.line blank (memory_device_state device) line }
 {
     let (office, seats) = match Office::<MemoryDevice, L>::open(alloc, device, line, blank) {
         Ok(opened) => opened,
@@ -212,9 +206,7 @@ fn many_moves<L: Ledger + Opening + Send + Sync, R: Abort + Wait + Threads + Syn
 #[test]
 fn clients_beside_stations(rt: HostRuntime) -> Result<(), Fail> {
     let alloc = rt.alloc();
-    let line = line(&rt, [0, 0], [1, 0]);
+    let line = line([0, 0], [1, 0])?;
     let blank = Blank::new(line.stations() as u64);
-    let mut device = MemoryDevice::new(alloc, 2_000)?;
-    format(&mut device, 400)?;
-    many_moves::<Brand, _>(&rt, alloc, device, line, blank)
+    many_moves::<Brand, _>(&rt, alloc, formatted(alloc, 400)?, line, blank)
 }

@@ -1,9 +1,10 @@
 //! Days as a library has them.
-use super::{TRIES, deposit, formatted, line};
+use super::TRIES;
 use office_day::{Ask, Day, DayRefusal, End, HeldEntries, OpenRefusal, Outcome, run_day};
 use sector_device::{Device, MemoryDevice};
 use std::alloc::Global;
 use std::test::Fail;
+use test_scenes::{deposit, formatted, line};
 
 // What two stations hold: the bottom one a deposit.
 fn held(alloc: Global) -> Result<[HeldEntries; 2], Fail> {
@@ -15,8 +16,8 @@ fn held(alloc: Global) -> Result<[HeldEntries; 2], Fail> {
 #[test]
 fn a_day_accounts_for_each_request(rt: HostRuntime) -> Result<(), Fail> {
     let alloc = rt.alloc();
-    let line = line(&rt, [0, 0], [1, 0]);
-    let device = formatted(alloc)?;
+    let line = line([0, 0], [1, 0])?;
+    let device = formatted(alloc, 4)?;
     let held = held(alloc)?;
     assert_eq!(rt; held.len(), line.stations() as usize);
     let day = match run_day(&rt, alloc, device, line, &held, 3, TRIES) {
@@ -47,7 +48,7 @@ fn a_day_accounts_for_each_request(rt: HostRuntime) -> Result<(), Fail> {
 #[test]
 fn a_day_that_can_not_be_opened_gives_the_device_back(rt: HostRuntime) -> Result<(), Fail> {
     let alloc = rt.alloc();
-    let line = line(&rt, [0, 0], [1, 0]);
+    let line = line([0, 0], [1, 0])?;
     let device = MemoryDevice::new(alloc, 9)?;
     let held = held(alloc)?;
     assert_eq!(rt; held.len(), line.stations() as usize);

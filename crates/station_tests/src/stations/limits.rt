@@ -1,5 +1,5 @@
 //! Days of many stations, and of many turns.
-use super::{TRIES, formatted, line};
+use super::TRIES;
 use line_lock::Line;
 use office_day::{End, HeldEntries, run_day};
 use std::alloc::Global;
@@ -7,6 +7,7 @@ use std::process::Abort;
 use std::sync::Wait;
 use std::test::Fail;
 use std::thread::Threads;
+use test_scenes::{formatted, line};
 
 // A day on which nobody asks for anything: it has as many turns as are wanted, and each station ends for that. How many of
 // the turns are the bottom station's.
@@ -24,7 +25,7 @@ fn empty_day<R: Abort + Wait + Threads + Sync>(
     let day = match run_day(
         rt,
         alloc,
-        formatted(alloc)?,
+        formatted(alloc, 4)?,
         line,
         held.as_slice(),
         moves,
@@ -47,14 +48,14 @@ fn empty_day<R: Abort + Wait + Threads + Sync>(
 fn sixty_four_stations_have_a_thread_each(rt: HostRuntime) -> Result<(), Fail> {
     let mut up = [0; 64];
     up[0] = 1;
-    let bottom = empty_day(&rt, rt.alloc(), line(&rt, [0; 64], up), 200)?;
+    let bottom = empty_day(&rt, rt.alloc(), line([0; 64], up)?, 200)?;
     assert_eq!(rt; bottom, 2);
     Ok(())
 }
 
 #[test]
 fn a_station_takes_seventeen_thousand_turns_in_a_day(rt: HostRuntime) -> Result<(), Fail> {
-    let bottom = empty_day(&rt, rt.alloc(), line(&rt, [0, 0], [1, 0]), 34_000)?;
+    let bottom = empty_day(&rt, rt.alloc(), line([0, 0], [1, 0])?, 34_000)?;
     assert_eq!(rt; bottom, 17_000);
     Ok(())
 }

@@ -1,12 +1,12 @@
 //! What a station does when, as a gate sees it.
-use super::runs::run_lowest;
-use super::{deposit, line};
+use super::runs::{PartRun, desks, played};
 use station_desk::{Desk, End, Feed, Gate, desk};
 use std::alloc::Global;
 use std::sync::Mutex;
 use std::sync::atomic::{AtomicU64, Ordering};
 use std::test::Fail;
 use std::thread::yield_now;
+use test_scenes::{deposit, line};
 
 const LOOKS: u32 = 1_000_000;
 
@@ -18,16 +18,6 @@ fn wait_for(count: &AtomicU64, many: u64) {
         }
         yield_now();
     }
-}
-
-// Desks that nobody stands at.
-fn desks(alloc: Global, count: usize) -> Result<Vec<Desk>, Fail> {
-    let mut desks = Vec::new(alloc);
-    for _ in 0..count {
-        let (_, desk) = desk(alloc, 4)?;
-        desks.push(desk)?;
-    }
-    Ok(desks)
 }
 
 // Stands at the feed of a station: submits one more deposit each time that the station has gathered, and counts the
@@ -77,7 +67,14 @@ fn answers_are_there_when_a_gate_hears_of_them_and_what_comes_after_gathering_wa
     };
     let mut desks = Vec::new(alloc);
     desks.push(desk)?;
-    let left = run_lowest(&rt, alloc, line(&rt, [0, 0], [1, 0]), desks, &gate, 1, 0)?;
+    let run = PartRun {
+        first: 0,
+        desks,
+        gate: &gate,
+        moves: 1,
+        tries: 0,
+    };
+    let left = played(&rt, alloc, line([0, 0], [1, 0])?, run)?;
 
     let bottom = left.get(0).ok_or("the bottom station")?;
     assert_eq!(rt; (bottom.end, bottom.turns.len()), (End::Reached, 1));
@@ -131,8 +128,15 @@ fn tries_begin_anew_with_a_turn(rt: HostRuntime) -> Result<(), Fail> {
         gathered: AtomicU64::new(0),
         answered: AtomicU64::new(0),
     };
-    let line = line(&rt, [0, 0, 1], [1, 0, 0]);
-    let left = run_lowest(&rt, alloc, line, desks(alloc, 2)?, &gate, 100, 2)?;
+    let line = line([0, 0, 1], [1, 0, 0])?;
+    let run = PartRun {
+        first: 0,
+        desks: desks(alloc, 2)?,
+        gate: &gate,
+        moves: 100,
+        tries: 2,
+    };
+    let left = played(&rt, alloc, line, run)?;
 
     let station = left.get(1).ok_or("station 1")?;
     assert_eq!(rt; (station.end, station.turns.len()), (End::Tries, 3));
@@ -176,8 +180,15 @@ fn a_station_that_gives_up_stops_one_that_is_privileged(rt: HostRuntime) -> Resu
         gathered: AtomicU64::new(0),
         answered: AtomicU64::new(0),
     };
-    let line = line(&rt, [0, 0, 1], [1, 0, 0]);
-    let left = run_lowest(&rt, alloc, line, desks(alloc, 2)?, &gate, 100, 0)?;
+    let line = line([0, 0, 1], [1, 0, 0])?;
+    let run = PartRun {
+        first: 0,
+        desks: desks(alloc, 2)?,
+        gate: &gate,
+        moves: 100,
+        tries: 0,
+    };
+    let left = played(&rt, alloc, line, run)?;
 
     assert_eq!(rt; left.len(), 2);
     assert_eq!(rt; (left[0].end, left[1].end), (End::Stopped, End::Tries));

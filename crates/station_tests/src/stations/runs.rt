@@ -1,77 +1,95 @@
-//! A run of the lowest stations of a line, with a gate that a test gives.
-ghost use Rattle.std.specs.Prelude.{◌≡◌};
+//! A run of some stations of a line, with a gate that a test gives.
 ghost use Rattle.sector_device.specs.MemoryDevice.{memory_device_state};
-ghost use Rattle.four_state.specs.Configuration.{stations};
-ghost use Rattle.line_lock.specs.Opening.{SayTheSame};
+ghost use Rattle.line_lock.specs.Opening.{Names};
 
-use super::formatted;
-use line_lock::{Blank, Ledger, Line, Office, Opening, Turn};
+use line_lock::{Blank, Ledger, Line, Office, Opening, Seat, Turn};
 use sector_device::MemoryDevice;
-use station_desk::{Desk, End, Gate, Station, run_stations};
-use std::alloc::Global;
+use station_desk::{Desk, End, Gate, Station, desk, run_stations};
+use std::alloc::{AllocError, Global};
 use std::marker::Brand;
 use std::process::Abort;
 use std::sync::Wait;
 use std::test::Fail;
 use std::thread::Threads;
+use test_scenes::formatted;
 
-// What a run leaves of a station: how it ended, and the turns that it took.
+// What a run leaves of a station: how it ended, the turns that it took, and when it was last denied one.
 #[derive(Drop)]
 pub(super) struct Left {
     pub end: End,
     pub turns: Vec<Turn>,
+    pub denied: Option<u64>,
 }
 
-// Runs as many stations as there are desks, the bottom one first, over an empty journal.
-pub(super) fn run_lowest<G: Gate + Sync, R: Abort + Wait + Threads + Sync>(
+// A run: as many stations as there are desks, from this one on.
+#[derive(Drop)]
+pub(super) struct PartRun<'a, G> {
+    pub first: usize,
+    pub desks: Vec<Desk>,
+    pub gate: &'a G,
+    pub moves: u64,
+    pub tries: u64,
+}
+
+// The run, over an empty journal.
+pub(super) fn played<'a, G: Gate + Sync, R: Abort + Wait + Threads + Sync>(
     rt: &R,
     alloc: Global,
     line: Line,
-    desks: Vec<Desk>,
-    gate: &G,
-    moves: u64,
-    tries: u64,
+    run: PartRun<'a, G>,
 ) -> Result<Vec<Left>, Fail> {
     let blank = Blank::new(line.stations() as u64);
-    let device = formatted(alloc)?;
-    run_in::<G, Brand, R>(rt, alloc, device, line, blank, desks, gate, moves, tries)
+    let device = formatted(alloc, 4)?;
+    play_in::<G, Brand, R>(rt, alloc, device, line, blank, run)
 }
 
-fn run_in<G: Gate + Sync, L: Ledger + Opening + Send + Sync, R: Abort + Wait + Threads + Sync>(
+fn play_in<'a, G: Gate + Sync, L: Ledger + Opening + Send + Sync, R: Abort + Wait + Threads + Sync>(
     rt: &R,
     alloc: Global,
     device: MemoryDevice,
     line: Line,
     blank: Blank,
-    desks: Vec<Desk>,
-    gate: &G,
-    moves: u64,
-    tries: u64,
+    run: PartRun<'a, G>,
 ) -> Result<Vec<Left>, Fail>
-    requires name { blank.name ≡ L.name }
-    requires parts { blank.parts ≡ L.parts }
-    requires one_each { blank.parts ≡ stations line }
-    requires device { SayTheSame L.device (memory_device_state device) }
-    requires line { L.line ≡ line }
+    requires { Names L.name L.parts L.device L.line blank (memory_device_state device) line }
 {
     let (office, seats) = match Office::<MemoryDevice, L>::open(alloc, device, line, blank) {
         Ok(opened) => opened,
         Err((_, refusal)) => panic!(rt; "{refusal}"),
     };
+    let PartRun {
+        first,
+        desks,
+        gate,
+        moves,
+        tries,
+    } = run;
     let mut stations = Vec::new(alloc);
-    for (seat, desk) in seats.into_iter().zip(desks) {
+    for (seat, desk) in seats.into_iter().skip(first).zip(desks) {
         let end = End::NotStarted;
         stations.push(Station { seat, desk, end })?;
     }
     run_stations(rt, &office, stations.as_mut_slice(), gate, moves, tries);
+    left_by(alloc, stations)
+}
+
+fn left_by<L: Ledger>(alloc: Global, stations: Vec<Station<L>>) -> Result<Vec<Left>, Fail> {
     let mut left = Vec::new(alloc);
-    for station in stations {
+    for Station { seat, end, .. } in stations {
         let mut turns = Vec::new(alloc);
-        turns.extend_from_slice(station.seat.turns())?;
-        left.push(Left {
-            end: station.end,
-            turns,
-        })?;
+        turns.extend_from_slice(seat.turns())?;
+        let denied = seat.denied();
+        left.push(Left { end, turns, denied })?;
     }
     Ok(left)
+}
+
+// Desks that nobody stands at.
+pub(super) fn desks(alloc: Global, count: usize) -> Result<Vec<Desk>, AllocError> {
+    let mut desks = Vec::new(alloc);
+    for _ in 0..count {
+        let (_, desk) = desk(alloc, 4)?;
+        desks.push(desk)?;
+    }
+    Ok(desks)
 }

@@ -15,7 +15,7 @@ loop-preserved c =
     let ask : Ask = c.in-Ok.ask in
     record {
       taking = one_more_taken c.args.asks.now c.loop.asks c.pop.new.self c.args.held.now c.loop.held c.push.new.self ask c.loop.invariant.taking
-          c.pop.ensures.ring c.in-Ok.ensures.ok.0 c.push.ensures;
+          (record { ring = c.pop.ensures.ring; taken = c.in-Ok.ensures.ok.0 }) c.push.ensures;
       count = omega (arith, ap length c.push.ensures, length_push c.loop.held ask, c.loop.invariant.count);
     }
 

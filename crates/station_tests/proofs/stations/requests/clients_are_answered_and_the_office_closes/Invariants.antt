@@ -1,5 +1,5 @@
 use Rattle.sector_device.specs.MemoryDevice.{memory_device_state}
-use Rattle.station_tests.proofs.stations.days.clients_are_answered_and_the_office_closes.Given as goal
+use Rattle.station_tests.proofs.stations.requests.clients_are_answered_and_the_office_closes.Given as goal
 
 abbrev pub ghosts-eight_moves-L-Ledger : goal.ghosts-eight_moves-L-Ledger
 ghosts-eight_moves-L-Ledger g a = record { name = a.blank.name; parts = a.blank.parts }

@@ -1,5 +1,5 @@
 use Rattle.sector_device.specs.MemoryDevice.{memory_device_state}
-use Rattle.line_lock.proofs.tests.act.Given as goal
+use Rattle.office_tests.proofs.offices.closing.act.Given as goal
 
 abbrev pub ghosts-act_in-L-Ledger : goal.ghosts-act_in-L-Ledger
 ghosts-act_in-L-Ledger g a = record { name = a.blank.name; parts = a.blank.parts }

@@ -1,6 +1,6 @@
 use Rattle.std.proofs.Common.{rules}
 use Rattle.station_tests.proofs.Kept.{Kept, kept-feeds, kept-stations}
-use Rattle.station_tests.proofs.stations.days.a_failed_sync.Goals as goal
+use Rattle.station_tests.proofs.stations.requests.a_failed_sync.Goals as goal
 
 pub reconciled-requires : goal.reconciled-requires
 reconciled-requires g c =

@@ -1,18 +1,14 @@
-//! Days of an office, from its opening to its closing.
-ghost use Rattle.std.specs.Prelude.{◌≡◌};
+//! What becomes of requests, from the opening of an office to its closing.
 ghost use Rattle.sector_device.specs.MemoryDevice.{memory_device_state};
-ghost use Rattle.four_state.specs.Configuration.{stations};
 ghost use Rattle.fault_injector.specs.OneFault.{one_fault_state};
-ghost use Rattle.line_lock.specs.Opening.{SayTheSame};
+ghost use Rattle.line_lock.specs.Opening.{Names};
 
-use super::{
-    NoGate, Remains, TRIES, closed, collect, deposit, formatted, line, reconciled, seated, submit,
-};
+use super::{NoGate, Remains, TRIES, closed, collect, reconciled, seated, submit};
 use fault_injector::{OneFault, Op};
 use line_lock::{Blank, Closing, Ledger, Line, Office, Opening};
 use sector_device::{Device, MemoryDevice};
 use station_desk::{
-    Answer, Ask, End, Entry, EntryRefusal, Outcome, Reconciled, TurnRefusal, run_stations,
+    Answer, Ask, End, EntryRefusal, Outcome, Reconciled, TurnRefusal, run_stations,
 };
 use std::alloc::Global;
 use std::marker::Brand;
@@ -20,23 +16,7 @@ use std::process::Abort;
 use std::sync::Wait;
 use std::test::Fail;
 use std::thread::Threads;
-
-fn withdrawal(from: u32, amount: u64) -> Entry {
-    Entry::Withdraw {
-        from,
-        amount,
-        reference: 4,
-    }
-}
-
-fn transfer(from: u32, to: u32, amount: u64) -> Entry {
-    Entry::Transfer {
-        from,
-        to,
-        amount,
-        reference: 3,
-    }
-}
+use test_scenes::{deposit, formatted, line, transfer, withdrawal};
 
 // What an answer says: its ticket, and what became of its entry.
 fn told(answer: Option<&Answer>) -> Option<(u64, Outcome)> {
@@ -70,11 +50,7 @@ fn eight_moves<L: Ledger + Opening + Send + Sync, R: Abort + Wait + Threads + Sy
     line: Line,
     blank: Blank,
 ) -> Result<(), Fail>
-    requires name { blank.name ≡ L.name }
-    requires parts { blank.parts ≡ L.parts }
-    requires one_each { blank.parts ≡ stations line }
-    requires device { SayTheSame L.device (memory_device_state device) }
-    requires line { L.line ≡ line }
+    requires { Names L.name L.parts L.device L.line blank (memory_device_state device) line }
 {
     let (office, seats) = match Office::<MemoryDevice, L>::open(alloc, device, line, blank) {
         Ok(opened) => opened,
@@ -113,9 +89,9 @@ fn eight_moves<L: Ledger + Opening + Send + Sync, R: Abort + Wait + Threads + Sy
 #[test]
 fn clients_are_answered_and_the_office_closes(rt: HostRuntime) -> Result<(), Fail> {
     let alloc = rt.alloc();
-    let line = line(&rt, [0, 0, 0], [1, 0, 0]);
+    let line = line([0, 0, 0], [1, 0, 0])?;
     let blank = Blank::new(line.stations() as u64);
-    eight_moves::<Brand, _>(&rt, alloc, formatted(alloc)?, line, blank)
+    eight_moves::<Brand, _>(&rt, alloc, formatted(alloc, 4)?, line, blank)
 }
 
 // The request of the first client is undecided, those of the two others have no answer.
@@ -144,11 +120,8 @@ fn a_failed_sync<L: Ledger + Opening + Send + Sync, R: Abort + Wait + Threads + 
     line: Line,
     blank: Blank,
 ) -> Result<(), Fail>
-    requires name { blank.name ≡ L.name }
-    requires parts { blank.parts ≡ L.parts }
-    requires one_each { blank.parts ≡ stations line }
-    requires device { SayTheSame L.device (one_fault_state memory_device_state device) }
-    requires line { L.line ≡ line }
+    requires { Names L.name L.parts L.device L.line blank
+        (one_fault_state memory_device_state device) line }
 {
     let opened = Office::<OneFault<MemoryDevice>, L>::open(alloc, device, line, blank);
     let (office, seats) = match opened {
@@ -181,8 +154,8 @@ fn a_failed_sync<L: Ledger + Opening + Send + Sync, R: Abort + Wait + Threads + 
 #[test]
 fn a_station_on_a_failed_device_stops_the_others(rt: HostRuntime) -> Result<(), Fail> {
     let alloc = rt.alloc();
-    let line = line(&rt, [0, 0, 0], [1, 0, 0]);
+    let line = line([0, 0, 0], [1, 0, 0])?;
     let blank = Blank::new(line.stations() as u64);
-    let device = OneFault::new(formatted(alloc)?, Op::Sync, 1);
+    let device = OneFault::new(formatted(alloc, 4)?, Op::Sync, 1);
     a_failed_sync::<Brand, _>(&rt, alloc, device, line, blank)
 }

@@ -1,6 +1,6 @@
 use Rattle.std.proofs.Common.{rules}
 use Rattle.station_tests.proofs.Kept.{Kept, kept-feeds, kept-stations}
-use Rattle.station_tests.proofs.stations.days.eight_moves.Goals as goal
+use Rattle.station_tests.proofs.stations.requests.eight_moves.Goals as goal
 
 pub reconciled-requires : goal.reconciled-requires
 reconciled-requires g c =
