@@ -65,6 +65,14 @@ impl MemoryDevice {
         })
     }
 
+    /// The bytes of a sector, as a read gives them.
+    pub fn sector(&self, at: u64) -> &Sector
+        requires { at < length (memory_device_state self.now).reads }
+        ensures { result.now ≡ sector_at (memory_device_state self.now).reads at }
+    {
+        &self.sectors[at as usize]
+    }
+
     /// Whether a write to the sector answered `Ok` since the last sync that answered `Ok`.
     pub fn pending(&self, at: u64) -> bool
         requires { at < length (memory_device_state self.now).reads }
