@@ -24,6 +24,3 @@ pub use std::sync::ledger::{Blank, Ledger};
 pub use sweep_auditor::Audit;
 pub use turn_clerk::{Clerk, OpenRefusal, Turn, TurnRefusal};
 pub use turn_ledger::{BATCH_LIMIT, Entry};
-
-#[cfg(test)]
-mod tests;
