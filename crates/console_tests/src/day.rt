@@ -57,8 +57,11 @@ fn a_day_needs_an_office_and_some_turns(rt: HostRuntime) -> Result<(), Fail> {
     for script in ["day 0", "day 100001"] {
         let (output, end) = told(&rt, rt.alloc(), script)?;
         let cause = LineFault::BadNumber;
-        assert_eq!(rt; end, Err(ScriptFault::Line { line: 1, cause }), "{script}");
-        assert_eq!(rt; output.len(), 0);
+        assert!(rt;
+            end == Err(ScriptFault::Line { line: 1, cause }),
+            "{script}"
+        );
+        assert!(rt; output.len() == 0);
     }
     Ok(())
 }
@@ -96,7 +99,7 @@ fn a_day_takes_what_one_turn_refuses(rt: HostRuntime) -> Result<(), Fail> {
     }
     script.push_str("turn 0\nday 3\npost 0 deposit 1 1\nbalances\n")?;
     let (output, end) = told(&rt, alloc, script.as_str())?;
-    assert_eq!(rt; end, Ok(()));
+    assert!(rt; end == Ok(()));
     let output = output.as_slice();
     for part in [
         "held 0 16\nrefused TooMany\nturn 0 station 0 Bottom posted 0\nentry 0 ok\n",
@@ -172,7 +175,7 @@ fn a_day_that_can_not_begin(rt: HostRuntime) -> Result<(), Fail> {
     let output = told_with_a_fault(&rt, rt.alloc(), 1, script)?;
     let wanted =
         "opened 2 next 0 total 0\nheld 0 1\nrefused Device\nrefused NoOffice\nopened 2 next 0 total 0\nheld 0 1\nturn 0 station 0 Bottom posted 0\nentry 0 ok\n";
-    assert_eq!(rt; output.as_slice(), wanted.as_bytes());
+    assert!(rt; output.as_slice() == wanted.as_bytes());
     Ok(())
 }
 
@@ -199,7 +202,7 @@ fn bits_from(alloc: Global, stations: u64, number: u64) -> Result<String, Fail> 
 fn a_day_from_any_bits_becomes_legitimate(rt: HostRuntime) -> Result<(), Fail> {
     let alloc = rt.alloc();
     let (output, end) = told(&rt, alloc, "format 4\nopen 4 0101 1000\nday 26\n")?;
-    assert_eq!(rt; end, Ok(()));
+    assert!(rt; end == Ok(()));
     assert!(rt; has(output.as_slice(), "\nday 26 legitimate at "));
     assert!(rt; legitimate_at(output.as_slice()).is_some_and(|index| index <= 7));
     let mut number = 1u64;
@@ -214,7 +217,7 @@ fn a_day_from_any_bits_becomes_legitimate(rt: HostRuntime) -> Result<(), Fail> {
             let up = bits_from(alloc, stations, number >> 40)?;
             let script = format!(in alloc; "format 4\nopen {stations} {x} {up}\nday {bound}\n")?;
             let (output, end) = told(&rt, alloc, script.as_str())?;
-            assert_eq!(rt; end, Ok(()));
+            assert!(rt; end == Ok(()));
             let index = legitimate_at(output.as_slice());
             assert!(rt; index.is_some_and(|index| index <= bound), "{script}");
         }

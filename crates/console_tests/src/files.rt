@@ -31,8 +31,8 @@ fn prints<S: Abort + Files<File = File> + Threads + Wait + Sync>(
     wanted: &str,
 ) -> Result<(), Fail> {
     let (status, output, errors) = run_on(rt, alloc, path, script)?;
-    assert_eq!(rt; (status, errors.len()), (0, 0), "{script}");
-    assert_eq!(rt; output.as_slice(), wanted.as_bytes(), "{script}");
+    assert!(rt; (status, errors.len()) == (0, 0), "{script}");
+    assert!(rt; output.as_slice() == wanted.as_bytes(), "{script}");
     Ok(())
 }
 
@@ -43,8 +43,8 @@ fn fails<S: Abort + Files<File = File> + Threads + Wait + Sync>(
     script: &str,
 ) -> Result<(), Fail> {
     let (status, output, errors) = run_on(rt, alloc, path, script)?;
-    assert_eq!(rt; (status, output.len()), (1, 0));
-    assert_eq!(rt; errors.as_slice(), b"device failed\n".as_slice());
+    assert!(rt; (status, output.len()) == (1, 0));
+    assert!(rt; errors.as_slice() == b"device failed\n".as_slice());
     Ok(())
 }
 
@@ -61,7 +61,7 @@ fn a_file_keeps_what_was_posted(rt: HostRuntime) -> Result<(), Fail> {
         "open 2 00 10\nbalances\n",
         "opened 2 next 1 total 500\naccount 1 500\ntotal 500\n",
     )?;
-    assert_eq!(rt; fs::metadata(&rt, path)?.len(), 64 * 512);
+    assert!(rt; fs::metadata(&rt, path)?.len() == 64 * 512);
     fs::remove_file(&rt, path)?;
     Ok(())
 }
@@ -86,7 +86,7 @@ fn a_file_of_broken_sectors_is_refused(rt: HostRuntime) -> Result<(), Fail> {
     let path = "broken.ledger";
     fs::write(&rt, path, &[0; 511])?;
     fails(&rt, rt.alloc(), path, "format 4\n")?;
-    assert_eq!(rt; fs::metadata(&rt, path)?.len(), 511);
+    assert!(rt; fs::metadata(&rt, path)?.len() == 511);
     fs::remove_file(&rt, path)?;
     Ok(())
 }

@@ -26,8 +26,8 @@ pub fn prints<R: Abort + Threads + Wait + Sync>(
     wanted: &str,
 ) -> Result<(), Fail> {
     let (output, end) = told(rt, alloc, script)?;
-    assert_eq!(rt; end, Ok(()), "{script}");
-    assert_eq!(rt; output.as_slice(), wanted.as_bytes(), "{script}");
+    assert!(rt; end == Ok(()), "{script}");
+    assert!(rt; output.as_slice() == wanted.as_bytes(), "{script}");
     Ok(())
 }
 
@@ -122,11 +122,11 @@ fn refusals_come_in_their_order(rt: HostRuntime) -> Result<(), Fail> {
     ];
     for (script, wanted) in table {
         let (output, end) = told(&rt, rt.alloc(), script)?;
-        assert_eq!(rt; end, Ok(()), "{script}");
+        assert!(rt; end == Ok(()), "{script}");
         let opened = "formatted 1\nopened 2 next 0 total 0\n";
         let output = output.as_slice();
         let rest = output.strip_prefix(opened.as_bytes()).unwrap_or(output);
-        assert_eq!(rt; rest, wanted.as_bytes(), "{script}");
+        assert!(rt; rest == wanted.as_bytes(), "{script}");
     }
     Ok(())
 }
@@ -150,7 +150,7 @@ fn a_station_holds_sixteen_entries(rt: HostRuntime) -> Result<(), Fail> {
     }
     script.push_str("turn 0\npost 1 deposit 1 1\n")?;
     let (output, end) = told(&rt, alloc, script.as_str())?;
-    assert_eq!(rt; end, Ok(()));
+    assert!(rt; end == Ok(()));
     let wanted = b"held 0 16\nrefused HeldFull\nrefused TooMany\nheld 1 1\n";
     assert!(rt; output.as_slice().ends_with(wanted));
     Ok(())
@@ -176,8 +176,8 @@ fn an_empty_script_prints_nothing(rt: HostRuntime) -> Result<(), Fail> {
 fn a_wrong_line_ends_the_script(rt: HostRuntime) -> Result<(), Fail> {
     let (output, end) = told(&rt, rt.alloc(), "\n# x\nformat 4\n  \nfrob\nformat 2\n")?;
     let (line, cause) = (5, LineFault::UnknownCommand);
-    assert_eq!(rt; end, Err(ScriptFault::Line { line, cause }));
-    assert_eq!(rt; output.as_slice(), b"formatted 4\n".as_slice());
+    assert!(rt; end == Err(ScriptFault::Line { line, cause }));
+    assert!(rt; output.as_slice() == b"formatted 4\n".as_slice());
     Ok(())
 }
 
@@ -243,9 +243,9 @@ fn the_program_tells_how_it_ended(rt: HostRuntime) -> Result<(), Fail> {
             Vec::new(alloc),
         );
         let status = run_program(&rt, alloc, words, &mut reader, &mut writer, &mut errors);
-        assert_eq!(rt; status, wanted, "{script}");
-        assert_eq!(rt; writer.as_slice(), prints.as_bytes(), "{script}");
-        assert_eq!(rt; errors.as_slice(), tells.as_bytes(), "{script}");
+        assert!(rt; status == wanted, "{script}");
+        assert!(rt; writer.as_slice() == prints.as_bytes(), "{script}");
+        assert!(rt; errors.as_slice() == tells.as_bytes(), "{script}");
     }
     Ok(())
 }

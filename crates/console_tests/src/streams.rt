@@ -71,10 +71,10 @@ fn a_script_is_cut_after_each_byte(rt: HostRuntime) -> Result<(), Fail> {
         let last = left.rsplit('\n').next().unwrap_or("");
         let (prints, wanted) = of_cut_line(lines, last);
         let (output, end) = told(&rt, alloc, left)?;
-        assert_eq!(rt; end, wanted, "{left}");
+        assert!(rt; end == wanted, "{left}");
         let before = printed_by(alloc, lines)?;
         let rest = output.as_slice().strip_prefix(before.as_str().as_bytes());
-        assert_eq!(rt; rest, Some(prints.as_bytes()), "{left}");
+        assert!(rt; rest == Some(prints.as_bytes()), "{left}");
     }
     Ok(())
 }
@@ -96,8 +96,8 @@ fn readers_and_writers_of_one_byte(rt: HostRuntime) -> Result<(), Fail> {
     let mut reader = OneByte::over(alloc, script.as_str().as_bytes());
     let mut writer = OneByte::over(alloc, &[]);
     let end = run_script(&rt, alloc, &mut reader, &mut writer, device);
-    assert_eq!(rt; end, Ok(()));
-    assert_eq!(rt; writer.taken(), printed.as_str().as_bytes());
+    assert!(rt; end == Ok(()));
+    assert!(rt; writer.taken() == printed.as_str().as_bytes());
     Ok(())
 }
 
@@ -111,8 +111,8 @@ fn a_reader_that_fails_at_each_call(rt: HostRuntime) -> Result<(), Fail> {
         let mut reader = Failing::over(alloc, script.as_str().as_bytes(), calls);
         let mut output = Vec::new(alloc);
         let end = run_script(&rt, alloc, &mut reader, &mut output, device);
-        assert_eq!(rt; end, Err(ScriptFault::Read), "{calls}");
-        assert_eq!(rt; output.len(), 0);
+        assert!(rt; end == Err(ScriptFault::Read), "{calls}");
+        assert!(rt; output.len() == 0);
     }
     Ok(())
 }
@@ -135,7 +135,7 @@ fn a_writer_that_fails_at_each_call(rt: HostRuntime) -> Result<(), Fail> {
         } else {
             Err(ScriptFault::Write)
         };
-        assert_eq!(rt; end, wanted, "{calls}");
+        assert!(rt; end == wanted, "{calls}");
         assert!(rt; printed.starts_with(writer.taken()), "{calls}");
         if is_enough {
             break;
@@ -155,8 +155,8 @@ fn a_writer_of_one_byte_that_fails_at_each_call(rt: HostRuntime) -> Result<(), F
         let mut reader = script.as_str().as_bytes();
         let mut writer = Failing::over(alloc, &[], calls as u64);
         let end = run_script(&rt, alloc, &mut reader, &mut writer, device);
-        assert_eq!(rt; end, Err(ScriptFault::Write), "{calls}");
-        assert_eq!(rt; Some(writer.taken()), printed.get(..calls));
+        assert!(rt; end == Err(ScriptFault::Write), "{calls}");
+        assert!(rt; Some(writer.taken()) == printed.get(..calls));
     }
     Ok(())
 }
@@ -169,7 +169,7 @@ fn a_turn_is_acknowledged_at_once(rt: HostRuntime) -> Result<(), Fail> {
     let mut reader = b"format 4\nopen 2 00 10\npost 0 deposit 1 500\nturn 0\nbalances\n".as_slice();
     let mut writer = Refusing::after(alloc, 1);
     let end = run_script(&rt, alloc, &mut reader, &mut writer, device);
-    assert_eq!(rt; end, Err(ScriptFault::Write));
+    assert!(rt; end == Err(ScriptFault::Write));
     assert!(rt; writer.taken().ends_with(b"posted 0\nentry 0 ok\n"));
     Ok(())
 }
@@ -180,7 +180,7 @@ fn a_reader_that_is_interrupted_for_ever(rt: HostRuntime) -> Result<(), Fail> {
     let device = MemoryDevice::new(alloc, 64)?;
     let mut output = Vec::new(alloc);
     let end = run_script(&rt, alloc, &mut Interrupted, &mut output, device);
-    assert_eq!(rt; (end, output.len()), (Err(ScriptFault::Read), 0));
+    assert!(rt; (end, output.len()) == (Err(ScriptFault::Read), 0));
     Ok(())
 }
 
@@ -191,7 +191,7 @@ fn a_writer_that_is_interrupted_for_ever(rt: HostRuntime) -> Result<(), Fail> {
     let device = MemoryDevice::new(alloc, 64)?;
     let mut reader = script.as_str().as_bytes();
     let end = run_script(&rt, alloc, &mut reader, &mut Interrupted, device);
-    assert_eq!(rt; end, Err(ScriptFault::Write));
+    assert!(rt; end == Err(ScriptFault::Write));
     Ok(())
 }
 
@@ -201,7 +201,7 @@ fn a_script_that_never_ends_is_too_long(rt: HostRuntime) -> Result<(), Fail> {
     let device = MemoryDevice::new(alloc, 64)?;
     let mut output = Vec::new(alloc);
     let end = run_script(&rt, alloc, &mut Endless, &mut output, device);
-    assert_eq!(rt; end, Err(ScriptFault::TooLong));
+    assert!(rt; end == Err(ScriptFault::TooLong));
     Ok(())
 }
 
@@ -216,8 +216,8 @@ fn fails_with<S: Abort + Files<File = File> + Threads + Wait + Sync, R: Read, W:
 ) {
     let mut errors = Vec::new(alloc);
     let status = run_program(rt, alloc, words, reader, writer, &mut errors);
-    assert_eq!(rt; status, 1);
-    assert_eq!(rt; errors.as_slice(), tells.as_bytes());
+    assert!(rt; status == 1);
+    assert!(rt; errors.as_slice() == tells.as_bytes());
 }
 
 #[test]

@@ -114,7 +114,7 @@ pub fn take_course<D: Device>(
             (clerk.into_device(), course)
         }
         Err((device, refusal)) => {
-            assert_eq!(rt; refusal, OpenRefusal::Device);
+            assert!(rt; refusal == OpenRefusal::Device);
             let acknowledged = first as u64;
             let met = Met::InOpening;
             (device, Course { acknowledged, met })
@@ -128,11 +128,11 @@ fn take_turns<D: Device>(rt: &impl Abort, clerk: &mut Clerk<D>, first: usize) ->
     for (place, amount) in AMOUNTS.iter().enumerate().skip(first) {
         match clerk.turn((place % 2) as u8, &[deposit(*amount)]) {
             Ok(turn) => {
-                assert_eq!(rt; turn.posted, Some(place as u64));
+                assert!(rt; turn.posted == Some(place as u64));
                 acknowledged = acknowledged.saturating_add(1);
             }
             Err(refusal) => {
-                assert_eq!(rt; refusal, TurnRefusal::Device);
+                assert!(rt; refusal == TurnRefusal::Device);
                 stands_still(rt, clerk, first, place);
                 let met = Met::InTurn;
                 return Course { acknowledged, met };
@@ -148,21 +148,15 @@ fn take_turns<D: Device>(rt: &impl Abort, clerk: &mut Clerk<D>, first: usize) ->
 fn stands_still<D: Device>(rt: &impl Abort, clerk: &mut Clerk<D>, first: usize, place: usize) {
     let in_flight = clerk.in_flight().expect(rt, "a batch in flight");
     let amount = AMOUNTS.get(place).copied().unwrap_or(0);
-    assert_eq!(rt;
-        (in_flight.len(), in_flight.get(0)),
-        (1, Some(deposit(amount)))
-    );
-    assert_eq!(rt; clerk.ledger().balance(1), BALANCES.get(place).copied());
+    assert!(rt; (in_flight.len(), in_flight.get(0)) == (1, Some(deposit(amount))));
+    assert!(rt; clerk.ledger().balance(1) == BALANCES.get(place).copied());
     let taken = place.saturating_sub(first);
-    assert_eq!(rt; clerk.history().len(), taken);
+    assert!(rt; clerk.history().len() == taken);
     let moves = (first % 2).saturating_add(taken);
     let bits = LINES.get(moves % 4).copied().unwrap_or([true, true]);
     assert!(rt; clerk.line() == Line::from_bits(2, &bits, &[true, false]).expect(rt, "a line"));
     assert!(rt; clerk.is_faulted());
     let full = [deposit(1); 15];
-    assert_eq!(rt;
-        clerk.turn((place % 2) as u8, &full),
-        Err(TurnRefusal::Faulted)
-    );
-    assert_eq!(rt; clerk.turn(9, &[]), Err(TurnRefusal::Faulted));
+    assert!(rt; clerk.turn((place % 2) as u8, &full) == Err(TurnRefusal::Faulted));
+    assert!(rt; clerk.turn(9, &[]) == Err(TurnRefusal::Faulted));
 }

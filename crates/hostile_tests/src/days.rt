@@ -73,12 +73,12 @@ impl Told {
 
 // A station's deposit has an answer, or comes back unanswered; not so where the station was told that the device failed.
 fn is_accounted_for(rt: &impl Abort, station: &StationDay) {
-    assert_eq!(rt;
+    assert!(rt;
         station
             .answers
             .len()
-            .saturating_add(station.unanswered.len()),
-        1
+            .saturating_add(station.unanswered.len())
+            == 1
     );
     match station.end {
         End::Refused(TurnRefusal::Device) => assert!(rt; station.unanswered.is_empty()),
@@ -104,7 +104,7 @@ fn day_on<D: Device + Drop + Send, R: Abort + Wait + Threads + Sync>(
     held[1].keep(deposit(2)).ok_or("a place")?;
     let mut told = Told::nothing();
     let line = two_stations(rt, false);
-    assert_eq!(rt; held.len(), line.stations() as usize);
+    assert!(rt; held.len() == line.stations() as usize);
     match run_day(rt, alloc, device, line, &held, 4, TRIES) {
         Ok(
             Day {
@@ -122,7 +122,7 @@ fn day_on<D: Device + Drop + Send, R: Abort + Wait + Threads + Sync>(
             Ok((clerk.into_device(), told))
         }
         Err((device, refusal)) => {
-            assert_eq!(rt; refusal, DayRefusal::Opening(OpenRefusal::Device));
+            assert!(rt; refusal == DayRefusal::Opening(OpenRefusal::Device));
             Ok((device, told))
         }
     }
@@ -180,7 +180,7 @@ fn a_day_without_a_fault_posts_all(rt: HostRuntime) -> Result<(), Fail> {
     let alloc = rt.alloc();
     for fails in [Fails::From(Op::Any, CALLS), Fails::Once(Op::Any, CALLS)] {
         let (device, told) = failed_day(&rt, alloc, fails)?;
-        assert_eq!(rt; (told.posted, told.undecided, told.batches), (3, 0, 2));
+        assert!(rt; (told.posted, told.undecided, told.batches) == (3, 0, 2));
         assert!(rt; at_stake(&rt, alloc, &device)?.is_empty());
     }
     Ok(())
@@ -192,7 +192,7 @@ fn what_clients_were_told_outlives_a_stop_at_each_call(rt: HostRuntime) -> Resul
     for at in 0..CALLS {
         all = all.saturating_add(lose_power(&rt, rt.alloc(), Fails::From(Op::Any, at))?);
     }
-    assert_eq!(rt; all, OUTCOMES);
+    assert!(rt; all == OUTCOMES);
     Ok(())
 }
 
@@ -204,6 +204,6 @@ fn what_clients_were_told_outlives_a_fault_of_each_call(rt: HostRuntime) -> Resu
             all = all.saturating_add(lose_power(&rt, rt.alloc(), Fails::Once(op, at))?);
         }
     }
-    assert_eq!(rt; all, OUTCOMES);
+    assert!(rt; all == OUTCOMES);
     Ok(())
 }

@@ -18,7 +18,7 @@ fn look<D: Device>(rt: &impl Abort, alloc: Global, device: D) -> (D, Option<Foun
             (clerk.into_device(), Some(found))
         }
         Err((device, refusal)) => {
-            assert_eq!(rt; refusal, OpenRefusal::Device);
+            assert!(rt; refusal == OpenRefusal::Device);
             (device, None)
         }
     }
@@ -66,7 +66,7 @@ fn to_the_end<D: Device + Drop>(rt: &impl Abort, alloc: Global, device: D) -> Fa
         course = rest;
         faults.count(course.met);
     }
-    assert_eq!(rt; (course.met, course.acknowledged), (Met::Nothing, 5));
+    assert!(rt; (course.met, course.acknowledged) == (Met::Nothing, 5));
     faults
 }
 
@@ -83,7 +83,7 @@ fn a_device_that_fails_once_loses_nothing(rt: HostRuntime) -> Result<(), Fail> {
             let device = OneFault::new(formatted(&rt, rt.alloc(), 2)?, op, at);
             let faults = to_the_end(&rt, rt.alloc(), device);
             let met = faults.in_openings.saturating_add(faults.in_turns);
-            assert_eq!(rt; met, u64::from(at < calls), "{op:?} {at}");
+            assert!(rt; met == u64::from(at < calls), "{op:?} {at}");
         }
     }
     Ok(())
@@ -100,7 +100,7 @@ fn a_faulted_clerk_makes_no_call(rt: HostRuntime) -> Result<(), Fail> {
         let device = OneFault::new(noting, Op::Any, at);
         let (device, course) = take_course(&rt, alloc, device, 0);
         assert!(rt; course.met != Met::Nothing);
-        assert_eq!(rt; device.into_inner().calls().len() as u64, at);
+        assert!(rt; device.into_inner().calls().len() as u64 == at);
     }
     Ok(())
 }
@@ -135,7 +135,7 @@ fn a_device_that_fails_twice_loses_nothing(rt: HostRuntime) -> Result<(), Fail> 
             all.in_turns = all.in_turns.saturating_add(faults.in_turns);
         }
     }
-    assert_eq!(rt; pairs, PAIRS);
+    assert!(rt; pairs == PAIRS);
     assert!(rt; all.in_openings > 0 && all.in_turns > 0);
     Ok(())
 }
@@ -148,15 +148,12 @@ fn a_turn_whose_first_sync_fails_is_in_flight(rt: HostRuntime) -> Result<(), Fai
     let line = Line::from_bits(3, &[false; 3], &[true, false, false]).expect(&rt, "a line");
     let device = OneFault::new(formatted(&rt, alloc, 4)?, Op::Sync, 1);
     let mut clerk = Clerk::open(alloc, device, line).map_err(|(_, refusal)| refusal)?;
-    assert_eq!(rt; clerk.turn(0, &[deposit(5)]), Err(TurnRefusal::Device));
+    assert!(rt; clerk.turn(0, &[deposit(5)]) == Err(TurnRefusal::Device));
     let in_flight = clerk.in_flight().expect(&rt, "a batch in flight");
-    assert_eq!(rt; (in_flight.len(), in_flight.get(0)), (1, Some(deposit(5))));
-    assert_eq!(rt; clerk.turn(0, &[]), Err(TurnRefusal::Faulted));
-    assert_eq!(rt; clerk.turn(1, &[]), Err(TurnRefusal::Faulted));
+    assert!(rt; (in_flight.len(), in_flight.get(0)) == (1, Some(deposit(5))));
+    assert!(rt; clerk.turn(0, &[]) == Err(TurnRefusal::Faulted));
+    assert!(rt; clerk.turn(1, &[]) == Err(TurnRefusal::Faulted));
     let clerk = Clerk::open(alloc, clerk.into_device(), line).map_err(|(_, refusal)| refusal)?;
-    assert_eq!(rt;
-        (clerk.opening_balance(1), clerk.opening_next()),
-        (Some(0), 0)
-    );
+    assert!(rt; (clerk.opening_balance(1), clerk.opening_next()) == (Some(0), 0));
     Ok(())
 }

@@ -187,7 +187,7 @@ fn has_sector(
 
 // The device holds this image, and nothing is pending.
 pub fn holds(rt: &impl Abort, device: &mut MemoryDevice, image: &[Sector]) -> Result<(), Fail> {
-    assert_eq!(rt; device.sectors(), image.len() as u64);
+    assert!(rt; device.sectors() == image.len() as u64);
     for (at, bytes) in image.iter().enumerate() {
         has_sector(rt, device, at, bytes)?;
     }
@@ -272,7 +272,7 @@ fn replace_each(
     expected: &[u32],
 ) -> Result<(), Fail> {
     let mut image = image_of(rt, alloc, &mut device)?;
-    assert_eq!(rt; image.len(), expected.len());
+    assert!(rt; image.len() == expected.len());
     for (at, count) in expected.iter().enumerate() {
         let values = if zeros.contains(&at) {
             Values::Four
@@ -280,7 +280,7 @@ fn replace_each(
             Values::All
         };
         let (after, refused) = replace_sector(rt, alloc, device, image.as_mut_slice(), at, values)?;
-        assert_eq!(rt; refused, *count, "sector {at}");
+        assert!(rt; refused == *count, "sector {at}");
         device = after;
     }
     Ok(())

@@ -42,15 +42,15 @@ fn take_turns<L: Ledger + Opening, R: Abort + Wait>(
         match office.turn(rt, seat, &[deposit(*amount)]) {
             Ok(turn) => turns.push(turn)?,
             Err(refusal) => {
-                assert_eq!(rt; refusal, TurnRefusal::Device);
+                assert!(rt; refusal == TurnRefusal::Device);
                 met = Met::InTurn;
                 break;
             }
         }
     }
     if met == Met::InTurn {
-        assert_eq!(rt; office.turn(rt, bottom, &[]), Err(TurnRefusal::Faulted));
-        assert_eq!(rt; office.turn(rt, top, &[]), Err(TurnRefusal::Faulted));
+        assert!(rt; office.turn(rt, bottom, &[]) == Err(TurnRefusal::Faulted));
+        assert!(rt; office.turn(rt, top, &[]) == Err(TurnRefusal::Faulted));
     }
     let acknowledged = turns.len() as u64;
     let course = Course { acknowledged, met };
@@ -64,7 +64,7 @@ fn listed<L: Ledger>(rt: &impl Abort, turns: &[Turn], seat: &Seat<L>, first: usi
         assert!(rt; seat.turns().get(place) == Some(turn));
         place = place.saturating_add(1);
     }
-    assert_eq!(rt; seat.turns().len(), place);
+    assert!(rt; seat.turns().len() == place);
 }
 
 // What the device, opened by a clerk, is found to hold.
@@ -115,11 +115,11 @@ fn walk<R: Abort + Wait>(
         Ok((closing, walked)) => {
             let Closing { clerk, .. } = closing;
             assert!(rt; clerk.history() == walked.turns.as_slice());
-            assert_eq!(rt; clerk.is_faulted(), walked.course.met == Met::InTurn);
+            assert!(rt; clerk.is_faulted() == (walked.course.met == Met::InTurn));
             Ok((clerk, walked))
         }
         Err((device, refusal)) => {
-            assert_eq!(rt; refusal, OfficeRefusal::Opening(OpenRefusal::Device));
+            assert!(rt; refusal == OfficeRefusal::Opening(OpenRefusal::Device));
             Err(device)
         }
     }
@@ -154,7 +154,7 @@ fn an_office_closes_after_one_fault(rt: HostRuntime) -> Result<(), Fail> {
     for at in 0..CALLS.saturating_add(1) {
         let device = OneFault::new(formatted(&rt, alloc, 2)?, Op::Any, at);
         let met = meets_one_fault(&rt, alloc, device);
-        assert_eq!(rt; met != Met::Nothing, at < CALLS, "{at}");
+        assert!(rt; (met != Met::Nothing) == (at < CALLS), "{at}");
     }
     Ok(())
 }

@@ -28,7 +28,7 @@ fn run_course(
     let mut clerk = match Clerk::open(alloc, device, two_stations(rt, false)) {
         Ok(clerk) => clerk,
         Err((device, refusal)) => {
-            assert_eq!(rt; refusal, OpenRefusal::Device);
+            assert!(rt; refusal == OpenRefusal::Device);
             let (acknowledged, met) = (0, Met::InOpening);
             return Ok((device, Course { acknowledged, met }));
         }
@@ -36,7 +36,7 @@ fn run_course(
     let mut replies = Vec::new(alloc);
     clerk.run(events(alloc)?.as_slice(), &mut replies)?;
     let acknowledged = replies.iter().filter(|reply| reply.is_ok()).count();
-    assert_eq!(rt; clerk.history().len(), acknowledged);
+    assert!(rt; clerk.history().len() == acknowledged);
     let mut met = Met::Nothing;
     for reply in replies.iter().skip(acknowledged) {
         let expected = if met == Met::Nothing {
@@ -89,8 +89,8 @@ fn lose_power_everywhere(rt: &impl Abort, alloc: Global, by: By) -> Result<(), F
         assert!(rt; met != Met::Nothing, "{at}");
         all = all.saturating_add(outcomes);
     }
-    assert_eq!(rt; all, OUTCOMES);
-    assert_eq!(rt; lose_power(rt, alloc, by, CALLS)?, (Met::Nothing, 1));
+    assert!(rt; all == OUTCOMES);
+    assert!(rt; lose_power(rt, alloc, by, CALLS)? == (Met::Nothing, 1));
     Ok(())
 }
 

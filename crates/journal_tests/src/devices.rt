@@ -19,16 +19,16 @@ fn keeps_what_was_written<D: Device>(rt: &impl Abort, device: &mut D) -> Result<
     device.write(1, &NEW)?;
     device.sync()?;
     device.read(0, &mut bytes)?;
-    assert_eq!(rt; bytes, OLD);
+    assert!(rt; bytes == OLD);
     device.read(1, &mut bytes)?;
-    assert_eq!(rt; bytes, NEW);
+    assert!(rt; bytes == NEW);
     Ok(())
 }
 
 // Sector 0 was written and synced, sectors 1 and 2 were written after that, and sector 3 never.
 fn partly_synced(rt: &impl Abort, alloc: Global) -> Result<MemoryDevice, Fail> {
     let mut device = MemoryDevice::new(alloc, 4)?;
-    assert_eq!(rt; device.sectors(), 4);
+    assert!(rt; device.sectors() == 4);
     device.write(0, &OLD)?;
     device.sync()?;
     device.write(1, &NEW)?;
@@ -53,24 +53,24 @@ fn any_device_keeps_what_was_written(rt: HostRuntime) -> Result<(), Fail> {
 #[test]
 fn a_new_device_is_zero(rt: HostRuntime) -> Result<(), Fail> {
     let mut device = MemoryDevice::new(rt.alloc(), 1)?;
-    assert_eq!(rt; sector_of(&rt, &mut device, 0)?, [0; SECTOR]);
-    assert_eq!(rt; MemoryDevice::new(rt.alloc(), 0)?.sectors(), 0);
+    assert!(rt; sector_of(&rt, &mut device, 0)? == [0; SECTOR]);
+    assert!(rt; MemoryDevice::new(rt.alloc(), 0)?.sectors() == 0);
     Ok(())
 }
 
 #[test]
 fn written_sectors_are_pending_until_a_sync(rt: HostRuntime) -> Result<(), Fail> {
     let mut device = partly_synced(&rt, rt.alloc())?;
-    assert_eq!(rt; device.sectors(), 4);
+    assert!(rt; device.sectors() == 4);
     let pending = [
         device.pending(0),
         device.pending(1),
         device.pending(2),
         device.pending(3),
     ];
-    assert_eq!(rt; pending, [false, true, true, false]);
+    assert!(rt; pending == [false, true, true, false]);
     device.sync()?;
-    assert_eq!(rt; device.sectors(), 4);
+    assert!(rt; device.sectors() == 4);
     assert!(rt; !device.pending(1));
     Ok(())
 }
@@ -90,7 +90,7 @@ fn a_power_loss_takes_the_last_pick_for_each_pending_sector(rt: HostRuntime) -> 
         let picks = picks_of(rt.alloc(), list)?;
         let mut device = partly_synced(&rt, rt.alloc())?.crash(&picks);
         for (at, bytes) in after.iter().enumerate() {
-            assert_eq!(rt; sector_of(&rt, &mut device, at as u64)?, *bytes);
+            assert!(rt; sector_of(&rt, &mut device, at as u64)? == *bytes);
             assert!(rt; (at as u64) < device.sectors());
             assert!(rt; !device.pending(at as u64));
         }
@@ -103,6 +103,6 @@ fn a_second_power_loss_takes_nothing(rt: HostRuntime) -> Result<(), Fail> {
     let nothing = picks_of(rt.alloc(), &[])?;
     let torn = picks_of(rt.alloc(), &[(1, TORN)])?;
     let mut device = partly_synced(&rt, rt.alloc())?.crash(&nothing).crash(&torn);
-    assert_eq!(rt; sector_of(&rt, &mut device, 1)?, NEW);
+    assert!(rt; sector_of(&rt, &mut device, 1)? == NEW);
     Ok(())
 }

@@ -29,7 +29,7 @@ fn a_fuse_fails_from_its_call_on(rt: HostRuntime) -> Result<(), Fail> {
     ];
     for (op, at, expected) in table {
         let mut device = Fuse::new(MemoryDevice::new(rt.alloc(), 1)?, op, at);
-        assert_eq!(rt; failures(&rt, &mut device), expected);
+        assert!(rt; failures(&rt, &mut device) == expected);
     }
     Ok(())
 }
@@ -42,7 +42,7 @@ fn what_a_fuse_refused_never_reached_the_device(rt: HostRuntime) -> Result<(), F
     let mut bytes = [0; SECTOR];
     assert!(rt; inner.sectors() > 0);
     inner.read(0, &mut bytes)?;
-    assert_eq!(rt; bytes, [1; SECTOR]);
+    assert!(rt; bytes == [1; SECTOR]);
     Ok(())
 }
 
@@ -59,7 +59,7 @@ fn one_fault_fails_its_call_alone(rt: HostRuntime) -> Result<(), Fail> {
     ];
     for (op, at, expected) in table {
         let mut device = OneFault::new(MemoryDevice::new(rt.alloc(), 1)?, op, at);
-        assert_eq!(rt; failures(&rt, &mut device), expected);
+        assert!(rt; failures(&rt, &mut device) == expected);
     }
     Ok(())
 }
@@ -72,7 +72,7 @@ fn a_write_that_failed_once_never_reached_the_device(rt: HostRuntime) -> Result<
     let mut bytes = [0; SECTOR];
     assert!(rt; inner.sectors() > 0);
     inner.read(0, &mut bytes)?;
-    assert_eq!(rt; bytes, [1; SECTOR]);
+    assert!(rt; bytes == [1; SECTOR]);
     Ok(())
 }
 
@@ -82,9 +82,9 @@ fn a_held_sync_is_passed_on_with_leave(rt: HostRuntime) -> Result<(), Fail> {
     let flags = Arc::new(alloc, HeldFlags::new())?;
     let mut device = Held::new(MemoryDevice::new(alloc, 1)?, 1, Arc::try_clone(&flags)?);
     flags.go.store(true, Ordering::SeqCst);
-    assert_eq!(rt; failures(&rt, &mut device), [false; 4]);
+    assert!(rt; failures(&rt, &mut device) == [false; 4]);
     assert!(rt; !flags.begun.load(Ordering::SeqCst));
-    assert_eq!(rt; failures(&rt, &mut device), [false; 4]);
+    assert!(rt; failures(&rt, &mut device) == [false; 4]);
     assert!(rt; flags.begun.load(Ordering::SeqCst));
     Ok(())
 }
@@ -94,8 +94,8 @@ fn a_held_sync_without_leave_fails_alone(rt: HostRuntime) -> Result<(), Fail> {
     let alloc = rt.alloc();
     let flags = Arc::new(alloc, HeldFlags::new())?;
     let mut device = Held::new(MemoryDevice::new(alloc, 1)?, 0, Arc::try_clone(&flags)?);
-    assert_eq!(rt; failures(&rt, &mut device), [false, false, false, true]);
+    assert!(rt; failures(&rt, &mut device) == [false, false, false, true]);
     assert!(rt; flags.begun.load(Ordering::SeqCst));
-    assert_eq!(rt; failures(&rt, &mut device), [false; 4]);
+    assert!(rt; failures(&rt, &mut device) == [false; 4]);
     Ok(())
 }

@@ -63,7 +63,7 @@ fn a_fuse_hands_on_each_call_before_its_own(rt: HostRuntime) -> Result<(), Fail>
             let mut device = Fuse::new(behind(rt.alloc(), broken)?, Op::Any, at);
             ask(&rt, &mut device);
             let calls = device.into_inner();
-            assert_eq!(rt; calls.calls(), &ASKED[..at as usize], "{broken} {at}");
+            assert!(rt; calls.calls() == &ASKED[..at as usize], "{broken} {at}");
         }
     }
     Ok(())
@@ -76,9 +76,8 @@ fn one_fault_hands_on_each_call_but_its_own(rt: HostRuntime) -> Result<(), Fail>
             let mut device = OneFault::new(behind(rt.alloc(), broken)?, Op::Any, at);
             ask(&rt, &mut device);
             let expected = asked_without(rt.alloc(), at)?;
-            assert_eq!(rt;
-                device.into_inner().calls(),
-                expected.as_slice(),
+            assert!(rt;
+                device.into_inner().calls() == expected.as_slice(),
                 "{broken} {at}"
             );
         }
@@ -91,10 +90,13 @@ fn a_wrapper_for_calls_of_one_kind_hands_on_all_before_them(rt: HostRuntime) -> 
     for op in [Op::Any, Op::Read, Op::Write, Op::Sync] {
         let mut fuse = Fuse::new(behind(rt.alloc(), NEVER)?, op, NEVER);
         ask(&rt, &mut fuse);
-        assert_eq!(rt; fuse.into_inner().calls(), ASKED.as_slice(), "{op:?}");
+        assert!(rt; fuse.into_inner().calls() == ASKED.as_slice(), "{op:?}");
         let mut one_fault = OneFault::new(behind(rt.alloc(), NEVER)?, op, NEVER);
         ask(&rt, &mut one_fault);
-        assert_eq!(rt; one_fault.into_inner().calls(), ASKED.as_slice(), "{op:?}");
+        assert!(rt;
+            one_fault.into_inner().calls() == ASKED.as_slice(),
+            "{op:?}"
+        );
     }
     Ok(())
 }
@@ -109,12 +111,11 @@ fn a_held_device_hands_on_each_call(rt: HostRuntime) -> Result<(), Fail> {
             flags.go.store(true, Ordering::SeqCst);
             let mut device = Held::new(behind(alloc, broken)?, at, Arc::try_clone(&flags)?);
             ask(&rt, &mut device);
-            assert_eq!(rt;
-                device.into_inner().calls(),
-                ASKED.as_slice(),
+            assert!(rt;
+                device.into_inner().calls() == ASKED.as_slice(),
                 "{broken} {at}"
             );
-            assert_eq!(rt; flags.begun.load(Ordering::SeqCst), at == 0);
+            assert!(rt; flags.begun.load(Ordering::SeqCst) == (at == 0));
             assert!(rt; flags.go.load(Ordering::SeqCst));
         }
     }
@@ -128,7 +129,10 @@ fn a_device_that_stops_hands_on_each_call_before(rt: HostRuntime) -> Result<(), 
         let mut device = FailStop::new(behind(rt.alloc(), broken)?);
         ask(&rt, &mut device);
         let expected = if broken <= 2 { 3 } else { ASKED.len() };
-        assert_eq!(rt; device.into_inner().calls(), &ASKED[..expected], "{broken}");
+        assert!(rt;
+            device.into_inner().calls() == &ASKED[..expected],
+            "{broken}"
+        );
     }
     Ok(())
 }
@@ -142,10 +146,9 @@ fn a_noting_device_hands_on_each_call(rt: HostRuntime) -> Result<(), Fail> {
             let mut device = Noting::new(alloc, inner, room).map_err(AllocError::from)?;
             ask(&rt, &mut device);
             let noted = ASKED.len().min(room);
-            assert_eq!(rt; device.calls(), &ASKED[..noted], "{broken} {room}");
-            assert_eq!(rt;
-                device.into_inner().calls(),
-                ASKED.as_slice(),
+            assert!(rt; device.calls() == &ASKED[..noted], "{broken} {room}");
+            assert!(rt;
+                device.into_inner().calls() == ASKED.as_slice(),
                 "{broken} {room}"
             );
         }
@@ -175,8 +178,8 @@ fn a_sync_that_has_begun_goes_on_when_its_leave_comes(rt: HostRuntime) -> Result
     let mut device = Held::new(behind(alloc, NEVER)?, 0, Arc::try_clone(&flags)?);
     let (outcome, begun) = join_mut(&rt, &mut || device.sync(), &mut || give_leave(&flags));
     assert!(rt; begun);
-    assert_eq!(rt; outcome, Ok::<(), DeviceFault>(()));
+    assert!(rt; outcome == Ok::<(), DeviceFault>(()));
     assert!(rt; flags.go.load(Ordering::SeqCst));
-    assert_eq!(rt; device.into_inner().calls(), [Call::Sync].as_slice());
+    assert!(rt; device.into_inner().calls() == [Call::Sync].as_slice());
     Ok(())
 }

@@ -117,9 +117,9 @@ fn expect<R: Abort + AllocGlobal>(
     };
     let mut device = ReadAhead::new(noted, ReadBuffer::new(rt.alloc())?);
     for (call, failed) in calls {
-        assert_eq!(rt; ask(rt, &mut device, *call), *failed, "{call:?}");
+        assert!(rt; ask(rt, &mut device, *call) == *failed, "{call:?}");
     }
-    assert_eq!(rt; device.into_inner().asked.as_slice(), expected);
+    assert!(rt; device.into_inner().asked.as_slice() == expected);
     Ok(())
 }
 

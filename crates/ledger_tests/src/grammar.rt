@@ -42,7 +42,7 @@ fn an_opening_has_its_bits_in_order(rt: HostRuntime) {
         assert!(rt; false, "no opening");
         return;
     };
-    assert_eq!(rt; stations, 3);
+    assert!(rt; stations == 3);
     assert!(rt; has_bits(&x, &[false, true, true]));
     assert!(rt; has_bits(&up, &[true, false, false]));
 }
@@ -80,7 +80,7 @@ fn each_kind_of_entry_is_read(rt: HostRuntime) {
     ];
     for (line, wanted) in table {
         match command(line) {
-            Some(Command::Post { station, entry }) => assert_eq!(rt; (station, entry), (2, wanted)),
+            Some(Command::Post { station, entry }) => assert!(rt; (station, entry) == (2, wanted)),
             _ => assert!(rt; false, "{line:?}"),
         }
     }
@@ -131,7 +131,7 @@ fn line_faults_come_in_their_order(rt: HostRuntime) {
         (b"open 2 00 1\xff", BadBits),
     ];
     for (line, wanted) in table {
-        assert_eq!(rt; read_command(line, 1).err(), Some(wanted), "{line:?}");
+        assert!(rt; read_command(line, 1).err() == Some(wanted), "{line:?}");
     }
 }
 
@@ -145,7 +145,7 @@ fn line_faults_have_their_texts(rt: HostRuntime) -> Result<(), Fail> {
     ];
     for (fault, wanted) in table {
         let text = fault.to_string(rt.alloc())?;
-        assert_eq!(rt; text.as_str(), wanted);
+        assert!(rt; text.as_str() == wanted);
     }
     Ok(())
 }
@@ -155,7 +155,7 @@ fn lines_end_with_a_line_feed_and_one_return(rt: HostRuntime) {
     let mut lines = Lines::of(b"a\r\n\nb\r\r\nc\r");
     let wanted: [&[u8]; 4] = [b"a", b"", b"b\r", b"c\r"];
     for line in wanted {
-        assert_eq!(rt; lines.next(), Some(line));
+        assert!(rt; lines.next() == Some(line));
     }
-    assert_eq!(rt; lines.next(), None);
+    assert!(rt; lines.next() == None);
 }

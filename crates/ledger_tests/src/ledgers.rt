@@ -36,15 +36,15 @@ fn an_entry_is_judged_after_the_accepted_ones_before_it(rt: HostRuntime) -> Resu
     let expected = [Ok(()), Err(EntryRefusal::Short), Ok(())];
 
     let verdicts = ledger.screen(&entries);
-    assert_eq!(rt; verdicts.len(), 3);
-    assert_eq!(rt; verdicts.accepted(), 2);
-    assert_eq!(rt; verdicts.get(3), None);
-    assert_eq!(rt; ledger.total(), 0, "screening changes nothing");
+    assert!(rt; verdicts.len() == 3);
+    assert!(rt; verdicts.accepted() == 2);
+    assert!(rt; verdicts.get(3) == None);
+    assert!(rt; ledger.total() == 0, "screening changes nothing");
 
     for (i, entry) in entries.iter().enumerate() {
         let posted = ledger.post(entry);
-        assert_eq!(rt; expected.get(i).copied(), Some(posted), "entry {i}");
-        assert_eq!(rt; verdicts.get(i), Some(posted), "entry {i}");
+        assert!(rt; expected.get(i).copied() == Some(posted), "entry {i}");
+        assert!(rt; verdicts.get(i) == Some(posted), "entry {i}");
     }
     for (account, balance) in [
         (1, Some(60)),
@@ -53,24 +53,21 @@ fn an_entry_is_judged_after_the_accepted_ones_before_it(rt: HostRuntime) -> Resu
         (0, None),
         (65, None),
     ] {
-        assert_eq!(rt; ledger.balance(account), balance, "account {account}");
+        assert!(rt; ledger.balance(account) == balance, "account {account}");
     }
-    assert_eq!(rt; ledger.total(), 100);
+    assert!(rt; ledger.total() == 100);
     Ok(())
 }
 
 #[test]
 fn the_last_account_is_number_64(rt: HostRuntime) -> Result<(), Fail> {
     let mut ledger = Ledger::new(rt.alloc())?;
-    assert_eq!(rt; ledger.post(&deposit(64, 7)), Ok(()));
-    assert_eq!(rt; ledger.post(&deposit(65, 7)), Err(EntryRefusal::NoAccount));
-    assert_eq!(rt;
-        ledger.post(&transfer(64, 65, 1)),
-        Err(EntryRefusal::NoAccount)
-    );
-    assert_eq!(rt; ledger.balance(64), Some(7));
-    assert_eq!(rt; ledger.balance(65), None);
-    assert_eq!(rt; ledger.total(), 7);
+    assert!(rt; ledger.post(&deposit(64, 7)) == Ok(()));
+    assert!(rt; ledger.post(&deposit(65, 7)) == Err(EntryRefusal::NoAccount));
+    assert!(rt; ledger.post(&transfer(64, 65, 1)) == Err(EntryRefusal::NoAccount));
+    assert!(rt; ledger.balance(64) == Some(7));
+    assert!(rt; ledger.balance(65) == None);
+    assert!(rt; ledger.total() == 7);
     Ok(())
 }
 
@@ -83,10 +80,10 @@ fn a_deposit_may_fill_the_ledger_and_not_pass_the_limit(rt: HostRuntime) -> Resu
         (deposit(2, u64::MAX), Err(EntryRefusal::OverLimit)),
     ];
     for (entry, verdict) in table {
-        assert_eq!(rt; ledger.post(&entry), verdict, "{entry:?}");
+        assert!(rt; ledger.post(&entry) == verdict, "{entry:?}");
     }
-    assert_eq!(rt; ledger.total(), 1_000_000_000_000_000_000);
-    assert_eq!(rt; ledger.balance(2), Some(0));
+    assert!(rt; ledger.total() == 1_000_000_000_000_000_000);
+    assert!(rt; ledger.balance(2) == Some(0));
     Ok(())
 }
 
@@ -103,14 +100,13 @@ fn the_first_broken_rule_is_answered(rt: HostRuntime) -> Result<(), Fail> {
         (withdraw(1, 1), EntryRefusal::Short),
     ];
     for (entry, refusal) in table {
-        assert_eq!(rt; ledger.post(&entry), Err(refusal), "{entry:?}");
-        assert_eq!(rt;
-            ledger.screen(&[entry]).get(0),
-            Some(Err(refusal)),
+        assert!(rt; ledger.post(&entry) == Err(refusal), "{entry:?}");
+        assert!(rt;
+            ledger.screen(&[entry]).get(0) == Some(Err(refusal)),
             "{entry:?}"
         );
     }
-    assert_eq!(rt; ledger.total(), 0);
+    assert!(rt; ledger.total() == 0);
     Ok(())
 }
 
@@ -121,13 +117,13 @@ fn the_bytes_of_an_entry(rt: HostRuntime) {
         3, 0, 0, 0, 0, 0, 0, 1, 0, 0, 0, 2, 0, 0, 0, 0, 0, 0, 0, 0, 0, 0, 0, 40, 0, 0, 0, 0, 0, 0,
         0, 5,
     ];
-    assert_eq!(rt; bytes, expected);
+    assert!(rt; bytes == expected);
     let bytes = deposit(1, 500).write();
     let expected = [
         1, 0, 0, 0, 0, 0, 0, 0, 0, 0, 0, 1, 0, 0, 0, 0, 0, 0, 0, 0, 0, 0, 1, 0xf4, 0, 0, 0, 0, 0,
         0, 0, 3,
     ];
-    assert_eq!(rt; bytes, expected);
+    assert!(rt; bytes == expected);
 }
 
 #[test]
@@ -138,41 +134,41 @@ fn what_is_written_is_read_again(rt: HostRuntime) {
         transfer(65, 65, 0),
     ];
     for entry in entries {
-        assert_eq!(rt; Entry::read(&entry.write()), Some(entry));
+        assert!(rt; Entry::read(&entry.write()) == Some(entry));
     }
 }
 
 #[test]
 fn balances_are_restored_up_to_the_limit(rt: HostRuntime) -> Result<(), Fail> {
     let mut ledger = Ledger::new(rt.alloc())?;
-    assert_eq!(rt; ledger.post(&deposit(3, 9)), Ok(()));
+    assert!(rt; ledger.post(&deposit(3, 9)) == Ok(()));
     let mut before = [0; 64];
     before[2] = 9;
-    assert_eq!(rt; ledger.balances(), before);
+    assert!(rt; ledger.balances() == before);
 
     let mut too_much = [0; 64];
     too_much[0] = 1_000_000_000_000_000_000;
     too_much[1] = 1_000_000_000_000_000_000;
-    assert_eq!(rt; ledger.restore(&too_much), false);
-    assert_eq!(rt; ledger.balances(), before);
-    assert_eq!(rt; ledger.total(), 9);
+    assert!(rt; ledger.restore(&too_much) == false);
+    assert!(rt; ledger.balances() == before);
+    assert!(rt; ledger.total() == 9);
 
     let mut some = [0; 64];
     some[0] = 5;
     some[63] = 7;
-    assert_eq!(rt; ledger.restore(&some), true);
-    assert_eq!(rt; ledger.balances(), some);
-    assert_eq!(rt; ledger.balance(1), Some(5));
-    assert_eq!(rt; ledger.balance(3), Some(0));
-    assert_eq!(rt; ledger.balance(64), Some(7));
-    assert_eq!(rt; ledger.total(), 12);
+    assert!(rt; ledger.restore(&some) == true);
+    assert!(rt; ledger.balances() == some);
+    assert!(rt; ledger.balance(1) == Some(5));
+    assert!(rt; ledger.balance(3) == Some(0));
+    assert!(rt; ledger.balance(64) == Some(7));
+    assert!(rt; ledger.total() == 12);
 
     let mut limit = [0; 64];
     limit[0] = 999_999_999_999_999_999;
     limit[1] = 1;
-    assert_eq!(rt; ledger.restore(&limit), true);
-    assert_eq!(rt; ledger.total(), 1_000_000_000_000_000_000);
-    assert_eq!(rt; ledger.post(&deposit(2, 1)), Err(EntryRefusal::OverLimit));
+    assert!(rt; ledger.restore(&limit) == true);
+    assert!(rt; ledger.total() == 1_000_000_000_000_000_000);
+    assert!(rt; ledger.post(&deposit(2, 1)) == Err(EntryRefusal::OverLimit));
     Ok(())
 }
 
@@ -188,7 +184,7 @@ fn bytes_of_no_entry(rt: HostRuntime) {
     for (place, byte, what) in table {
         let mut bytes = deposit(1, 500).write();
         bytes[place] = byte;
-        assert_eq!(rt; Entry::read(&bytes), None, "{what}");
+        assert!(rt; Entry::read(&bytes) == None, "{what}");
     }
 }
 
@@ -196,15 +192,15 @@ fn bytes_of_no_entry(rt: HostRuntime) {
 fn a_batch_holds_its_entries(rt: HostRuntime) {
     let entries = [deposit(1, 100), transfer(1, 2, 40)];
     let batch = Batch::of(&entries);
-    assert_eq!(rt; batch.len(), 2);
-    assert_eq!(rt; batch.get(0), Some(deposit(1, 100)));
-    assert_eq!(rt; batch.get(1), Some(transfer(1, 2, 40)));
-    assert_eq!(rt; batch.get(2), None);
-    assert_eq!(rt; Batch::of(&[]).get(0), None);
-    assert_eq!(rt; batch.iter().as_slice(), entries.as_slice());
-    assert_eq!(rt; batch.is_empty(), false);
-    assert_eq!(rt; Batch::default().is_empty(), true);
-    assert_eq!(rt; Batch::of(&[entries[0]; 15]).len(), 15);
+    assert!(rt; batch.len() == 2);
+    assert!(rt; batch.get(0) == Some(deposit(1, 100)));
+    assert!(rt; batch.get(1) == Some(transfer(1, 2, 40)));
+    assert!(rt; batch.get(2) == None);
+    assert!(rt; Batch::of(&[]).get(0) == None);
+    assert!(rt; batch.iter().as_slice() == entries.as_slice());
+    assert!(rt; batch.is_empty() == false);
+    assert!(rt; Batch::default().is_empty() == true);
+    assert!(rt; Batch::of(&[entries[0]; 15]).len() == 15);
 }
 
 #[test]
@@ -214,10 +210,10 @@ fn an_example_of_a_turn(rt: HostRuntime) -> Result<(), Fail> {
     let entries = [deposit(1, 100), withdraw(1, 150), transfer(1, 2, 40)];
     let verdicts = ledger.screen(&entries);
     for (place, verdict) in verdicts.iter().enumerate() {
-        assert_eq!(rt; verdict.is_ok(), place != 1, "entry {place}");
+        assert!(rt; verdict.is_ok() == (place != 1), "entry {place}");
     }
     for entry in &Batch::of_accepted(&entries, &verdicts) {
-        assert_eq!(rt; ledger.post(entry), Ok(()));
+        assert!(rt; ledger.post(entry) == Ok(()));
     }
     let mut text = String::new(alloc);
     for (account, balance) in ledger.accounts() {
@@ -225,14 +221,14 @@ fn an_example_of_a_turn(rt: HostRuntime) -> Result<(), Fail> {
             write!(text, "{account}: {balance}, ")?;
         }
     }
-    assert_eq!(rt; text.as_str(), "1: 60, 2: 40, ");
-    assert_eq!(rt; ledger.accounts().count(), 64);
+    assert!(rt; text.as_str() == "1: 60, 2: 40, ");
+    assert!(rt; ledger.accounts().count() == 64);
 
     for verdict in &verdicts {
         assert!(rt; *verdict != Err(EntryRefusal::OverLimit));
     }
-    assert_eq!(rt; verdicts.is_empty(), false);
-    assert_eq!(rt; Verdicts::default().is_empty(), true);
+    assert!(rt; verdicts.is_empty() == false);
+    assert!(rt; Verdicts::default().is_empty() == true);
     Ok(())
 }
 
@@ -251,7 +247,7 @@ fn entries_in_words(rt: HostRuntime) -> Result<(), Fail> {
     ];
     for (entry, wanted) in table {
         let words = format!(in rt.alloc(); "{entry}")?;
-        assert_eq!(rt; words.as_str(), wanted);
+        assert!(rt; words.as_str() == wanted);
     }
     Ok(())
 }
@@ -259,6 +255,6 @@ fn entries_in_words(rt: HostRuntime) -> Result<(), Fail> {
 #[test]
 fn refusals_in_words(rt: HostRuntime) -> Result<(), Fail> {
     let words = format!(in rt.alloc(); "{}", EntryRefusal::Short)?;
-    assert_eq!(rt; words.as_str(), "the account holds too little");
+    assert!(rt; words.as_str() == "the account holds too little");
     Ok(())
 }

@@ -10,7 +10,7 @@ mod fakes;
 fn a_script_is_read_whole(rt: HostRuntime) -> Result<(), Fail> {
     let mut reader = b"format 4\n".as_slice();
     let script = read_script(rt.alloc(), &mut reader)?;
-    assert_eq!(rt; script.as_slice(), b"format 4\n".as_slice());
+    assert!(rt; script.as_slice() == b"format 4\n".as_slice());
     Ok(())
 }
 
@@ -22,14 +22,14 @@ fn a_script_of_the_limit_is_read_and_no_longer_one(rt: HostRuntime) -> Result<()
         fails: false,
     };
     let script = read_script(rt.alloc(), &mut reader)?;
-    assert_eq!(rt; script.len() as u64, limit);
+    assert!(rt; script.len() as u64 == limit);
     for fails in [false, true] {
         let mut reader = Giving {
             left: limit + 1,
             fails,
         };
         let script = read_script(rt.alloc(), &mut reader);
-        assert_eq!(rt; script.err(), Some(StreamFault::TooLong));
+        assert!(rt; script.err() == Some(StreamFault::TooLong));
     }
     Ok(())
 }
@@ -39,7 +39,7 @@ fn a_reader_that_fails_is_told_although_it_gave_bytes(rt: HostRuntime) {
     for left in [0, 1, 100_000] {
         let mut reader = Giving { left, fails: true };
         let script = read_script(rt.alloc(), &mut reader);
-        assert_eq!(rt; script.err(), Some(StreamFault::Read));
+        assert!(rt; script.err() == Some(StreamFault::Read));
     }
 }
 
@@ -47,11 +47,11 @@ fn a_reader_that_fails_is_told_although_it_gave_bytes(rt: HostRuntime) {
 fn a_reader_is_called_33554432_times_at_most(rt: HostRuntime) -> Result<(), Fail> {
     let mut reader = Interrupted::before_each(33_554_431);
     let script = read_script(rt.alloc(), &mut reader)?;
-    assert_eq!(rt; (script.len(), reader.calls()), (0, 33_554_432));
+    assert!(rt; (script.len(), reader.calls()) == (0, 33_554_432));
     let mut reader = Interrupted::before_each(33_554_432);
     let script = read_script(rt.alloc(), &mut reader);
-    assert_eq!(rt; script.err(), Some(StreamFault::Read));
-    assert_eq!(rt; reader.calls(), 33_554_432);
+    assert!(rt; script.err() == Some(StreamFault::Read));
+    assert!(rt; reader.calls() == 33_554_432);
     Ok(())
 }
 
@@ -59,20 +59,20 @@ fn a_reader_is_called_33554432_times_at_most(rt: HostRuntime) -> Result<(), Fail
 fn a_writer_is_interrupted_1000_times_in_a_row_at_most(rt: HostRuntime) {
     let mut writer = Interrupted::before_each(1_000);
     assert!(rt; write_all(&mut writer, b"abc").is_ok());
-    assert_eq!(rt; writer.calls(), 3 * 1_001);
+    assert!(rt; writer.calls() == 3 * 1_001);
     let mut writer = Interrupted::before_each(1_001);
     assert!(rt; write_all(&mut writer, b"abc").is_err());
-    assert_eq!(rt; writer.calls(), 1_001);
+    assert!(rt; writer.calls() == 1_001);
 }
 
 #[test]
 fn a_writer_is_handed_all_or_told(rt: HostRuntime) {
     let mut writer = Taking::for_calls(rt.alloc(), 1);
     assert!(rt; write_all(&mut writer, b"").is_ok());
-    assert_eq!(rt; writer.pieces().len(), 0);
+    assert!(rt; writer.pieces().len() == 0);
     assert!(rt; write_all(&mut writer, b"abc").is_ok());
     assert!(rt; write_all(&mut writer, b"def").is_err());
-    assert_eq!(rt; writer.pieces().len(), 1);
+    assert!(rt; writer.pieces().len() == 1);
 }
 
 // So many lines of this text, and one more.
@@ -104,8 +104,8 @@ fn lines_are_gathered_to_65536_bytes(rt: HostRuntime) -> Result<(), Fail> {
     let [first, last] = writer.pieces() else {
         return Err(Fail::from(StreamFault::Write));
     };
-    assert_eq!(rt; first.len(), 65_536);
-    assert_eq!(rt; last.len(), 1_024 + 14);
+    assert!(rt; first.len() == 65_536);
+    assert!(rt; last.len() == 1_024 + 14);
     assert!(rt; last.as_slice().ends_with(b"\naccount 1 500\n"));
     Ok(())
 }
@@ -114,9 +114,9 @@ fn lines_are_gathered_to_65536_bytes(rt: HostRuntime) -> Result<(), Fail> {
 fn a_line_that_is_not_taken_is_told(rt: HostRuntime) -> Result<(), Fail> {
     let mut writer = Taking::for_calls(rt.alloc(), 0);
     let mut output = Output::new(rt.alloc(), &mut writer)?;
-    assert_eq!(rt; output.flush(), Ok(()));
-    assert_eq!(rt; output.line("crashed"), Ok(()));
-    assert_eq!(rt; output.flush(), Err(StreamFault::Write));
+    assert!(rt; output.flush() == Ok(()));
+    assert!(rt; output.line("crashed") == Ok(()));
+    assert!(rt; output.flush() == Err(StreamFault::Write));
     Ok(())
 }
 
@@ -130,7 +130,7 @@ fn faults_have_their_texts(rt: HostRuntime) -> Result<(), Fail> {
     ];
     for (fault, wanted) in table {
         let text = fault.to_string(rt.alloc())?;
-        assert_eq!(rt; text.as_str(), wanted);
+        assert!(rt; text.as_str() == wanted);
     }
     Ok(())
 }

@@ -47,39 +47,39 @@ fn two_stations_take_turns(rt: HostRuntime) {
     for (station, rule, next) in turns {
         assert!(rt; at.is_legitimate());
         at = after(&rt, at, station, rule);
-        assert_eq!(rt; at, next);
+        assert!(rt; at == next);
     }
 }
 
 #[test]
 fn handed_ends_of_up_are_ignored(rt: HostRuntime) {
-    assert_eq!(rt; line(&rt, b"00", b"01"), line(&rt, b"00", b"10"));
+    assert!(rt; line(&rt, b"00", b"01") == line(&rt, b"00", b"10"));
     assert!(rt; line(&rt, b"00", b"01").up(0));
 }
 
 #[test]
 fn refuses_what_is_no_line(rt: HostRuntime) {
     let long = [b'0'; 64];
-    assert_eq!(rt; try_line(&rt, 1, b"0", b"1"), Err(LineRefusal::Stations));
-    assert_eq!(rt; try_line(&rt, 65, &long, &long), Err(LineRefusal::Stations));
-    assert_eq!(rt; try_line(&rt, 2, b"000", b"10"), Err(LineRefusal::Length));
-    assert_eq!(rt; try_line(&rt, 2, b"00", b"100"), Err(LineRefusal::Length));
-    assert_eq!(rt; line(&rt, &long, &long).stations(), 64);
+    assert!(rt; try_line(&rt, 1, b"0", b"1") == Err(LineRefusal::Stations));
+    assert!(rt; try_line(&rt, 65, &long, &long) == Err(LineRefusal::Stations));
+    assert!(rt; try_line(&rt, 2, b"000", b"10") == Err(LineRefusal::Length));
+    assert!(rt; try_line(&rt, 2, b"00", b"100") == Err(LineRefusal::Length));
+    assert!(rt; line(&rt, &long, &long).stations() == 64);
 }
 
 #[test]
 fn a_middle_station_may_have_two_privileges(rt: HostRuntime) {
     let both = line(&rt, b"011", b"110");
     assert!(rt; both.enabled(1, Rule::Raise) && both.enabled(1, Rule::Lower));
-    assert_eq!(rt; both.privileges(), 2);
+    assert!(rt; both.privileges() == 2);
     assert!(rt; !both.is_legitimate());
-    assert_eq!(rt; both.stations(), 3);
+    assert!(rt; both.stations() == 3);
     assert!(rt; 1 < both.stations());
-    assert_eq!(rt; both.privilege(1), Some(Rule::Raise));
+    assert!(rt; both.privilege(1) == Some(Rule::Raise));
     let raised = after(&rt, both, 1, Rule::Raise);
-    assert_eq!(rt; raised, line(&rt, b"001", b"110"));
+    assert!(rt; raised == line(&rt, b"001", b"110"));
     let lowered = after(&rt, both, 1, Rule::Lower);
-    assert_eq!(rt; lowered, line(&rt, b"011", b"100"));
+    assert!(rt; lowered == line(&rt, b"011", b"100"));
     assert!(rt; raised.is_legitimate() && lowered.is_legitimate());
 }
 
@@ -96,12 +96,9 @@ fn nothing_past_the_top_is_privileged(rt: HostRuntime) {
 #[test]
 fn refusals_read_as_sentences(rt: HostRuntime) -> Result<(), std::test::Fail> {
     let stations = format!(in rt.alloc(); "{}", LineRefusal::Stations)?;
-    assert_eq!(rt; stations.as_str(), "a line has 2 to 64 stations");
+    assert!(rt; stations.as_str() == "a line has 2 to 64 stations");
     let length = format!(in rt.alloc(); "{}", LineRefusal::Length)?;
-    assert_eq!(rt;
-        length.as_str(),
-        "each list of bits has one bit for each station"
-    );
+    assert!(rt; length.as_str() == "each list of bits has one bit for each station");
     Ok(())
 }
 
@@ -111,14 +108,14 @@ fn an_example_of_a_move(rt: HostRuntime) -> Result<(), std::test::Fail> {
     let bits = [false, false, false];
     let mut line = Line::from_bits(3, &bits, &bits).expect(&rt, "three stations");
     let before = format!(in alloc; "{line}")?;
-    assert_eq!(rt; before.as_str(), "000/100");
+    assert!(rt; before.as_str() == "000/100");
     assert!(rt; line.stations() == 3 && line.is_legitimate());
     let rule = line.privilege(0).expect(&rt, "the bottom station's turn");
     let name = format!(in alloc; "{rule}")?;
-    assert_eq!(rt; name.as_str(), "Bottom");
+    assert!(rt; name.as_str() == "Bottom");
     line.make_move(0, rule);
     let after = format!(in alloc; "{line}")?;
-    assert_eq!(rt; after.as_str(), "100/100");
+    assert!(rt; after.as_str() == "100/100");
     Ok(())
 }
 
@@ -136,14 +133,14 @@ fn three_stations_sweep_up_and_down(rt: HostRuntime) {
         (1, Rule::Lower, line(&rt, b"000", b"100")),
     ];
     for (station, rule, next) in sweep {
-        assert_eq!(rt; at.privileges(), 1);
+        assert!(rt; at.privileges() == 1);
         for s in 0..3 {
             assert!(rt; s < at.stations());
             let chosen = at.privilege(s);
-            assert_eq!(rt; chosen, if s == station { Some(rule) } else { None });
+            assert!(rt; chosen == (if s == station { Some(rule) } else { None }));
         }
         at = after(&rt, at, station, rule);
-        assert_eq!(rt; at, next);
+        assert!(rt; at == next);
     }
 }
 
@@ -152,23 +149,20 @@ fn sixty_four_stations_fill_two_words(rt: HostRuntime) {
     let mut bottom_up = [b'0'; 64];
     bottom_up[0] = b'1';
     let resting = line(&rt, &[b'0'; 64], &bottom_up);
-    assert_eq!(rt; *resting.words(), [0, 1]);
-    assert_eq!(rt; resting.privileges(), 1);
-    assert_eq!(rt; resting.privilege(0), Some(Rule::Bottom));
+    assert!(rt; *resting.words() == [0, 1]);
+    assert!(rt; resting.privileges() == 1);
+    assert!(rt; resting.privilege(0) == Some(Rule::Bottom));
 
     let mut alternating = [b'0'; 64];
     for s in 0..32 {
         alternating[2 * s + 1] = b'1';
     }
     let busy = line(&rt, &alternating, &alternating);
-    assert_eq!(rt;
-        *busy.words(),
-        [0xaaaa_aaaa_aaaa_aaaa, 0x2aaa_aaaa_aaaa_aaab]
-    );
-    assert_eq!(rt; busy.privileges(), 63);
+    assert!(rt; *busy.words() == [0xaaaa_aaaa_aaaa_aaaa, 0x2aaa_aaaa_aaaa_aaab]);
+    assert!(rt; busy.privileges() == 63);
     assert!(rt; !busy.enabled(0, Rule::Bottom));
     assert!(rt; 63 < busy.stations());
-    assert_eq!(rt; busy.privilege(63), Some(Rule::Top));
+    assert!(rt; busy.privilege(63) == Some(Rule::Top));
 }
 
 // The bits of a line as the digits of two numbers, station 0 the lowest: the plain table, to compare
@@ -249,21 +243,21 @@ fn compare(rt: &impl Abort, d: Digits) {
     for s in 0..line.stations() {
         for rule in RULES {
             let may = may_move(d, s, rule);
-            assert_eq!(rt; line.enabled(s, rule), may, "{s} {rule:?} of {d:?}");
+            assert!(rt; line.enabled(s, rule) == may, "{s} {rule:?} of {d:?}");
             if may {
                 assert!(rt; count < 24, "{d:?}");
                 count += 1;
-                assert_eq!(rt; after(rt, line, s, rule), line_of(rt, moved(d, s, rule)));
+                assert!(rt; after(rt, line, s, rule) == line_of(rt, moved(d, s, rule)));
             }
         }
         let raise = may_move(d, s, Rule::Raise);
         let chosen = RULES.into_iter().find(|rule| may_move(d, s, *rule));
-        assert_eq!(rt; line.privilege(s), chosen);
+        assert!(rt; line.privilege(s) == chosen);
         assert!(rt; !raise || line.privilege(s) == Some(Rule::Raise));
     }
-    assert_eq!(rt; line.privileges(), count);
-    assert_eq!(rt; line.is_legitimate(), count == 1);
-    assert_eq!(rt; *line.words(), [d.x as u64, d.up as u64]);
+    assert!(rt; line.privileges() == count);
+    assert!(rt; line.is_legitimate() == (count == 1));
+    assert!(rt; *line.words() == [d.x as u64, d.up as u64]);
 }
 
 #[test]
@@ -287,5 +281,5 @@ fn every_line_of_up_to_six_stations_follows_the_table(rt: HostRuntime) {
         }
     }
     // 4 to the power of the number of the top station, for 1 to 5
-    assert_eq!(rt; lines, 4 + 16 + 64 + 256 + 1024);
+    assert!(rt; lines == 4 + 16 + 64 + 256 + 1024);
 }

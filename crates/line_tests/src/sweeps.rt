@@ -12,7 +12,7 @@ fn by(station: u8, rule: Rule) -> Move {
 
 // The moves pass these lines, and the first legitimate index is found where it comes.
 fn passes(rt: &impl Abort, start: Line, moves: &[Move], lines: &[Line], first: usize) {
-    assert_eq!(rt; moves.len(), lines.len());
+    assert!(rt; moves.len() == lines.len());
     assert!(rt; moves.len() < 1000);
     for i in 0..moves.len() {
         let found = if first <= i + 1 { Some(first) } else { None };
@@ -20,9 +20,8 @@ fn passes(rt: &impl Abort, start: Line, moves: &[Move], lines: &[Line], first: u
             first_legitimate: found,
             last: lines[i],
         };
-        assert_eq!(rt;
-            audit(start, &moves[..i + 1]),
-            Ok(told),
+        assert!(rt;
+            audit(start, &moves[..i + 1]) == Ok(told),
             "after {i} and one more"
         );
     }
@@ -64,20 +63,17 @@ fn a_fall_and_a_rise_leave_one_privilege(rt: HostRuntime) {
         first_legitimate: None,
         last: start,
     };
-    assert_eq!(rt; audit(start, &[]), Ok(told));
+    assert!(rt; audit(start, &[]) == Ok(told));
 }
 
 #[test]
 fn refuses_the_first_move_that_is_no_privilege(rt: HostRuntime) {
     let start = line(&rt, b"0101", b"1000");
     let at_once = Err(AuditRefusal::NotEnabled { index: 0 });
-    assert_eq!(rt; audit(start, &[by(0, Rule::Bottom)]), at_once);
-    assert_eq!(rt; audit(start, &[by(9, Rule::Top)]), at_once);
+    assert!(rt; audit(start, &[by(0, Rule::Bottom)]) == at_once);
+    assert!(rt; audit(start, &[by(9, Rule::Top)]) == at_once);
     let later = [by(2, Rule::Raise), by(2, Rule::Raise), by(9, Rule::Top)];
-    assert_eq!(rt;
-        audit(start, &later),
-        Err(AuditRefusal::NotEnabled { index: 1 })
-    );
+    assert!(rt; audit(start, &later) == Err(AuditRefusal::NotEnabled { index: 1 }));
 }
 
 #[test]
@@ -112,10 +108,7 @@ fn three_stations_find_one_privilege_within_seven_moves(rt: HostRuntime) {
 #[test]
 fn a_refusal_reads_as_a_sentence(rt: HostRuntime) -> Result<(), std::test::Fail> {
     let refusal = format!(in rt.alloc(); "{}", AuditRefusal::NotEnabled { index: 7 })?;
-    assert_eq!(rt;
-        refusal.as_str(),
-        "the station of move 7 may not move by its rule there"
-    );
+    assert!(rt; refusal.as_str() == "the station of move 7 may not move by its rule there");
     Ok(())
 }
 
@@ -175,7 +168,7 @@ fn marks_before(rt: &impl Abort, n: u8, lines: usize, marked: &[bool; 64]) -> [b
     let mut before = [false; 64];
     for number in 0..lines {
         let line = line_of(rt, n, number);
-        assert_eq!(rt; number_of(rt, line), number);
+        assert!(rt; number_of(rt, line) == number);
         before[number] = !line.is_legitimate() && leads_to_marked(rt, line, marked);
     }
     before
@@ -197,9 +190,8 @@ fn greatest_first_legitimate(rt: &impl Abort, n: u8, lines: usize) -> usize {
 #[test]
 fn no_schedule_of_up_to_four_stations_takes_longer_than_computed(rt: HostRuntime) {
     for (n, lines, greatest) in [(2, 4, 0), (3, 16, 2), (4, 64, 7)] {
-        assert_eq!(rt;
-            greatest_first_legitimate(&rt, n, lines),
-            greatest,
+        assert!(rt;
+            greatest_first_legitimate(&rt, n, lines) == greatest,
             "{n} stations"
         );
     }

@@ -35,28 +35,28 @@ fn reconciled(rt: &impl Abort, alloc: Global, feed: Feed, desk: Desk) -> Reconci
 fn full_rings_and_a_desk_that_gives_up(rt: HostRuntime) -> Result<(), Fail> {
     let alloc = rt.alloc();
     let (mut feed, mut desk) = desk(alloc, 2)?;
-    assert_eq!(rt; feed.submit(deposit(1, 5)), Ok(0));
-    assert_eq!(rt; feed.submit(deposit(1, 6)), Ok(1));
-    assert_eq!(rt; feed.submit(deposit(1, 7)), Err(deposit(1, 7)));
+    assert!(rt; feed.submit(deposit(1, 5)) == Ok(0));
+    assert!(rt; feed.submit(deposit(1, 6)) == Ok(1));
+    assert!(rt; feed.submit(deposit(1, 7)) == Err(deposit(1, 7)));
     let both = [deposit(1, 5), deposit(1, 6)];
-    assert_eq!(rt; desk.gather(), both.as_slice());
-    assert_eq!(rt; feed.submit(deposit(1, 7)), Ok(2));
+    assert!(rt; desk.gather() == both.as_slice());
+    assert!(rt; feed.submit(deposit(1, 7)) == Ok(2));
     // There are two places for answers, and both are spoken for.
-    assert_eq!(rt; desk.gather(), both.as_slice());
+    assert!(rt; desk.gather() == both.as_slice());
     let shown = format!(in alloc; "{feed:?} {desk:?}")?;
-    assert_eq!(rt; shown.as_str(), "Feed { next: 3, .. } Desk { held: 2, .. }");
+    assert!(rt; shown.as_str() == "Feed { next: 3, .. } Desk { held: 2, .. }");
     desk.give_up();
-    assert_eq!(rt; feed.answer(), undecided(0, 5));
-    assert_eq!(rt; feed.answer(), undecided(1, 6));
-    assert_eq!(rt; feed.answer(), None);
+    assert!(rt; feed.answer() == undecided(0, 5));
+    assert!(rt; feed.answer() == undecided(1, 6));
+    assert!(rt; feed.answer() == None);
     let all = reconciled(&rt, alloc, feed, desk);
     let left = [Ask {
         ticket: 2,
         entry: deposit(1, 7),
     }];
-    assert_eq!(rt; (all.submitted, all.collected), (3, 2));
-    assert_eq!(rt; all.answers.as_slice(), [].as_slice());
-    assert_eq!(rt; all.unanswered.as_slice(), left.as_slice());
+    assert!(rt; (all.submitted, all.collected) == (3, 2));
+    assert!(rt; all.answers.as_slice() == [].as_slice());
+    assert!(rt; all.unanswered.as_slice() == left.as_slice());
     Ok(())
 }
 
@@ -65,17 +65,17 @@ fn full_rings_and_a_desk_that_gives_up(rt: HostRuntime) -> Result<(), Fail> {
 fn what_is_left_is_reconciled_in_order(rt: HostRuntime) -> Result<(), Fail> {
     let alloc = rt.alloc();
     let (mut feed, mut desk) = desk(alloc, 3)?;
-    assert_eq!(rt; feed.submit(deposit(1, 10)), Ok(0));
-    assert_eq!(rt; feed.submit(deposit(1, 11)), Ok(1));
-    assert_eq!(rt; feed.submit(deposit(1, 12)), Ok(2));
-    assert_eq!(rt; desk.gather().len(), 3);
+    assert!(rt; feed.submit(deposit(1, 10)) == Ok(0));
+    assert!(rt; feed.submit(deposit(1, 11)) == Ok(1));
+    assert!(rt; feed.submit(deposit(1, 12)) == Ok(2));
+    assert!(rt; desk.gather().len() == 3);
     desk.give_up();
-    assert_eq!(rt; feed.answer(), undecided(0, 10));
-    assert_eq!(rt; feed.submit(deposit(1, 13)), Ok(3));
-    assert_eq!(rt; feed.submit(deposit(1, 14)), Ok(4));
-    assert_eq!(rt; desk.gather(), [deposit(1, 13)].as_slice());
+    assert!(rt; feed.answer() == undecided(0, 10));
+    assert!(rt; feed.submit(deposit(1, 13)) == Ok(3));
+    assert!(rt; feed.submit(deposit(1, 14)) == Ok(4));
+    assert!(rt; desk.gather() == [deposit(1, 13)].as_slice());
     let all = reconciled(&rt, alloc, feed, desk);
-    assert_eq!(rt; (all.submitted, all.collected), (5, 1));
+    assert!(rt; (all.submitted, all.collected) == (5, 1));
     let answers = all.answers.iter().map(|answer| answer.ticket);
     assert!(rt; answers.eq([1, 2]));
     let unanswered = all.unanswered.iter().map(|ask| (ask.ticket, ask.entry));
@@ -97,18 +97,12 @@ fn a_turn_answers_what_was_gathered(rt: HostRuntime) -> Result<(), Fail> {
     }
     let turn = clerk.turn(0, desk.gather())?;
     desk.settle(&turn);
-    assert_eq!(rt; desk.gather(), [].as_slice());
+    assert!(rt; desk.gather() == [].as_slice());
     let refused = Outcome::Refused(EntryRefusal::Short);
-    assert_eq!(rt;
-        feed.answer(),
-        Some(answer(0, deposit(1, 100), Outcome::Posted(0)))
-    );
-    assert_eq!(rt; feed.answer(), Some(answer(1, withdrawal, refused)));
-    assert_eq!(rt;
-        feed.answer(),
-        Some(answer(2, deposit(1, 20), Outcome::Posted(0)))
-    );
-    assert_eq!(rt; feed.answer(), None);
+    assert!(rt; feed.answer() == Some(answer(0, deposit(1, 100), Outcome::Posted(0))));
+    assert!(rt; feed.answer() == Some(answer(1, withdrawal, refused)));
+    assert!(rt; feed.answer() == Some(answer(2, deposit(1, 20), Outcome::Posted(0))));
+    assert!(rt; feed.answer() == None);
     Ok(())
 }
 
@@ -116,15 +110,15 @@ fn a_turn_answers_what_was_gathered(rt: HostRuntime) -> Result<(), Fail> {
 fn the_largest_rings_and_fifteen_at_a_time(rt: HostRuntime) -> Result<(), Fail> {
     let (mut feed, mut desk) = desk(rt.alloc(), 4_096)?;
     for ticket in 0..4_096 {
-        assert_eq!(rt; feed.submit(deposit(1, ticket)), Ok(ticket));
+        assert!(rt; feed.submit(deposit(1, ticket)) == Ok(ticket));
     }
-    assert_eq!(rt; feed.submit(deposit(1, 1)), Err(deposit(1, 1)));
+    assert!(rt; feed.submit(deposit(1, 1)) == Err(deposit(1, 1)));
     let mut gathered = 0usize;
     for _ in 0..274 {
         gathered = gathered.saturating_add(desk.gather().len());
         desk.give_up();
     }
     // 273 times 15, and one more
-    assert_eq!(rt; gathered, 4_096);
+    assert!(rt; gathered == 4_096);
     Ok(())
 }

@@ -2,16 +2,14 @@
 use crate::beginnings::{noted, told, zeros};
 use gate_journal::{FormatRefusal, format};
 use journal_recovery::{OpenRefusal, recover};
-use sector_device::{Device, DeviceFault, MemoryDevice, SECTOR, Sector};
+use sector_device::{Device, MemoryDevice, SECTOR, Sector};
 use std::process::Abort;
 use std::test::Fail;
 use turn_ledger::Ledger;
 
-fn read_at(rt: &impl Abort, device: &mut MemoryDevice, at: u64) -> Result<Sector, DeviceFault> {
+fn bytes_at(rt: &impl Abort, device: &MemoryDevice, at: u64) -> Sector {
     assert!(rt; at < device.sectors());
-    let mut bytes = [0; SECTOR];
-    device.read(at, &mut bytes)?;
-    Ok(bytes)
+    *device.sector(at)
 }
 
 #[test]
@@ -37,21 +35,21 @@ fn written(
     assert!(rt; at < device.sectors());
     if device.write(at, bytes).is_err() {
         told(rt, "MemoryDevice::write");
-        assert!(rt; read_at(rt, device, at)? == [0; SECTOR]);
+        assert!(rt; bytes_at(rt, device, at) == [0; SECTOR]);
         assert!(rt; at < device.sectors() && !device.pending(at));
         device.write(at, bytes)?;
     }
-    assert!(rt; read_at(rt, device, at)? == *bytes);
+    assert!(rt; bytes_at(rt, device, at) == *bytes);
     assert!(rt; at < device.sectors() && device.pending(at));
     Ok(())
 }
 
 // Syncs a device on which one sector is pending.
 fn synced(rt: &(impl Abort + Print), device: &mut MemoryDevice, pending: u64) -> Result<(), Fail> {
-    let bytes = read_at(rt, device, pending)?;
+    let bytes = bytes_at(rt, device, pending);
     if device.sync().is_err() {
         told(rt, "MemoryDevice::sync");
-        assert!(rt; read_at(rt, device, pending)? == bytes);
+        assert!(rt; bytes_at(rt, device, pending) == bytes);
         assert!(rt; pending < device.sectors() && device.pending(pending));
         device.sync()?;
     }
@@ -94,7 +92,7 @@ fn a_device_is_formatted(rt: HostRuntime) -> Result<(), Fail> {
     let mut superblock = [0; SECTOR];
     superblock[..6].copy_from_slice(&[0x54, 0x4c, 0x44, 0x47, 0, 2]);
     superblock[15] = 4;
-    assert!(rt; read_at(&rt, &mut device, 0)? == superblock);
+    assert!(rt; bytes_at(&rt, &device, 0) == superblock);
     Ok(())
 }
 

@@ -44,7 +44,7 @@ fn a_device_in_memory_takes_250_000_calls(rt: HostRuntime) -> Result<(), Fail> {
     for (at, byte) in [(0, 70), (1, 71), (2, 0)] {
         assert!(rt; at < device.sectors());
         device.read(at, &mut found)?;
-        assert_eq!(rt; found, [byte; SECTOR]);
+        assert!(rt; found == [byte; SECTOR]);
         assert!(rt; !device.pending(at));
     }
     Ok(())
@@ -55,17 +55,14 @@ fn a_clerk_takes_300_turns(rt: HostRuntime) -> Result<(), Fail> {
     let mut clerk = two_stations(&rt, rt.alloc(), 300)?;
     for number in 0..300u64 {
         let turn = clerk.turn((number % 2) as u8, &[deposit(1, number)])?;
-        assert_eq!(rt; turn.index, number);
+        assert!(rt; turn.index == number);
         // The first one deposits nothing, and is refused.
-        assert_eq!(rt; turn.posted, number.checked_sub(1));
+        assert!(rt; turn.posted == number.checked_sub(1));
     }
-    assert_eq!(rt; (clerk.history().len(), clerk.moves().len()), (300, 300));
+    assert!(rt; (clerk.history().len(), clerk.moves().len()) == (300, 300));
     // 1 + 2 + .. + 299
-    assert_eq!(rt; clerk.ledger().total(), 44_850);
-    assert_eq!(rt;
-        recovered(&rt, rt.alloc(), clerk.into_device()),
-        (Some(44_850), 299)
-    );
+    assert!(rt; clerk.ledger().total() == 44_850);
+    assert!(rt; recovered(&rt, rt.alloc(), clerk.into_device()) == (Some(44_850), 299));
     Ok(())
 }
 
@@ -80,13 +77,12 @@ fn a_turn_takes_15_accepted_entries(rt: HostRuntime) -> Result<(), Fail> {
         reference: 3,
     };
     let turn = clerk.turn(0, &entries)?;
-    assert_eq!(rt; (turn.entries.len(), turn.verdicts.accepted()), (15, 15));
-    assert_eq!(rt; turn.posted, Some(0));
-    assert_eq!(rt; clerk.ledger().balance(64), Some(98));
+    assert!(rt; (turn.entries.len(), turn.verdicts.accepted()) == (15, 15));
+    assert!(rt; turn.posted == Some(0));
+    assert!(rt; clerk.ledger().balance(64) == Some(98));
     match recover(rt.alloc(), clerk.into_device()) {
-        Ok(found) => assert_eq!(rt;
-            (found.ledger.balance(1), found.ledger.balance(64)),
-            (Some(0), Some(98))
+        Ok(found) => assert!(rt;
+            (found.ledger.balance(1), found.ledger.balance(64)) == (Some(0), Some(98))
         ),
         Err((_, refusal)) => panic!(rt; "{refusal}"),
     }
@@ -150,9 +146,9 @@ fn a_million_slots() -> Sparse {
 fn a_device_of_8_000_000_sectors_is_recovered(rt: HostRuntime) -> Result<(), Fail> {
     match recover(rt.alloc(), a_million_slots()) {
         Ok(found) => {
-            assert_eq!(rt; found.ledger.balance(1), Some(500));
-            assert_eq!(rt; found.journal.next(), 1);
-            assert_eq!(rt; found.journal.room(), 999_999);
+            assert!(rt; found.ledger.balance(1) == Some(500));
+            assert!(rt; found.journal.next() == 1);
+            assert!(rt; found.journal.room() == 999_999);
         }
         Err((_, refusal)) => panic!(rt; "{refusal}"),
     }

@@ -75,18 +75,18 @@ fn compare_station(rt: &impl Abort, plain: Plain, line: Line, s: u8) -> usize {
     let place = s as usize;
     for rule in RULES {
         let may = may_move(plain, place, rule);
-        assert_eq!(rt; line.enabled(s, rule), may, "{s} {rule:?} of {plain:?}");
+        assert!(rt; line.enabled(s, rule) == may, "{s} {rule:?} of {plain:?}");
         if line.enabled(s, rule) {
             let mut after = line;
             after.make_move(s, rule);
-            assert_eq!(rt; after, line_of(rt, moved(plain, place, rule)));
+            assert!(rt; after == line_of(rt, moved(plain, place, rule)));
         }
     }
     assert!(rt; s < line.stations());
-    assert_eq!(rt; line.x(s), bit(&plain.x, place));
-    assert_eq!(rt; line.up(s), bit(&plain.up, place));
+    assert!(rt; line.x(s) == bit(&plain.x, place));
+    assert!(rt; line.up(s) == bit(&plain.up, place));
     let chosen = RULES.into_iter().find(|rule| may_move(plain, place, *rule));
-    assert_eq!(rt; line.privilege(s), chosen);
+    assert!(rt; line.privilege(s) == chosen);
     RULES
         .iter()
         .filter(|rule| may_move(plain, place, **rule))
@@ -99,14 +99,11 @@ fn compare(rt: &impl Abort, plain: Plain) {
     for s in 0..line.stations() {
         count = count.saturating_add(compare_station(rt, plain, line, s));
     }
-    assert_eq!(rt; line.privileges() as usize, count, "{plain:?}");
-    assert_eq!(rt; line.is_legitimate(), count == 1);
+    assert!(rt; line.privileges() as usize == count, "{plain:?}");
+    assert!(rt; line.is_legitimate() == (count == 1));
     let [x, up] = *line.words();
     for s in 0..MOST_STATIONS {
-        assert_eq!(rt;
-            ((x >> s) % 2 == 1, (up >> s) % 2 == 1),
-            (plain.x[s], plain.up[s])
-        );
+        assert!(rt; ((x >> s) % 2 == 1, (up >> s) % 2 == 1) == (plain.x[s], plain.up[s]));
     }
 }
 

@@ -95,15 +95,12 @@ fn live(
     let Ok(mut clerk) = Clerk::open(alloc, Fuse::new(device, op, number), line) else {
         panic!(rt; "not opened")
     };
-    assert_eq!(rt; clerk.opening_balance(1), Some(before.balance));
-    assert_eq!(rt; clerk.opening_next(), before.batches);
+    assert!(rt; clerk.opening_balance(1) == Some(before.balance));
+    assert!(rt; clerk.opening_next() == before.batches);
     let [(first, kept), (second, lost)] = life.turns;
     let turn = clerk.turn(first, &[deposit(kept)])?;
-    assert_eq!(rt; turn.posted, Some(before.batches));
-    assert_eq!(rt;
-        clerk.turn(second, &[deposit(lost)]),
-        Err(TurnRefusal::Device)
-    );
+    assert!(rt; turn.posted == Some(before.batches));
+    assert!(rt; clerk.turn(second, &[deposit(lost)]) == Err(TurnRefusal::Device));
     let acknowledged = before.and(kept);
     let device = clerk.into_device().into_inner();
     let device = lose_power(rt, alloc, device, acknowledged.batches, loss.left)?;
@@ -124,10 +121,7 @@ fn live_three_times(rt: &impl Abort, alloc: Global, losses: [Loss; 3]) -> Result
     for (life, loss) in LIVES.iter().zip(&losses) {
         (device, expected) = live(rt, alloc, device, life, loss, expected)?;
     }
-    assert_eq!(rt;
-        recovered(rt, alloc, device),
-        (Some(expected.balance), expected.batches)
-    );
+    assert!(rt; recovered(rt, alloc, device) == (Some(expected.balance), expected.batches));
     Ok(())
 }
 

@@ -29,15 +29,12 @@ fn append_on(
             let answer = journal.append(&deposit_of_500(rt));
             if answer.is_err() {
                 assert!(rt; journal.is_faulted());
-                assert_eq!(rt;
-                    journal.append(&deposit_of_500(rt)),
-                    Err(AppendRefusal::Faulted)
-                );
+                assert!(rt; journal.append(&deposit_of_500(rt)) == Err(AppendRefusal::Faulted));
             }
             (Some(answer), journal.into_device().into_inner())
         }
         Err((device, refusal)) => {
-            assert_eq!(rt; refusal, JournalRefusal::Device);
+            assert!(rt; refusal == JournalRefusal::Device);
             (None, device.into_inner())
         }
     }
@@ -47,9 +44,9 @@ fn append_on(
 fn a_gate_that_could_not_be_written_leaves_the_record_out(rt: HostRuntime) -> Result<(), Fail> {
     let alloc = rt.alloc();
     let (answer, device) = append_on(&rt, Fuse::new(formatted(alloc)?, Op::Write, 1));
-    assert_eq!(rt; answer, Some(Err(AppendRefusal::Device)));
+    assert!(rt; answer == Some(Err(AppendRefusal::Device)));
     let device = device.crash(&picks_of(alloc, &[])?);
-    assert_eq!(rt; recovered(&rt, alloc, device), (Some(0), 0));
+    assert!(rt; recovered(&rt, alloc, device) == (Some(0), 0));
     Ok(())
 }
 
@@ -59,9 +56,9 @@ fn a_gate_that_was_not_synced_may_be_there_or_not(rt: HostRuntime) -> Result<(),
     let alloc = rt.alloc();
     for (gate, expected) in [(torn_open(), (Some(500), 1)), (ZERO, (Some(0), 0))] {
         let (answer, device) = append_on(&rt, Fuse::new(formatted(alloc)?, Op::Sync, 2));
-        assert_eq!(rt; answer, Some(Err(AppendRefusal::Device)));
+        assert!(rt; answer == Some(Err(AppendRefusal::Device)));
         let device = device.crash(&picks_of(alloc, &[(5, gate)])?);
-        assert_eq!(rt; recovered(&rt, alloc, device), expected);
+        assert!(rt; recovered(&rt, alloc, device) == expected);
     }
     Ok(())
 }
@@ -70,9 +67,9 @@ fn a_gate_that_was_not_synced_may_be_there_or_not(rt: HostRuntime) -> Result<(),
 fn an_acknowledged_record_is_out_of_reach_of_a_power_loss(rt: HostRuntime) -> Result<(), Fail> {
     let alloc = rt.alloc();
     let (answer, device) = append_on(&rt, Fuse::new(formatted(alloc)?, Op::Any, 1000));
-    assert_eq!(rt; answer, Some(Ok(0)));
+    assert!(rt; answer == Some(Ok(0)));
     let device = device.crash(&picks_of(alloc, &[(4, ZERO), (5, ZERO), (0, TORN)])?);
-    assert_eq!(rt; recovered(&rt, alloc, device), (Some(500), 1));
+    assert!(rt; recovered(&rt, alloc, device) == (Some(500), 1));
     Ok(())
 }
 
@@ -92,8 +89,8 @@ fn whichever_call_fails_the_record_is_there_whole_or_not_at_all(
                 let found = recovered(&rt, alloc, device);
                 if let Some(Ok(sequence)) = answer {
                     acknowledged = acknowledged.saturating_add(1);
-                    assert_eq!(rt; sequence, 0);
-                    assert_eq!(rt; found, (Some(500), 1));
+                    assert!(rt; sequence == 0);
+                    assert!(rt; found == (Some(500), 1));
                 } else {
                     assert!(rt; found == (Some(0), 0) || found == (Some(500), 1));
                 }
@@ -101,7 +98,7 @@ fn whichever_call_fails_the_record_is_there_whole_or_not_at_all(
         }
     }
     // An opening of a bank with 4 closed slots makes 9 calls and an append 4, so from call 13 on nothing fails.
-    assert_eq!(rt; acknowledged, 63);
+    assert!(rt; acknowledged == 63);
     Ok(())
 }
 
@@ -114,15 +111,15 @@ fn whichever_call_of_recovery_fails_the_device_comes_back_unchanged(
     for at in 0..20 {
         let (_, device) = append_on(&rt, Fuse::new(formatted(alloc)?, Op::Any, 1000));
         match recover(alloc, Fuse::new(device, Op::Any, at)) {
-            Ok(found) => assert_eq!(rt; found.ledger.balance(1), Some(500)),
+            Ok(found) => assert!(rt; found.ledger.balance(1) == Some(500)),
             Err((device, refusal)) => {
                 failed = failed.saturating_add(1);
-                assert_eq!(rt; refusal, OpenRefusal::Device);
-                assert_eq!(rt; recovered(&rt, alloc, device.into_inner()), (Some(500), 1));
+                assert!(rt; refusal == OpenRefusal::Device);
+                assert!(rt; recovered(&rt, alloc, device.into_inner()) == (Some(500), 1));
             }
         }
     }
     // A sync, the superblock, the banks' gates, a head, 4 gates and a body, the snapshot, and the record once more.
-    assert_eq!(rt; failed, 12);
+    assert!(rt; failed == 12);
     Ok(())
 }

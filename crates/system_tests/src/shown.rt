@@ -18,9 +18,9 @@ fn a_journal_shows_each_of_its_numbers(rt: HostRuntime) -> Result<(), Fail> {
     journal.checkpoint(&Snapshot { balances: [0; 64] })?;
     journal.append(&record)?;
     let shown = format!(in alloc; "{journal:?}")?;
-    assert_eq!(rt;
-        shown.as_str(),
-        "Journal { live_bank: 1, base: 2, next: 3, room: 5, is_faulted: false, .. }"
+    assert!(rt;
+        shown.as_str()
+            == "Journal { live_bank: 1, base: 2, next: 3, room: 5, is_faulted: false, .. }"
     );
     Ok(())
 }

@@ -39,15 +39,12 @@ fn deposited(
     let answer = clerk.turn(0, &[deposit(500)]);
     if answer == Err(TurnRefusal::Device) {
         assert!(rt; clerk.is_faulted());
-        assert_eq!(rt; clerk.line(), three_stations(rt));
-        assert_eq!(rt; (clerk.history().len(), clerk.ledger().total()), (0, 0));
+        assert!(rt; clerk.line() == three_stations(rt));
+        assert!(rt; (clerk.history().len(), clerk.ledger().total()) == (0, 0));
         let in_flight = clerk.in_flight().expect(rt, "a batch in flight");
-        assert_eq!(rt;
-            (in_flight.len(), in_flight.get(0)),
-            (1, Some(deposit(500)))
-        );
-        assert_eq!(rt; clerk.turn(9, &[]), Err(TurnRefusal::Faulted));
-        assert_eq!(rt; clerk.turn(0, &[]), Err(TurnRefusal::Faulted));
+        assert!(rt; (in_flight.len(), in_flight.get(0)) == (1, Some(deposit(500))));
+        assert!(rt; clerk.turn(9, &[]) == Err(TurnRefusal::Faulted));
+        assert!(rt; clerk.turn(0, &[]) == Err(TurnRefusal::Faulted));
     }
     Ok((answer, clerk.into_device().into_inner()))
 }
@@ -56,11 +53,8 @@ fn deposited(
 fn a_turn_whose_gate_was_not_written_leaves_nothing(rt: HostRuntime) -> Result<(), Fail> {
     let alloc = rt.alloc();
     let (answer, device) = deposited(&rt, alloc, Op::Write, 1)?;
-    assert_eq!(rt; answer, Err(TurnRefusal::Device));
-    assert_eq!(rt;
-        recovered(&rt, alloc, device.crash(&picks_of(alloc, &[])?)),
-        (Some(0), 0)
-    );
+    assert!(rt; answer == Err(TurnRefusal::Device));
+    assert!(rt; recovered(&rt, alloc, device.crash(&picks_of(alloc, &[])?)) == (Some(0), 0));
     Ok(())
 }
 
@@ -70,10 +64,9 @@ fn a_turn_whose_gate_was_not_synced_stands_or_not(rt: HostRuntime) -> Result<(),
     let alloc = rt.alloc();
     for (gate, expected) in [(torn_open(), (Some(500), 1)), (ZERO, (Some(0), 0))] {
         let (answer, device) = deposited(&rt, alloc, Op::Sync, 2)?;
-        assert_eq!(rt; answer, Err(TurnRefusal::Device));
-        assert_eq!(rt;
-            recovered(&rt, alloc, device.crash(&picks_of(alloc, &[(5, gate)])?)),
-            expected
+        assert!(rt; answer == Err(TurnRefusal::Device));
+        assert!(rt;
+            recovered(&rt, alloc, device.crash(&picks_of(alloc, &[(5, gate)])?)) == expected
         );
     }
     Ok(())
@@ -83,11 +76,8 @@ fn a_turn_whose_gate_was_not_synced_stands_or_not(rt: HostRuntime) -> Result<(),
 fn an_acknowledged_turn_is_out_of_reach_of_a_power_loss(rt: HostRuntime) -> Result<(), Fail> {
     let alloc = rt.alloc();
     let (answer, device) = deposited(&rt, alloc, Op::Any, 1000)?;
-    assert_eq!(rt; answer?.posted, Some(0));
+    assert!(rt; answer?.posted == Some(0));
     let picks = [(4, ZERO), (5, ZERO), (0, TORN)];
-    assert_eq!(rt;
-        recovered(&rt, alloc, device.crash(&picks_of(alloc, &picks)?)),
-        (Some(500), 1)
-    );
+    assert!(rt; recovered(&rt, alloc, device.crash(&picks_of(alloc, &picks)?)) == (Some(500), 1));
     Ok(())
 }

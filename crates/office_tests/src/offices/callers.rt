@@ -72,11 +72,11 @@ fn two_callers_in<L: Ledger + Opening + Send + Sync, R: Abort + Wait + Threads +
     take_all_turns(rt, &office, seats.as_mut_slice());
     match office.close(seats) {
         Ok(Closing { clerk, audit }) => {
-            assert_eq!(rt; clerk.history().len(), 2 * TURNS);
+            assert!(rt; clerk.history().len() == 2 * TURNS);
             for (index, turn) in clerk.history().iter().enumerate() {
-                assert_eq!(rt; turn.station as usize, index % 2);
+                assert!(rt; turn.station as usize == index % 2);
             }
-            assert_eq!(rt; audit.first_legitimate, Some(0));
+            assert!(rt; audit.first_legitimate == Some(0));
             Ok(())
         }
         Err((_, _, refusal)) => panic!(rt; "{refusal}"),

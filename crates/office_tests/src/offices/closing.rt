@@ -57,7 +57,7 @@ fn refused<L: Ledger + Opening>(
     match office.close(seats) {
         Ok(_) => panic!(rt; "closed"),
         Err((office, seats, refusal)) => {
-            assert_eq!(rt; refusal, expected);
+            assert!(rt; refusal == expected);
             (office, seats)
         }
     }
@@ -84,20 +84,17 @@ impl Scene for OneSeatIsMissing {
     ) -> Result<(), Fail> {
         let mut top = seats.pop().ok_or("the seat of station 1")?;
         let (office, mut seats) = refused(rt, office, seats, CloseRefusal::SeatMissing);
-        assert_eq!(rt; seats.len(), 1);
+        assert!(rt; seats.len() == 1);
 
         // the office goes on after a refusal
         let mut bottom = seats.pop().ok_or("the seat of station 0")?;
-        assert_eq!(rt; office.turn(rt, &mut bottom, &[deposit(1, 7)])?.index, 0);
-        assert_eq!(rt; office.turn(rt, &mut top, &[])?.index, 1);
+        assert!(rt; office.turn(rt, &mut bottom, &[deposit(1, 7)])?.index == 0);
+        assert!(rt; office.turn(rt, &mut top, &[])?.index == 1);
         seats.push(bottom)?;
         seats.push(top)?;
         let Closing { clerk, audit } = closed(rt, office, seats);
-        assert_eq!(rt; (clerk.history().len(), clerk.next()), (2, 1));
-        assert_eq!(rt;
-            (audit.first_legitimate, audit.last),
-            (Some(0), clerk.line())
-        );
+        assert!(rt; (clerk.history().len(), clerk.next()) == (2, 1));
+        assert!(rt; (audit.first_legitimate, audit.last) == (Some(0), clerk.line()));
         Ok(())
     }
 }
@@ -130,7 +127,7 @@ fn with_one_deposit(rt: &impl Abort, alloc: Global) -> Result<MemoryDevice, Fail
     let device = formatted(alloc, 4)?;
     match Clerk::open(alloc, device, line([0, 0, 0], [1, 0, 0])?) {
         Ok(mut clerk) => {
-            assert_eq!(rt; clerk.turn(0, &[deposit(1, 500)])?.posted, Some(0));
+            assert!(rt; clerk.turn(0, &[deposit(1, 500)])?.posted == Some(0));
             Ok(clerk.into_device())
         }
         Err((_, refusal)) => panic!(rt; "{refusal}"),
@@ -144,13 +141,10 @@ fn close_keeps_opening(rt: HostRuntime) -> Result<(), Fail> {
     let opening = line([1, 1, 0], [1, 1, 0])?;
     match with_office(alloc, device, opening, NobodyTakesATurn) {
         Ok((Closing { clerk, audit }, _)) => {
-            assert_eq!(rt; clerk.history().len(), 0);
-            assert_eq!(rt; clerk.opening(), opening);
-            assert_eq!(rt;
-                (clerk.opening_balance(1), clerk.opening_next()),
-                (Some(500), 1)
-            );
-            assert_eq!(rt; audit.last, clerk.opening());
+            assert!(rt; clerk.history().len() == 0);
+            assert!(rt; clerk.opening() == opening);
+            assert!(rt; (clerk.opening_balance(1), clerk.opening_next()) == (Some(500), 1));
+            assert!(rt; audit.last == clerk.opening());
             Ok(())
         }
         Err((_, refusal)) => panic!(rt; "{refusal}"),
@@ -173,7 +167,7 @@ impl Scene for NobodyCloses {
         // it is the bottom station's turn again
         let clerk = office.into_clerk();
         assert!(rt; clerk.history() == [first, second].as_slice());
-        assert_eq!(rt; clerk.opening(), line([0, 0], [1, 0])?);
+        assert!(rt; clerk.opening() == line([0, 0], [1, 0])?);
         Ok(())
     }
 }

@@ -54,7 +54,7 @@ impl<'a, R: Wait> OfficeWork<MemoryDevice> for OneTurn<'a, R> {
 // The device has the turn's batch, as a clerk finds it.
 fn holds_the_turn(rt: &impl Abort, alloc: Global, device: MemoryDevice) -> Result<(), Fail> {
     match Clerk::open(alloc, device, line([0, 0], [1, 0])?) {
-        Ok(clerk) => assert_eq!(rt; (clerk.next(), clerk.ledger().balance(1)), (1, Some(7))),
+        Ok(clerk) => assert!(rt; (clerk.next(), clerk.ledger().balance(1)) == (1, Some(7))),
         Err((_, refusal)) => panic!(rt; "{refusal}"),
     }
     Ok(())
@@ -69,8 +69,8 @@ fn an_office_is_lent_and_closed(rt: HostRuntime) -> Result<(), Fail> {
     };
     match with_office(alloc, formatted(alloc, 4)?, line([0, 0], [1, 0])?, work) {
         Ok((closing, index)) => {
-            assert_eq!(rt; (closing.clerk.history().len(), index), (1, 0));
-            assert_eq!(rt; closing.audit.first_legitimate, Some(0));
+            assert!(rt; (closing.clerk.history().len(), index) == (1, 0));
+            assert!(rt; closing.audit.first_legitimate == Some(0));
             holds_the_turn(&rt, alloc, closing.clerk.into_device())?;
         }
         Err((_, refusal)) => panic!(rt; "{refusal}"),
@@ -93,7 +93,7 @@ fn a_work_that_ends_otherwise_hands_the_device_back(rt: HostRuntime) -> Result<(
         match with_office(alloc, formatted(alloc, 4)?, line([0, 0], [1, 0])?, work) {
             Ok(_) => panic!(rt; "closed"),
             Err((device, refusal)) => {
-                assert_eq!(rt; refusal, expected);
+                assert!(rt; refusal == expected);
                 holds_the_turn(&rt, alloc, device)?;
             }
         }
@@ -112,7 +112,7 @@ fn a_device_without_a_journal_is_not_lent(rt: HostRuntime) -> Result<(), Fail> {
     match with_office(alloc, device, line([0, 0], [1, 0])?, work) {
         Ok(_) => panic!(rt; "opened"),
         Err((_, refusal)) => {
-            assert_eq!(rt; refusal, OfficeRefusal::Opening(OpenRefusal::Unformatted));
+            assert!(rt; refusal == OfficeRefusal::Opening(OpenRefusal::Unformatted));
         }
     }
     Ok(())

@@ -29,16 +29,16 @@ impl<'a, R: Abort + Wait> OfficeWork<MemoryDevice> for OneTurnAfterTheOther<'a, 
         let OneTurnAfterTheOther { rt } = self;
         let mut top = seats.pop().expect(rt, "the seat of station 1");
         let mut bottom = seats.pop().expect(rt, "the seat of station 0");
-        assert_eq!(rt; (bottom.station(), top.station()), (0, 1));
-        assert_eq!(rt; (bottom.turns().len(), bottom.denied()), (0, None));
+        assert!(rt; (bottom.station(), top.station()) == (0, 1));
+        assert!(rt; (bottom.turns().len(), bottom.denied()) == (0, None));
         let first = bottom_turn(rt, office, &mut bottom, &mut top)?;
         let second = top_turn(rt, office, &mut top)?;
-        assert_eq!(rt; bottom.reached(), 0);
+        assert!(rt; bottom.reached() == 0);
         assert!(rt; bottom.turns() == [first].as_slice() && top.turns() == [second].as_slice());
         let shown = format!(in *seats.allocator(); "{office:?} {top:?}").expect(rt, "memory");
-        assert_eq!(rt;
-            shown.as_str(),
-            "Office { .. } Seat { station: 1, turns: 1, denied: Some(2), reached: 1, .. }"
+        assert!(rt;
+            shown.as_str()
+                == "Office { .. } Seat { station: 1, turns: 1, denied: Some(2), reached: 1, .. }"
         );
 
         // in whatever order the seats are handed in
@@ -56,15 +56,12 @@ fn bottom_turn<L: Ledger + Opening, R: Abort + Wait>(
     top: &mut Seat<L>,
 ) -> Result<Turn, WithinRefusal> {
     let denied = Err(TurnRefusal::NotPrivileged);
-    assert_eq!(rt; office.turn(rt, top, &[]), denied);
-    assert_eq!(rt; top.denied(), Some(0));
+    assert!(rt; office.turn(rt, top, &[]) == denied);
+    assert!(rt; top.denied() == Some(0));
     let first = office.turn(rt, bottom, &[deposit(1, 5)])?;
-    assert_eq!(rt;
-        (first.index, first.rule, first.posted),
-        (0, Rule::Bottom, Some(0))
-    );
-    assert_eq!(rt; office.turn(rt, bottom, &[]), denied);
-    assert_eq!(rt; bottom.denied(), Some(1));
+    assert!(rt; (first.index, first.rule, first.posted) == (0, Rule::Bottom, Some(0)));
+    assert!(rt; office.turn(rt, bottom, &[]) == denied);
+    assert!(rt; bottom.denied() == Some(1));
     Ok(first)
 }
 
@@ -75,18 +72,12 @@ fn top_turn<L: Ledger + Opening, R: Abort + Wait>(
     top: &mut Seat<L>,
 ) -> Result<Turn, WithinRefusal> {
     let stopped = office.turn_within(rt, top, &[], 1);
-    assert_eq!(rt; (stopped, top.reached()), (Err(WithinRefusal::Reached), 1));
+    assert!(rt; (stopped, top.reached()) == (Err(WithinRefusal::Reached), 1));
     let second = office.turn_within(rt, top, &[], 2)?;
-    assert_eq!(rt;
-        (second.index, second.rule, second.posted),
-        (1, Rule::Top, None)
-    );
+    assert!(rt; (second.index, second.rule, second.posted) == (1, Rule::Top, None));
     let denied = office.turn_within(rt, top, &[], 3);
-    assert_eq!(rt;
-        denied,
-        Err(WithinRefusal::Turn(TurnRefusal::NotPrivileged))
-    );
-    assert_eq!(rt; (top.denied(), top.reached()), (Some(2), 1));
+    assert!(rt; denied == Err(WithinRefusal::Turn(TurnRefusal::NotPrivileged)));
+    assert!(rt; (top.denied(), top.reached()) == (Some(2), 1));
     Ok(second)
 }
 
@@ -97,9 +88,9 @@ fn turns_are_listed_and_refusals_noted(rt: HostRuntime) -> Result<(), Fail> {
     match with_office(alloc, formatted(alloc, 4)?, line([0, 0], [1, 0])?, work) {
         Ok((Closing { clerk, audit }, (first, second))) => {
             assert!(rt; clerk.history() == [first, second].as_slice());
-            assert_eq!(rt; clerk.ledger().balance(1), Some(5));
-            assert_eq!(rt; audit.last, line([1, 1], [1, 0])?);
-            assert_eq!(rt; audit.first_legitimate, Some(0));
+            assert!(rt; clerk.ledger().balance(1) == Some(5));
+            assert!(rt; audit.last == line([1, 1], [1, 0])?);
+            assert!(rt; audit.first_legitimate == Some(0));
             Ok(())
         }
         Err((_, refusal)) => panic!(rt; "{refusal}"),

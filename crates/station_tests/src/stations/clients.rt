@@ -151,11 +151,8 @@ fn apart(alloc: Global, clients: Vec<Client>) -> Result<(Vec<Feed>, Vec<Tally>),
 
 // How many of a client's requests were posted: all that have an answer.
 fn posted(rt: &impl Abort, tally: Tally, account: &Reconciled) -> u64 {
-    assert_eq!(rt; tally.others, 0);
-    assert_eq!(rt;
-        (account.submitted, account.collected),
-        (tally.submitted, tally.posted)
-    );
+    assert!(rt; tally.others == 0);
+    assert!(rt; (account.submitted, account.collected) == (tally.submitted, tally.posted));
     for answer in &account.answers {
         assert!(rt; matches!(answer.outcome, Outcome::Posted(_)));
     }
@@ -163,7 +160,7 @@ fn posted(rt: &impl Abort, tally: Tally, account: &Reconciled) -> u64 {
         .collected
         .saturating_add(account.answers.len() as u64);
     let all = answered.saturating_add(account.unanswered.len() as u64);
-    assert_eq!(rt; all, account.submitted);
+    assert!(rt; all == account.submitted);
     answered
 }
 
@@ -190,16 +187,13 @@ fn many_moves<L: Ledger + Opening + Send + Sync, R: Abort + Wait + Threads + Syn
         seats,
     } = reconciled(alloc, feeds, stations)?;
     assert!(rt; ends.as_slice() == [End::Reached; 2].as_slice());
-    assert_eq!(rt; (accounts.len(), tallies.len()), (2, 2));
+    assert!(rt; (accounts.len(), tallies.len()) == (2, 2));
     let first = posted(rt, tallies[0], &accounts[0]);
     let second = posted(rt, tallies[1], &accounts[1]);
     assert!(rt; first.max(second) > 4);
     let Closing { clerk, .. } = closed(rt, office, seats);
-    assert_eq!(rt; clerk.history().len() as u64, MOVES);
-    assert_eq!(rt;
-        clerk.ledger().balance(1),
-        Some(first.saturating_add(second))
-    );
+    assert!(rt; clerk.history().len() as u64 == MOVES);
+    assert!(rt; clerk.ledger().balance(1) == Some(first.saturating_add(second)));
     Ok(())
 }
 

@@ -19,7 +19,7 @@ fn a_day_accounts_for_each_request(rt: HostRuntime) -> Result<(), Fail> {
     let line = line([0, 0], [1, 0])?;
     let device = formatted(alloc, 4)?;
     let held = held(alloc)?;
-    assert_eq!(rt; held.len(), line.stations() as usize);
+    assert!(rt; held.len() == line.stations() as usize);
     let day = match run_day(&rt, alloc, device, line, &held, 3, TRIES) {
         Ok(day) => day,
         Err((_, refusal)) => panic!(rt; "{refusal}"),
@@ -29,18 +29,12 @@ fn a_day_accounts_for_each_request(rt: HostRuntime) -> Result<(), Fail> {
         audit,
         stations,
     } = day;
-    assert_eq!(rt;
-        (clerk.history().len(), audit.first_legitimate),
-        (3, Some(0))
-    );
-    assert_eq!(rt; clerk.ledger().balance(1), Some(5));
-    assert_eq!(rt; stations.len(), 2);
-    assert_eq!(rt;
-        (stations[0].end, stations[1].end),
-        (End::Reached, End::Reached)
-    );
-    assert_eq!(rt; stations[0].answers.len(), 1);
-    assert_eq!(rt; stations[0].answers[0].outcome, Outcome::Posted(0));
+    assert!(rt; (clerk.history().len(), audit.first_legitimate) == (3, Some(0)));
+    assert!(rt; clerk.ledger().balance(1) == Some(5));
+    assert!(rt; stations.len() == 2);
+    assert!(rt; (stations[0].end, stations[1].end) == (End::Reached, End::Reached));
+    assert!(rt; stations[0].answers.len() == 1);
+    assert!(rt; stations[0].answers[0].outcome == Outcome::Posted(0));
     assert!(rt; stations[0].unanswered.is_empty() && stations[1].answers.is_empty());
     Ok(())
 }
@@ -51,12 +45,12 @@ fn a_day_that_can_not_be_opened_gives_the_device_back(rt: HostRuntime) -> Result
     let line = line([0, 0], [1, 0])?;
     let device = MemoryDevice::new(alloc, 9)?;
     let held = held(alloc)?;
-    assert_eq!(rt; held.len(), line.stations() as usize);
+    assert!(rt; held.len() == line.stations() as usize);
     match run_day(&rt, alloc, device, line, &held, 3, TRIES) {
         Ok(_) => panic!(rt; "a day on a device without a journal"),
         Err((device, refusal)) => {
-            assert_eq!(rt; refusal, DayRefusal::Opening(OpenRefusal::Unformatted));
-            assert_eq!(rt; device.sectors(), 9);
+            assert!(rt; refusal == DayRefusal::Opening(OpenRefusal::Unformatted));
+            assert!(rt; device.sectors() == 9);
         }
     }
     Ok(())
@@ -73,9 +67,9 @@ fn what_is_held_again_has_sixteen_places(rt: HostRuntime) -> Result<(), Fail> {
     }; 17];
     asks[15].entry = deposit(2, 2);
     held.keep_all(&asks[..2]);
-    assert_eq!(rt; held.as_slice().len(), 2);
+    assert!(rt; held.as_slice().len() == 2);
     held.keep_all(&asks);
-    assert_eq!(rt; held.as_slice().len(), 16);
-    assert_eq!(rt; held.as_slice().last(), Some(&deposit(2, 2)));
+    assert!(rt; held.as_slice().len() == 16);
+    assert!(rt; held.as_slice().last() == Some(&deposit(2, 2)));
     Ok(())
 }

@@ -21,7 +21,7 @@ fn empty_day<R: Abort + Wait + Threads + Sync>(
     for _ in 0..line.stations() {
         held.push(HeldEntries::new(alloc)?)?;
     }
-    assert_eq!(rt; held.len(), line.stations() as usize);
+    assert!(rt; held.len() == line.stations() as usize);
     let day = match run_day(
         rt,
         alloc,
@@ -34,10 +34,10 @@ fn empty_day<R: Abort + Wait + Threads + Sync>(
         Ok(day) => day,
         Err((_, refusal)) => panic!(rt; "{refusal}"),
     };
-    assert_eq!(rt; day.clerk.history().len() as u64, moves);
-    assert_eq!(rt; day.stations.len(), line.stations() as usize);
+    assert!(rt; day.clerk.history().len() as u64 == moves);
+    assert!(rt; day.stations.len() == line.stations() as usize);
     for station in &day.stations {
-        assert_eq!(rt; station.end, End::Reached);
+        assert!(rt; station.end == End::Reached);
     }
     let bottom = day.clerk.history().iter().filter(|turn| turn.station == 0);
     Ok(bottom.count())
@@ -49,13 +49,13 @@ fn sixty_four_stations_have_a_thread_each(rt: HostRuntime) -> Result<(), Fail> {
     let mut up = [0; 64];
     up[0] = 1;
     let bottom = empty_day(&rt, rt.alloc(), line([0; 64], up)?, 200)?;
-    assert_eq!(rt; bottom, 2);
+    assert!(rt; bottom == 2);
     Ok(())
 }
 
 #[test]
 fn a_station_takes_seventeen_thousand_turns_in_a_day(rt: HostRuntime) -> Result<(), Fail> {
     let bottom = empty_day(&rt, rt.alloc(), line([0, 0], [1, 0])?, 34_000)?;
-    assert_eq!(rt; bottom, 17_000);
+    assert!(rt; bottom == 17_000);
     Ok(())
 }

@@ -58,8 +58,8 @@ fn answers_are_there_when_a_gate_hears_of_them_and_what_comes_after_gathering_wa
 ) -> Result<(), Fail> {
     let alloc = rt.alloc();
     let (mut feed, desk) = desk(alloc, 4)?;
-    assert_eq!(rt; feed.submit(deposit(1, 5)), Ok(0));
-    assert_eq!(rt; feed.submit(deposit(1, 6)), Ok(1));
+    assert!(rt; feed.submit(deposit(1, 5)) == Ok(0));
+    assert!(rt; feed.submit(deposit(1, 6)) == Ok(1));
     let gate = AtTheFeed {
         feed: Mutex::new(feed),
         before: AtomicU64::new(0),
@@ -77,11 +77,11 @@ fn answers_are_there_when_a_gate_hears_of_them_and_what_comes_after_gathering_wa
     let left = played(&rt, alloc, line([0, 0], [1, 0])?, run)?;
 
     let bottom = left.get(0).ok_or("the bottom station")?;
-    assert_eq!(rt; (bottom.end, bottom.turns.len()), (End::Reached, 1));
+    assert!(rt; (bottom.end, bottom.turns.len()) == (End::Reached, 1));
     let both = [deposit(1, 5), deposit(1, 6)];
-    assert_eq!(rt; bottom.turns[0].entries.as_slice(), both.as_slice());
-    assert_eq!(rt; gate.before.load(Ordering::SeqCst), 0);
-    assert_eq!(rt; gate.after.load(Ordering::SeqCst), 2);
+    assert!(rt; bottom.turns[0].entries.as_slice() == both.as_slice());
+    assert!(rt; gate.before.load(Ordering::SeqCst) == 0);
+    assert!(rt; gate.after.load(Ordering::SeqCst) == 2);
     Ok(())
 }
 
@@ -139,9 +139,9 @@ fn tries_begin_anew_with_a_turn(rt: HostRuntime) -> Result<(), Fail> {
     let left = played(&rt, alloc, line, run)?;
 
     let station = left.get(1).ok_or("station 1")?;
-    assert_eq!(rt; (station.end, station.turns.len()), (End::Tries, 3));
-    assert_eq!(rt; gate.gathered.load(Ordering::SeqCst), 10);
-    assert_eq!(rt; gate.answered.load(Ordering::SeqCst), 2);
+    assert!(rt; (station.end, station.turns.len()) == (End::Tries, 3));
+    assert!(rt; gate.gathered.load(Ordering::SeqCst) == 10);
+    assert!(rt; gate.answered.load(Ordering::SeqCst) == 2);
     Ok(())
 }
 
@@ -190,8 +190,8 @@ fn a_station_that_gives_up_stops_one_that_is_privileged(rt: HostRuntime) -> Resu
     };
     let left = played(&rt, alloc, line, run)?;
 
-    assert_eq!(rt; left.len(), 2);
-    assert_eq!(rt; (left[0].end, left[1].end), (End::Stopped, End::Tries));
+    assert!(rt; left.len() == 2);
+    assert!(rt; (left[0].end, left[1].end) == (End::Stopped, End::Tries));
     assert!(rt; left[0].turns.len() < 2);
     Ok(())
 }

@@ -25,20 +25,14 @@ fn told(answer: Option<&Answer>) -> Option<(u64, Outcome)> {
 
 // All requests of the three clients are answered; the first one has collected its first answer.
 fn all_answered(rt: &impl Abort, accounts: &[Reconciled]) {
-    assert_eq!(rt; accounts.len(), 3);
-    assert_eq!(rt; (accounts[0].submitted, accounts[0].collected), (2, 1));
+    assert!(rt; accounts.len() == 3);
+    assert!(rt; (accounts[0].submitted, accounts[0].collected) == (2, 1));
     let short = Outcome::Refused(EntryRefusal::Short);
-    assert_eq!(rt; told(accounts[0].answers.get(0)), Some((1, short)));
-    assert_eq!(rt;
-        told(accounts[1].answers.get(0)),
-        Some((0, Outcome::Posted(1)))
-    );
-    assert_eq!(rt;
-        told(accounts[2].answers.get(0)),
-        Some((0, Outcome::Posted(2)))
-    );
+    assert!(rt; told(accounts[0].answers.get(0)) == Some((1, short)));
+    assert!(rt; told(accounts[1].answers.get(0)) == Some((0, Outcome::Posted(1))));
+    assert!(rt; told(accounts[2].answers.get(0)) == Some((0, Outcome::Posted(2))));
     for account in accounts {
-        assert_eq!(rt; (account.answers.len(), account.unanswered.len()), (1, 0));
+        assert!(rt; (account.answers.len(), account.unanswered.len()) == (1, 0));
     }
 }
 
@@ -57,14 +51,14 @@ fn eight_moves<L: Ledger + Opening + Send + Sync, R: Abort + Wait + Threads + Sy
         Err((_, refusal)) => panic!(rt; "{refusal}"),
     };
     let (mut feeds, mut stations) = seated(alloc, seats)?;
-    assert_eq!(rt; feeds.len(), 3);
-    assert_eq!(rt; submit(feeds.as_mut_slice(), 0, deposit(1, 100)), Ok(0));
-    assert_eq!(rt; submit(feeds.as_mut_slice(), 0, withdrawal(2, 500)), Ok(1));
-    assert_eq!(rt; submit(feeds.as_mut_slice(), 1, deposit(2, 50)), Ok(0));
-    assert_eq!(rt; submit(feeds.as_mut_slice(), 2, transfer(1, 2, 30)), Ok(0));
+    assert!(rt; feeds.len() == 3);
+    assert!(rt; submit(feeds.as_mut_slice(), 0, deposit(1, 100)) == Ok(0));
+    assert!(rt; submit(feeds.as_mut_slice(), 0, withdrawal(2, 500)) == Ok(1));
+    assert!(rt; submit(feeds.as_mut_slice(), 1, deposit(2, 50)) == Ok(0));
+    assert!(rt; submit(feeds.as_mut_slice(), 2, transfer(1, 2, 30)) == Ok(0));
     run_stations(rt, &office, stations.as_mut_slice(), &NoGate, 8, TRIES);
     let first = collect(feeds.as_mut_slice(), 0);
-    assert_eq!(rt; told(first.as_ref()), Some((0, Outcome::Posted(0))));
+    assert!(rt; told(first.as_ref()) == Some((0, Outcome::Posted(0))));
 
     let Remains {
         accounts,
@@ -74,15 +68,9 @@ fn eight_moves<L: Ledger + Opening + Send + Sync, R: Abort + Wait + Threads + Sy
     assert!(rt; ends.as_slice() == [End::Reached; 3].as_slice());
     all_answered(rt, accounts.as_slice());
     let Closing { clerk, audit } = closed(rt, office, seats);
-    assert_eq!(rt;
-        (clerk.history().len(), audit.first_legitimate),
-        (8, Some(0))
-    );
+    assert!(rt; (clerk.history().len(), audit.first_legitimate) == (8, Some(0)));
     let ledger = clerk.ledger();
-    assert_eq!(rt;
-        (ledger.balance(1), ledger.balance(2)),
-        (Some(70), Some(80))
-    );
+    assert!(rt; (ledger.balance(1), ledger.balance(2)) == (Some(70), Some(80)));
     Ok(())
 }
 
@@ -96,11 +84,8 @@ fn clients_are_answered_and_the_office_closes(rt: HostRuntime) -> Result<(), Fai
 
 // The request of the first client is undecided, those of the two others have no answer.
 fn first_undecided(rt: &impl Abort, accounts: &[Reconciled]) {
-    assert_eq!(rt; accounts.len(), 3);
-    assert_eq!(rt;
-        told(accounts[0].answers.get(0)),
-        Some((0, Outcome::Undecided))
-    );
+    assert!(rt; accounts.len() == 3);
+    assert!(rt; told(accounts[0].answers.get(0)) == Some((0, Outcome::Undecided)));
     assert!(rt; accounts[0].unanswered.is_empty());
     for (account, amount) in accounts[1..].iter().zip([6, 7]) {
         let ask = Ask {
@@ -129,10 +114,10 @@ fn a_failed_sync<L: Ledger + Opening + Send + Sync, R: Abort + Wait + Threads + 
         Err((_, refusal)) => panic!(rt; "{refusal}"),
     };
     let (mut feeds, mut stations) = seated(alloc, seats)?;
-    assert_eq!(rt; feeds.len(), 3);
-    assert_eq!(rt; submit(feeds.as_mut_slice(), 0, deposit(1, 5)), Ok(0));
-    assert_eq!(rt; submit(feeds.as_mut_slice(), 1, deposit(1, 6)), Ok(0));
-    assert_eq!(rt; submit(feeds.as_mut_slice(), 2, deposit(1, 7)), Ok(0));
+    assert!(rt; feeds.len() == 3);
+    assert!(rt; submit(feeds.as_mut_slice(), 0, deposit(1, 5)) == Ok(0));
+    assert!(rt; submit(feeds.as_mut_slice(), 1, deposit(1, 6)) == Ok(0));
+    assert!(rt; submit(feeds.as_mut_slice(), 2, deposit(1, 7)) == Ok(0));
     run_stations(rt, &office, stations.as_mut_slice(), &NoGate, 8, TRIES);
 
     let Remains {
@@ -141,8 +126,8 @@ fn a_failed_sync<L: Ledger + Opening + Send + Sync, R: Abort + Wait + Threads + 
         seats,
     } = reconciled(alloc, feeds, stations)?;
     first_undecided(rt, accounts.as_slice());
-    assert_eq!(rt; ends.len(), 3);
-    assert_eq!(rt; ends[0], End::Refused(TurnRefusal::Device));
+    assert!(rt; ends.len() == 3);
+    assert!(rt; ends[0] == End::Refused(TurnRefusal::Device));
     for end in &ends.as_slice()[1..] {
         assert!(rt; [End::Stopped, End::Refused(TurnRefusal::Faulted)].contains(end));
     }

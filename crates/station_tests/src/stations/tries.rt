@@ -40,9 +40,9 @@ fn top_alone<R: Abort + Wait + Threads + Sync>(
         tries,
     };
     let left = played(rt, alloc, line([0, 0], [1, 0])?, run)?;
-    assert_eq!(rt; gate.count.load(Ordering::SeqCst), tries.saturating_add(1));
-    assert_eq!(rt; left.len(), 1);
-    assert_eq!(rt; (left[0].end, left[0].denied), (End::Tries, Some(0)));
+    assert!(rt; gate.count.load(Ordering::SeqCst) == tries.saturating_add(1));
+    assert!(rt; left.len() == 1);
+    assert!(rt; (left[0].end, left[0].denied) == (End::Tries, Some(0)));
     Ok(())
 }
 
