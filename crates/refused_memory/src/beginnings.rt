@@ -8,7 +8,7 @@ use sector_device::MemoryDevice;
 use std::alloc::Global;
 use std::process::Abort;
 use std::test::Fail;
-use turn_clerk::{Entry, Line};
+use turn_clerk::Line;
 
 /// A memory device that notes its calls.
 pub type Noted = Noting<MemoryDevice>;
@@ -26,14 +26,6 @@ pub fn line<const N: usize>(rt: &impl Abort) -> Line
     let mut up = [false; N];
     up[0] = true;
     Line::from_bits(N as u64, &[false; N], &up).expect(rt, "a line")
-}
-
-pub fn deposit(to: u32, amount: u64) -> Entry {
-    Entry::Deposit {
-        to,
-        amount,
-        reference: 3,
-    }
 }
 
 /// A device of zeros.

@@ -1,8 +1,9 @@
 //! A clerk: its opening, its turns, and runs of them.
-use crate::beginnings::{Noted, deposit, line, noted, told};
+use crate::beginnings::{Noted, line, noted, told};
 use std::alloc::{AllocError, Global};
 use std::process::Abort;
 use std::test::Fail;
+use test_scenes::deposit;
 use turn_clerk::{
     Clerk, Entry, EntryRefusal, Event, Line, OpenRefusal, Reply, Rule, Turn, TurnRefusal,
 };

@@ -1,5 +1,5 @@
 //! Days of two stations in threads. Each test holds whatever thread runs when, and where a thread isn't had, too.
-use crate::beginnings::{deposit, formatted, line, told};
+use crate::beginnings::{formatted, line, told};
 use office_day::{
     Day, DayRefusal, End, HeldEntries, OpenRefusal, Outcome, StationDay, TurnRefusal, run_day,
 };
@@ -9,6 +9,7 @@ use std::process::Abort;
 use std::sync::Wait;
 use std::test::Fail;
 use std::thread::Threads;
+use test_scenes::deposit;
 use turn_clerk::{Clerk, Entry, Line};
 
 // Where there are threads, so many tries are enough. A station that waits in vain has made them within two seconds.
@@ -45,18 +46,19 @@ fn found(rt: &impl Abort, alloc: Global, device: MemoryDevice) -> Clerk<MemoryDe
     }
 }
 
-// A day of four turns, and where there was no memory for it, another one behind what the first one journaled: how much
+// A day of four turns of two stations, and where there was no memory for it, another one behind what it journaled: how much
 // that was, and the day.
 fn had<R: Abort + Print + Wait + Threads + Sync>(
     rt: &R,
     alloc: Global,
+    device: MemoryDevice,
+    line: Line,
     held: &[HeldEntries; 2],
     tries: u64,
-) -> Result<(u64, Day<MemoryDevice>), Fail> {
-    let line = line::<2>(rt);
-    let device = formatted(rt, alloc, 4)?;
+) -> (u64, Day<MemoryDevice>) {
+    assert!(rt; line.stations() == 2);
     let (device, refusal) = match run_day(rt, alloc, device, line, held, 4, tries) {
-        Ok(day) => return Ok((0, day)),
+        Ok(day) => return (0, day),
         Err(refused) => refused,
     };
     if refusal == DayRefusal::Memory {
@@ -69,7 +71,7 @@ fn had<R: Abort + Print + Wait + Threads + Sync>(
     let before = clerk.ledger().total();
     assert!(rt; [(0, 0), (1, 1), (2, 3)].contains(&(clerk.next(), before)));
     match run_day(rt, alloc, clerk.into_device(), line, held, 4, tries) {
-        Ok(day) => Ok((before, day)),
+        Ok(day) => (before, day),
         Err((_, refusal)) => panic!(rt; "{refusal}"),
     }
 }
@@ -109,31 +111,25 @@ fn hear(rt: &(impl Abort + Print), station: &StationDay, heard: &mut Heard) -> R
 fn goes_on<R: Abort + Print + Wait + Threads + Sync>(
     rt: &R,
     alloc: Global,
-    device: MemoryDevice,
-    line: Line,
+    clerk: Clerk<MemoryDevice>,
     held: &[HeldEntries; 2],
     heard: &mut Heard,
-) -> Result<MemoryDevice, Fail> {
-    assert!(rt; line.stations() == 2);
-    match run_day(rt, alloc, device, line, held, 4, TRIES) {
-        Ok(
-            Day {
-                clerk,
-                stations,
-                ..
-            },
-        ) => {
-            for station in &stations {
-                assert!(rt; (station.end, station.unanswered.len()) == (End::Reached, 0));
-                for answer in &station.answers {
-                    assert!(rt; matches!(answer.outcome, Outcome::Posted(_)));
-                }
-            }
-            heard.posted = 3u64.saturating_sub(heard.undecided);
-            Ok(clerk.into_device())
+) -> MemoryDevice {
+    let line = clerk.line();
+    let (_, day) = had(rt, alloc, clerk.into_device(), line, held, TRIES);
+    let Day {
+        clerk,
+        stations,
+        ..
+    } = day;
+    for station in &stations {
+        assert!(rt; (station.end, station.unanswered.len()) == (End::Reached, 0));
+        for answer in &station.answers {
+            assert!(rt; matches!(answer.outcome, Outcome::Posted(_)));
         }
-        Err((_, refusal)) => panic!(rt; "{refusal}"),
     }
+    heard.posted = 3u64.saturating_sub(heard.undecided);
+    clerk.into_device()
 }
 
 // All that is posted is there, and what is undecided whole or not at all.
@@ -147,7 +143,8 @@ fn stands(rt: &impl Abort, alloc: Global, device: MemoryDevice, before: u64, hea
 fn a_day_is_had(rt: HostRuntime) -> Result<(), Fail> {
     let alloc = rt.alloc();
     let mut held = [holding(&rt, alloc, 1)?, holding(&rt, alloc, 2)?];
-    let (before, day) = had(&rt, alloc, &held, TRIES)?;
+    let device = formatted(&rt, alloc, 4)?;
+    let (before, day) = had(&rt, alloc, device, line::<2>(&rt), &held, TRIES);
     let Day {
         clerk,
         stations,
@@ -161,8 +158,11 @@ fn a_day_is_had(rt: HostRuntime) -> Result<(), Fail> {
         hear(&rt, station, &mut heard)?;
         held.keep_all(station.unanswered.as_slice());
     }
-    let line = clerk.line();
-    let device = goes_on(&rt, alloc, clerk.into_device(), line, &held, &mut heard)?;
+    let device = if held.iter().all(|held| held.as_slice().is_empty()) {
+        clerk.into_device()
+    } else {
+        goes_on(&rt, alloc, clerk, &held, &mut heard)
+    };
     stands(&rt, alloc, device, before, heard);
     Ok(())
 }
@@ -173,7 +173,8 @@ fn a_day_is_had(rt: HostRuntime) -> Result<(), Fail> {
 fn a_day_is_had_without_a_thread(rt: HostRuntime) -> Result<(), Fail> {
     let alloc = rt.alloc();
     let held = [holding(&rt, alloc, 1)?, holding(&rt, alloc, 2)?];
-    let (before, day) = had(&rt, alloc, &held, 1000)?;
+    let device = formatted(&rt, alloc, 4)?;
+    let (before, day) = had(&rt, alloc, device, line::<2>(&rt), &held, 1000);
     let Day {
         clerk,
         stations,
@@ -185,7 +186,7 @@ fn a_day_is_had_without_a_thread(rt: HostRuntime) -> Result<(), Fail> {
     };
     for station in &stations {
         hear(&rt, station, &mut heard)?;
-        assert!(rt; [End::Reached, End::Stopped, End::Tries].contains(&station.end));
+        assert!(rt; station.end != End::NotStarted);
     }
     stands(&rt, alloc, clerk.into_device(), before, heard);
     Ok(())

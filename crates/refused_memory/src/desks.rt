@@ -1,10 +1,11 @@
 //! The two sides of a desk, and the flags of a held sync.
-use crate::beginnings::{deposit, told};
+use crate::beginnings::told;
 use fault_injector::HeldFlags;
 use station_desk::{Answer, Ask, Outcome, desk, reconcile};
 use std::sync::Arc;
 use std::sync::atomic::Ordering;
 use std::test::Fail;
+use test_scenes::deposit;
 
 #[test]
 fn a_desk_is_made_and_reconciled(rt: HostRuntime) -> Result<(), Fail> {

@@ -1,5 +1,5 @@
 //! An office: its opening, and turns through its seats.
-use crate::beginnings::{Noted, deposit, line, noted, told};
+use crate::beginnings::{Noted, line, noted, told};
 use line_lock::{
     Closing, Ledger, Office, OfficeRefusal, OfficeWork, OpenRefusal, Opening, Seat, TurnRefusal,
     WithinRefusal, with_office,
@@ -9,6 +9,7 @@ use std::convert::Infallible;
 use std::process::Abort;
 use std::sync::Wait;
 use std::test::Fail;
+use test_scenes::deposit;
 
 // How far an office came.
 #[derive(Clone, Copy, Debug, Drop, PartialEq, Eq)]
