@@ -12,6 +12,7 @@ PAGE = 100
 MOST_OVER_THE_PAGE = 20
 NEVER_OVER = 140
 
+OF_TESTS = re.compile(r"\w+_tests|refused_memory|test_scenes")
 FUNCTION = re.compile(r"(\s*)(pub (?!\()|pub\([\w: ]+\) )?(?:const )?(?:unsafe )?fn (\w+)")
 OWNER = re.compile(r"(?:pub )?(?:unsafe )?(?:impl|trait)\b")
 PROMISES_OF_A_TRAIT = re.compile(r"(?:pub )?(?:unsafe )?(?:trait\b|impl\b.* for )")
@@ -21,7 +22,7 @@ CLAUSE = re.compile(r"\s*(requires|ensures)\*? (\w+)?")
 def sources():
     """The files of code of the crates that are no crates of tests."""
     for path in sorted((ROOT / "crates").glob("*/src/**/*.rt")):
-        if not path.relative_to(ROOT / "crates").parts[0].endswith("_tests"):
+        if not OF_TESTS.fullmatch(path.relative_to(ROOT / "crates").parts[0]):
             yield path
 
 

@@ -7,8 +7,9 @@ ghost use Rattle.journal_recovery.specs.declared.refusals.OpenRefusal.{OpenRefus
 
 use gate_journal::one_reading;
 
-/// An image recovers to one state, and where it does no refusal holds of it; of the others one refusal holds. So `recover` answers `Ok` on an honest
-/// device exactly where what reads give recovers to a state, want of memory and device faults apart.
+/// An image recovers to at most one state, and where it does no refusal holds of it; of any image at most one refusal
+/// holds. So `recover` answers `Ok` on an honest device exactly where what reads give recovers to a state, want of memory
+/// and device faults apart.
 pub fn one_recovery()
     ensures state { (image : Image) (s t : State) → RecoversTo s image → RecoversTo t image
         → s ≡ t }

@@ -186,7 +186,15 @@ fn a_day_is_had_without_a_thread(rt: HostRuntime) -> Result<(), Fail> {
     };
     for station in &stations {
         hear(&rt, station, &mut heard)?;
-        assert!(rt; station.end != End::NotStarted);
+        let lawful = [
+            End::Reached,
+            End::Stopped,
+            End::Tries,
+            End::Refused(TurnRefusal::Memory),
+            End::Refused(TurnRefusal::Device),
+            End::Refused(TurnRefusal::Faulted),
+        ];
+        assert!(rt; lawful.contains(&station.end));
     }
     stands(&rt, alloc, clerk.into_device(), before, heard);
     Ok(())

@@ -25,6 +25,11 @@ struct TwoSeats<'a, R> {
     rt: &'a R,
 }
 
+// A seat as it was handed out.
+fn is_new<L: Ledger>(rt: &impl Abort, seat: &Seat<L>) {
+    assert!(rt; (seat.turns().len(), seat.denied(), seat.reached()) == (0, None, 0));
+}
+
 // Want of memory for a place in a seat's list stands before every other refusal, and leaves the seat as it was.
 fn asks_in_vain<L: Ledger + Opening, R: Abort + Wait + Print>(
     rt: &R,
@@ -36,7 +41,7 @@ fn asks_in_vain<L: Ledger + Opening, R: Abort + Wait + Print>(
     let mut answer = office.turn(rt, top, &sixteen);
     if answer == Err(TurnRefusal::Memory) {
         told(rt, "Office::turn");
-        assert!(rt; (top.turns().len(), top.denied()) == (0, None));
+        is_new(rt, top);
         answer = office.turn(rt, top, &sixteen);
     }
     assert!(rt; answer == Err(TurnRefusal::NotPrivileged));
@@ -44,7 +49,7 @@ fn asks_in_vain<L: Ledger + Opening, R: Abort + Wait + Print>(
     let mut answer = office.turn_within(rt, bottom, &sixteen, 0);
     if answer == Err(WithinRefusal::Turn(TurnRefusal::Memory)) {
         told(rt, "Office::turn_within");
-        assert!(rt; (bottom.turns().len(), bottom.denied()) == (0, None));
+        is_new(rt, bottom);
         answer = office.turn_within(rt, bottom, &sixteen, 0);
     }
     assert!(rt; answer == Err(WithinRefusal::Reached));
