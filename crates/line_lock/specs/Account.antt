@@ -12,9 +12,9 @@ abbrev pub turns_of : ℕ → List Turn → List Turn
 turns_of station history = filter (λ turn. turn.station == station) history
 
 -- After so many turns of the history the station had no privilege.
-pub record WasDenied (opening : Configuration) (history : List Turn) (station held : ℕ) : Type 0 where
-  pub within : held ≤ length history
-  pub no_privilege : ¬ HasPrivilege (line_after opening (take held history)) station
+pub record WasDenied (opening : Configuration) (history : List Turn) (station before : ℕ) : Type 0 where
+  pub within : before ≤ length history
+  pub no_privilege : ¬ HasPrivilege (line_after opening (take before history)) station
 
 -- The history bears out what a seat holds: its turns are those of its station, in order, each once; where it was told
 -- that it isn't its turn, it wasn't; and the history holds as many turns as it was told.

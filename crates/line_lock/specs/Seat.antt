@@ -35,8 +35,8 @@ pub record HasReached (device : DeviceState) (from : Configuration) (limit : ℕ
 
 -- So many turns are a legal history from the opening on that device with that line, after which the station has no
 -- privilege.
-pub record IsDeniedAfter (device : DeviceState) (from : Configuration) (station held : ℕ) : Type 0 where
+pub record IsDeniedAfter (device : DeviceState) (from : Configuration) (station before : ℕ) : Type 0 where
   pub turns : List Turn
   pub history : IsHistoryOf device from turns
-  pub many : length turns ≡ held
+  pub many : length turns ≡ before
   pub no_privilege : ¬ HasPrivilege (line_after from turns) station

@@ -26,7 +26,7 @@ pub record WasTold {E : Type 0} (device : DeviceState) (from : Configuration) (o
   pub too_many : reply ≡ Err (told TooMany) → BATCH_LIMIT < length entries
   pub there : reply ≢ Err (told NoStation)
   -- that it isn't its turn
-  pub denied : reply ≡ Err (told NotPrivileged) → IsSomeAnd new.denied (λ held. length old.turns ≤ held)
+  pub denied : reply ≡ Err (told NotPrivileged) → IsSomeAnd new.denied (λ before. length old.turns ≤ before)
   pub rightly : reply ≡ Err (told NotPrivileged) → IsSomeAnd new.denied (IsDeniedAfter device from old.station)
   pub not_denied : reply ≢ Err (told NotPrivileged) → new.denied ≡ old.denied
   -- that the device failed

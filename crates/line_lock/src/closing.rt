@@ -83,24 +83,24 @@ fn lists_all<L: Ledger>(seat: &Seat<L>, history: &[Turn]) -> bool
 }
 
 // The line after so many turns of the history.
-fn line_at<D: Device>(clerk: &Clerk<D>, held: usize) -> Line
-    requires { held ≤ length clerk.now.history }
-    ensures { result ≡ line_after clerk.now.opening.line (take held clerk.now.history) }
+fn line_at<D: Device>(clerk: &Clerk<D>, turns: usize) -> Line
+    requires { turns ≤ length clerk.now.history }
+    ensures { result ≡ line_after clerk.now.opening.line (take turns clerk.now.history) }
 {
     let mut line = clerk.opening();
-    for step in &clerk.moves()[..held] {
+    for step in &clerk.moves()[..turns] {
         line.make_move(step.station, step.rule);
     }
     line
 }
 
 // Whether the station had no privilege after so many turns of the history.
-fn was_denied<D: Device>(clerk: &Clerk<D>, station: u8, held: u64) -> bool
+fn was_denied<D: Device>(clerk: &Clerk<D>, station: u8, turns: u64) -> bool
     requires { station < stations clerk.now.line }
-    ensures { IsTrue result ↔ WasDenied clerk.now.opening.line clerk.now.history station held }
+    ensures { IsTrue result ↔ WasDenied clerk.now.opening.line clerk.now.history station turns }
 {
-    held <= clerk.history().len() as u64
-        && line_at(clerk, held as usize).privilege(station).is_none()
+    turns <= clerk.history().len() as u64
+        && line_at(clerk, turns as usize).privilege(station).is_none()
 }
 
 // Whether the office's history bears out what a seat holds.
@@ -109,7 +109,7 @@ fn is_borne_out<D: Device, L: Ledger>(clerk: &Clerk<D>, seat: &Seat<L>) -> bool
     ensures { IsTrue result ↔ IsBorneOut clerk.now.opening.line clerk.now.history seat.now }
 {
     let denied = match seat.denied() {
-        Some(held) => was_denied(clerk, seat.station(), held),
+        Some(turns) => was_denied(clerk, seat.station(), turns),
         None => true,
     };
     denied && seat.reached() <= clerk.history().len() as u64 && lists_all(seat, clerk.history())

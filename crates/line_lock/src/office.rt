@@ -15,7 +15,7 @@ ghost use Rattle.line_lock.specs.Seat.{new_seat, HasReached};
 ghost use Rattle.line_lock.specs.Told.{WasTold};
 
 use crate::closing::{CloseRefusal, Closing, audited, gathered, look_at};
-use crate::locked::{Answer, Locked};
+use crate::locked::{Locked, LockedTurn};
 use crate::opening::Opening;
 use crate::refusals::WithinRefusal;
 use crate::seat::Seat;
@@ -232,18 +232,18 @@ impl<D: Device, L: Ledger + Opening> Office<D, L> {
 fn noted(
     turns: &mut Vec<Turn>,
     denied: &mut Option<u64>,
-    answer: Answer,
+    answer: LockedTurn,
 ) -> Result<Turn, TurnRefusal>
     requires { vec_len turns.old < vec_capacity turns.old }
     ensures reply { result ≡ answer.reply }
     ensures listed { IfOk result (λ turn. turns.new.items ≡ turns.old.items ++ turn ∷ []) }
     ensures not_listed { OnErr result (turns.new.items ≡ turns.old.items) }
-    ensures denied { result ≡ Err TurnRefusal.NotPrivileged → denied.new ≡ Some answer.held }
+    ensures denied { result ≡ Err TurnRefusal.NotPrivileged → denied.new ≡ Some answer.turns_before }
     ensures not_denied { result ≢ Err TurnRefusal.NotPrivileged → denied.new ≡ denied.old }
 {
     match &answer.reply {
         Ok(turn) => turns.push_reserved(*turn),
-        Err(TurnRefusal::NotPrivileged) => *denied = Some(answer.held),
+        Err(TurnRefusal::NotPrivileged) => *denied = Some(answer.turns_before),
         Err(_) => {}
     }
     answer.reply

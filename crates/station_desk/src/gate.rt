@@ -1,7 +1,7 @@
 //! Who is told how far a station is.
 
-/// Is told by each station, in the station's own thread, how far it is. Nothing is claimed of what it does; a station
-/// goes on when the call returns.
+/// Whom each station tells, in a thread of its own, how far it is; no sector, as the gates of a journal are. Nothing is
+/// claimed of what it does; a station goes on when the call returns.
 pub trait Gate {
     /// The station has gathered, and asks for its turn next.
     fn gathered(&self, station: u8);
