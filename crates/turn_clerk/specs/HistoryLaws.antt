@@ -25,13 +25,6 @@ pub entries_of-as_batch : (batch : List Entry) → entries_of (as_batch batch) �
 entries_of-as_batch [] = refl
 entries_of-as_batch (entry ∷ entries) = entries_of-one (entry ∷ entries)
 
--- no batch leaves the state
-pub state_after-none : (state : State) → IsLedger state.ledger → state_after state [] ≡ state
-state_after-none state sound i = record { ledger = ledger_after-none state.ledger sound i; next = next_is i }
-  where
-    next_is : state.next + 0 ≡ state.next
-    next_is = omega arith
-
 -- accepted entries, posted one after another, lead to the state after them as one batch
 pub state_after-as_batch : (state : State) (batch : List Entry) → IsLedger state.ledger → AreAccepted state.ledger batch
     → record { ledger = posted_in_order state.ledger batch; next = state.next + length (as_batch batch) } ≡ state_after state (as_batch batch)
