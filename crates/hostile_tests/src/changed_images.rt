@@ -1,5 +1,5 @@
 //! Images in which several things were changed at random, beside the plain program of the format.
-use crate::course::{deposit, two_stations};
+use crate::course::opened;
 use crate::images::{found, holds, image_of, put, settled};
 use crate::plain::{
     BASE_AT, BODY_MAGIC, COUNT_AT, EPOCH_AT, FIRST_PLACE, HEAD, HEAD_MAGIC, OPEN, PLACE, Plain,
@@ -13,7 +13,7 @@ use sector_device::{MemoryDevice, SECTOR, Sector};
 use std::alloc::Global;
 use std::process::Abort;
 use std::test::Fail;
-use turn_clerk::{Clerk, Entry};
+use test_scenes::{deposit, transfer};
 
 const IMAGES: u32 = 100_000;
 
@@ -116,33 +116,45 @@ fn put_number(bytes: &mut Sector, (from, to): (usize, usize), number: u64) {
     }
 }
 
-// An entry, or something like one: kinds, accounts and amounts from both sides of each limit.
-fn put_entry(random: &mut Pcg32, bytes: &mut Sector, at: usize) {
-    let kind = one_of(random, &[1, 1, 2, 3, 4]);
-    let from = one_of(random, &[0, 1, 1, 2, 64, 65]);
-    let to = one_of(random, &[0, 1, 1, 2, 64, 65]);
-    let amount = one_of(
-        random,
-        &[
-            0,
-            1,
-            5,
-            5,
-            500,
-            999_999_999_999_999_000,
-            1_000_000_000_000_000_001,
-        ],
-    );
-    let sides = match kind {
+const KINDS: [u64; 5] = [1, 1, 2, 3, 4];
+
+const ACCOUNTS: [u64; 6] = [0, 1, 1, 2, 64, 65];
+
+const AMOUNTS: [u64; 7] = [
+    0,
+    1,
+    5,
+    5,
+    500,
+    999_999_999_999_999_000,
+    1_000_000_000_000_000_001,
+];
+
+// The accounts of an entry of this kind, or nearly: of a deposit none to take from, of a withdrawal none to give to.
+fn some_sides(random: &mut Pcg32, kind: u64) -> (u64, u64) {
+    let from = one_of(random, &ACCOUNTS);
+    let to = one_of(random, &ACCOUNTS);
+    match kind {
         1 => (0, to),
         2 => (from, 0),
         _ => (from, to),
-    };
-    let place = |from: usize, to: usize| (at.saturating_add(from), at.saturating_add(to));
-    put_number(bytes, place(0, 1), kind);
-    put_number(bytes, place(4, 8), sides.0);
-    put_number(bytes, place(8, 12), sides.1);
-    put_number(bytes, place(16, 24), amount);
+    }
+}
+
+// Puts a number into these places of the entry that begins here.
+fn put_part(bytes: &mut Sector, at: usize, (from, to): (usize, usize), number: u64) {
+    let places = (at.saturating_add(from), at.saturating_add(to));
+    put_number(bytes, places, number);
+}
+
+// An entry, or something like one: kinds, accounts and amounts from both sides of each limit.
+fn put_entry(random: &mut Pcg32, bytes: &mut Sector, at: usize) {
+    let kind = one_of(random, &KINDS);
+    let (from, to) = some_sides(random, kind);
+    put_part(bytes, at, (0, 1), kind);
+    put_part(bytes, at, (4, 8), from);
+    put_part(bytes, at, (8, 12), to);
+    put_part(bytes, at, (16, 24), one_of(random, &AMOUNTS));
 }
 
 // A body that is a record of this sequence, or nearly.
@@ -218,7 +230,6 @@ fn renew_body(random: &mut Pcg32, image: &mut [Sector]) {
 #[derive(Clone, Copy)]
 enum Change {
     Byte,
-    // One of the bytes that a head or a place may have, among the first of its sector.
     Field,
     Zeros,
     Ones,
@@ -247,23 +258,33 @@ fn put_byte(image: &mut [Sector], at: usize, place: usize, value: u8) {
     }
 }
 
+// One of the bytes that a head or a place may have, among the first of a sector.
+fn put_field(random: &mut Pcg32, image: &mut [Sector], at: usize) {
+    let value = FIELDS.get(below(random, FIELDS.len())).copied();
+    put_byte(image, at, below(random, FIRST_PLACE), value.unwrap_or(0));
+}
+
+fn copy(image: &mut [Sector], from: usize, to: usize) {
+    let bytes = sector_at(image, from);
+    set(image, to, &bytes);
+}
+
+fn exchange(image: &mut [Sector], at: usize, other: usize) {
+    let here = sector_at(image, at);
+    copy(image, other, at);
+    set(image, other, &here);
+}
+
 fn make(random: &mut Pcg32, image: &mut [Sector], change: Change) {
     let at = below(random, image.len());
     let other = below(random, image.len());
-    let (here, there) = (sector_at(image, at), sector_at(image, other));
     match change {
         Change::Byte => put_byte(image, at, below(random, SECTOR), some_byte(random)),
-        Change::Field => {
-            let value = FIELDS.get(below(random, FIELDS.len())).copied();
-            put_byte(image, at, below(random, FIRST_PLACE), value.unwrap_or(0));
-        }
+        Change::Field => put_field(random, image, at),
         Change::Zeros => set(image, at, &[0; SECTOR]),
         Change::Ones => set(image, at, &[0xff; SECTOR]),
-        Change::Copied => set(image, at, &there),
-        Change::Exchanged => {
-            set(image, at, &there);
-            set(image, other, &here);
-        }
+        Change::Copied => copy(image, other, at),
+        Change::Exchanged => exchange(image, at, other),
         Change::Opened => open(image, at),
         Change::Head => renew_head(random, image),
         Change::Body => renew_body(random, image),
@@ -280,28 +301,23 @@ fn make_several(random: &mut Pcg32, image: &mut [Sector]) {
     }
 }
 
-// A deposit and a transfer of what it brought.
-fn two_entries() -> [Entry; 2] {
-    let transfer = Entry::Transfer {
-        from: 1,
-        to: 2,
-        amount: 40,
-        reference: 5,
-    };
-    [deposit(100), transfer]
-}
-
-// With this many slots a bank, on 23 sectors, after three turns: with 1 slot behind two checkpoints, with 4 without any.
+// With this many slots a bank, on 23 sectors, after three turns with a deposit and a transfer of some of it: with 1 slot
+// behind two checkpoints, with 4 without any.
 fn after_three_turns(rt: &impl Abort, alloc: Global, slots: u64) -> Result<MemoryDevice, Fail> {
     let mut device = MemoryDevice::new(alloc, SECTORS)?;
     assert!(rt; 1 <= slots && slots <= 4);
     format(&mut device, slots)?;
-    let line = two_stations(rt, false);
-    let mut clerk = Clerk::open(alloc, device, line).map_err(|(_, refusal)| refusal)?;
+    let mut clerk = opened(rt, alloc, device);
     for station in [0, 1, 0] {
-        clerk.turn(station, &two_entries())?;
+        clerk.turn(station, &[deposit(1, 100), transfer(1, 2, 40)])?;
     }
     Ok(clerk.into_device())
+}
+
+// The image of such a device.
+fn image_with(rt: &impl Abort, alloc: Global, slots: u64) -> Result<Vec<Sector>, Fail> {
+    let mut device = after_three_turns(rt, alloc, slots)?;
+    image_of(rt, alloc, &mut device)
 }
 
 // Changes an image, and compares what recovery finds with what the plain program tells.
@@ -326,10 +342,9 @@ fn compare(
 #[test]
 fn images_with_several_changes_are_read_as_the_format_says(rt: HostRuntime) -> Result<(), Fail> {
     let alloc = rt.alloc();
-    let mut device = after_three_turns(&rt, alloc, 1)?;
-    let behind_checkpoints = image_of(&rt, alloc, &mut device)?;
+    let behind_checkpoints = image_with(&rt, alloc, 1)?;
+    let in_one_bank = image_with(&rt, alloc, 4)?;
     let mut device = after_three_turns(&rt, alloc, 4)?;
-    let in_one_bank = image_of(&rt, alloc, &mut device)?;
     let mut random = Pcg32::new(1974, 17);
     let mut kinds = Kinds::none();
     for number in 0..IMAGES {

@@ -1,9 +1,9 @@
 //! A course of five turns on banks of two slots, of which the third and the fifth make a checkpoint first.
-use gate_journal::format;
-use sector_device::{Device, MemoryDevice};
+use sector_device::Device;
 use std::alloc::Global;
 use std::process::Abort;
 use std::test::Fail;
+use test_scenes::{deposit, line};
 use turn_clerk::{Clerk, Entry, Event, Line, OpenRefusal, TurnRefusal};
 
 // What the turns deposit: no two lists of batches come to the same balance.
@@ -13,7 +13,7 @@ pub const AMOUNTS: [u64; 5] = [1, 2, 4, 8, 16];
 const BALANCES: [u64; 6] = [0, 1, 3, 7, 15, 31];
 
 // The bits of the two stations' line after 0 to 3 moves of a legitimate run from zeros; then it comes round.
-const LINES: [[bool; 2]; 4] = [[false, false], [true, false], [true, true], [false, true]];
+const LINES: [[u8; 2]; 4] = [[0, 0], [1, 0], [1, 1], [0, 1]];
 
 // The calls of a whole course, by the order of calls that the format states. The opening syncs once, and reads the
 // superblock, both banks' gates, the head, two slots' gates and the snapshot. Each turn writes and syncs a body, and then
@@ -27,25 +27,23 @@ pub const SYNCS: u64 = 1 + 5 * 2 + 2 + 3;
 
 pub const CALLS: u64 = READS + WRITES + SYNCS;
 
-pub fn deposit(amount: u64) -> Entry {
-    Entry::Deposit {
-        to: 1,
-        amount,
-        reference: 3,
-    }
-}
-
 // Two stations of which the bottom one alone is privileged, or the top one.
 pub fn two_stations(rt: &impl Abort, top: bool) -> Line {
-    Line::from_bits(2, &[top, false], &[true, false]).expect(rt, "a line")
+    line([u8::from(top), 0], [1, 0]).expect(rt, "a line")
 }
 
-// An empty journal with so many slots in each bank.
-pub fn formatted(rt: &impl Abort, alloc: Global, slots: u64) -> Result<MemoryDevice, Fail> {
-    assert!(rt; 1 <= slots && slots < 100);
-    let mut device = MemoryDevice::new(alloc, 4 * slots + 7)?;
-    format(&mut device, slots)?;
-    Ok(device)
+// The two stations' line after so many moves.
+fn line_after(rt: &impl Abort, moves: usize) -> Line {
+    let x = LINES.get(moves % 4).copied().unwrap_or([0, 0]);
+    line(x, [1, 0]).expect(rt, "a line")
+}
+
+// A clerk of the two stations, the bottom one privileged.
+pub fn opened<D: Device>(rt: &impl Abort, alloc: Global, device: D) -> Clerk<D> {
+    match Clerk::open(alloc, device, two_stations(rt, false)) {
+        Ok(clerk) => clerk,
+        Err((_, refusal)) => panic!(rt; "{refusal}"),
+    }
 }
 
 // Where a course met a fault.
@@ -94,7 +92,7 @@ pub fn events(alloc: Global) -> Result<Vec<Event>, Fail> {
     for (place, amount) in AMOUNTS.iter().enumerate() {
         events.push(Event {
             station: (place % 2) as u8,
-            entries: vec![in alloc; deposit(*amount)]?,
+            entries: vec![in alloc; deposit(1, *amount)]?,
         })?;
     }
     Ok(events)
@@ -126,7 +124,7 @@ pub fn take_course<D: Device>(
 fn take_turns<D: Device>(rt: &impl Abort, clerk: &mut Clerk<D>, first: usize) -> Course {
     let mut acknowledged = first as u64;
     for (place, amount) in AMOUNTS.iter().enumerate().skip(first) {
-        match clerk.turn((place % 2) as u8, &[deposit(*amount)]) {
+        match clerk.turn((place % 2) as u8, &[deposit(1, *amount)]) {
             Ok(turn) => {
                 assert!(rt; turn.posted == Some(place as u64));
                 acknowledged = acknowledged.saturating_add(1);
@@ -146,17 +144,40 @@ fn take_turns<D: Device>(rt: &impl Abort, clerk: &mut Clerk<D>, first: usize) ->
 // The device failed in the turn of that place, of those from `first` on: its deposit is in flight, all else is as the
 // turns before it left it, and whoever asks is told that the clerk is faulted.
 fn stands_still<D: Device>(rt: &impl Abort, clerk: &mut Clerk<D>, first: usize, place: usize) {
-    let in_flight = clerk.in_flight().expect(rt, "a batch in flight");
-    let amount = AMOUNTS.get(place).copied().unwrap_or(0);
-    assert!(rt; (in_flight.len(), in_flight.get(0)) == (1, Some(deposit(amount))));
+    has_in_flight(rt, clerk, AMOUNTS.get(place).copied().unwrap_or(0));
     assert!(rt; clerk.ledger().balance(1) == BALANCES.get(place).copied());
     let taken = place.saturating_sub(first);
     assert!(rt; clerk.history().len() == taken);
-    let moves = (first % 2).saturating_add(taken);
-    let bits = LINES.get(moves % 4).copied().unwrap_or([true, true]);
-    assert!(rt; clerk.line() == Line::from_bits(2, &bits, &[true, false]).expect(rt, "a line"));
+    assert!(rt; clerk.line() == line_after(rt, (first % 2).saturating_add(taken)));
+    is_faulted(rt, clerk, (place % 2) as u8);
+}
+
+// A deposit of so much is in flight.
+pub fn has_in_flight<D: Device>(rt: &impl Abort, clerk: &Clerk<D>, amount: u64) {
+    let in_flight = clerk.in_flight().expect(rt, "a batch in flight");
+    assert!(rt; (in_flight.len(), in_flight.get(0)) == (1, Some(deposit(1, amount))));
+}
+
+// The clerk is faulted: the station whose turn it is is told so, and one that there isn't.
+fn is_faulted<D: Device>(rt: &impl Abort, clerk: &mut Clerk<D>, station: u8) {
     assert!(rt; clerk.is_faulted());
-    let full = [deposit(1); 15];
-    assert!(rt; clerk.turn((place % 2) as u8, &full) == Err(TurnRefusal::Faulted));
-    assert!(rt; clerk.turn(9, &[]) == Err(TurnRefusal::Faulted));
+    refuses(
+        rt,
+        clerk,
+        station,
+        &[deposit(1, 1); 15],
+        TurnRefusal::Faulted,
+    );
+    refuses(rt, clerk, 9, &[], TurnRefusal::Faulted);
+}
+
+// A station's turn with these entries is refused for this reason.
+pub fn refuses<D: Device>(
+    rt: &impl Abort,
+    clerk: &mut Clerk<D>,
+    station: u8,
+    entries: &[Entry],
+    reason: TurnRefusal,
+) {
+    assert!(rt; clerk.turn(station, entries).err() == Some(reason));
 }

@@ -1,5 +1,5 @@
 //! Days of station threads on devices that fail, and what clients were told. Each test holds whatever thread runs when.
-use crate::course::{Found, deposit, formatted, two_stations};
+use crate::course::{Found, two_stations};
 use crate::power::{at_stake, outcomes_of, picks, recovered};
 use fault_injector::{Fuse, OneFault, Op};
 use office_day::{
@@ -12,6 +12,7 @@ use std::process::Abort;
 use std::sync::Wait;
 use std::test::Fail;
 use std::thread::Threads;
+use test_scenes::{deposit, formatted};
 use turn_clerk::Entry;
 
 const TRIES: u64 = 100_000_000;
@@ -48,6 +49,16 @@ impl Told {
         }
     }
 
+    // Hears each answer of stations of which each one is accounted for.
+    fn hear_all(&mut self, rt: &impl Abort, stations: &[StationDay]) {
+        for station in stations {
+            is_accounted_for(rt, station);
+            for answer in &station.answers {
+                self.hear(answer);
+            }
+        }
+    }
+
     fn hear(&mut self, answer: &Answer) {
         let amount = match answer.entry {
             Entry::Deposit { amount, .. } => amount,
@@ -73,24 +84,21 @@ impl Told {
 
 // A station's deposit has an answer, or comes back unanswered; not so where the station was told that the device failed.
 fn is_accounted_for(rt: &impl Abort, station: &StationDay) {
-    assert!(rt;
-        station
-            .answers
-            .len()
-            .saturating_add(station.unanswered.len())
-            == 1
-    );
+    let (answered, unanswered) = (station.answers.len(), station.unanswered.len());
+    assert!(rt; answered.saturating_add(unanswered) == 1);
     match station.end {
-        End::Refused(TurnRefusal::Device) => assert!(rt; station.unanswered.is_empty()),
-        end => assert!(rt;
-            [
-                End::Reached,
-                End::Stopped,
-                End::Refused(TurnRefusal::Faulted)
-            ]
-            .contains(&end)
-        ),
+        End::Refused(TurnRefusal::Device) => assert!(rt; unanswered == 0),
+        End::Reached | End::Stopped | End::Refused(TurnRefusal::Faulted) => {}
+        end => panic!(rt; "{end:?}"),
     }
+}
+
+// What two stations hold, a deposit each.
+fn two_deposits(alloc: Global) -> Result<[HeldEntries; 2], Fail> {
+    let mut held = [HeldEntries::new(alloc)?, HeldEntries::new(alloc)?];
+    held[0].keep(deposit(1, 1)).ok_or("a place")?;
+    held[1].keep(deposit(1, 2)).ok_or("a place")?;
+    Ok(held)
 }
 
 // A day of two stations, each with a deposit, for four turns: the device, and what clients were told.
@@ -99,9 +107,7 @@ fn day_on<D: Device + Drop + Send, R: Abort + Wait + Threads + Sync>(
     alloc: Global,
     device: D,
 ) -> Result<(D, Told), Fail> {
-    let mut held = [HeldEntries::new(alloc)?, HeldEntries::new(alloc)?];
-    held[0].keep(deposit(1)).ok_or("a place")?;
-    held[1].keep(deposit(2)).ok_or("a place")?;
+    let held = two_deposits(alloc)?;
     let mut told = Told::nothing();
     let line = two_stations(rt, false);
     assert!(rt; held.len() == line.stations() as usize);
@@ -113,12 +119,7 @@ fn day_on<D: Device + Drop + Send, R: Abort + Wait + Threads + Sync>(
                 ..
             },
         ) => {
-            for station in &stations {
-                is_accounted_for(rt, station);
-                for answer in &station.answers {
-                    told.hear(answer);
-                }
-            }
+            told.hear_all(rt, stations.as_slice());
             Ok((clerk.into_device(), told))
         }
         Err((device, refusal)) => {
@@ -141,7 +142,7 @@ fn failed_day<R: Abort + Wait + Threads + Sync>(
     alloc: Global,
     fails: Fails,
 ) -> Result<(MemoryDevice, Told), Fail> {
-    let device = formatted(rt, alloc, 1)?;
+    let device = formatted(alloc, 1)?;
     match fails {
         Fails::From(op, at) => {
             let (device, told) = day_on(rt, alloc, Fuse::new(device, op, at))?;

@@ -1,14 +1,15 @@
 //! Courses on a device that fails once or twice and works again: they go on from what they find, to the end.
 use crate::course::{
-    CALLS, Course, Found, Met, READS, SYNCS, WRITES, deposit, formatted, found_by, take_course,
+    CALLS, Found, Met, READS, SYNCS, WRITES, found_by, has_in_flight, refuses, take_course,
     two_stations,
 };
 use fault_injector::{Noting, OneFault, Op};
 use sector_device::{Device, MemoryDevice};
-use std::alloc::Global;
+use std::alloc::{AllocError, Global};
 use std::process::Abort;
 use std::test::Fail;
-use turn_clerk::{Clerk, Line, OpenRefusal, TurnRefusal};
+use test_scenes::{deposit, formatted, line};
+use turn_clerk::{Clerk, OpenRefusal, TurnRefusal};
 
 // What an opening finds on a device, or None where it fails.
 fn look<D: Device>(rt: &impl Abort, alloc: Global, device: D) -> (D, Option<Found>) {
@@ -32,6 +33,22 @@ struct Faults {
 }
 
 impl Faults {
+    fn none() -> Faults {
+        Faults {
+            in_openings: 0,
+            in_turns: 0,
+        }
+    }
+
+    fn all(&self) -> u64 {
+        self.in_openings.saturating_add(self.in_turns)
+    }
+
+    fn add(&mut self, others: Faults) {
+        self.in_openings = self.in_openings.saturating_add(others.in_openings);
+        self.in_turns = self.in_turns.saturating_add(others.in_turns);
+    }
+
     fn count(&mut self, met: Met) {
         match met {
             Met::Nothing => {}
@@ -44,10 +61,7 @@ impl Faults {
 // The course, and after each of two faults at most once more from what is found then, without a power loss, to all five
 // batches. What is found is lawful each time.
 fn to_the_end<D: Device + Drop>(rt: &impl Abort, alloc: Global, device: D) -> Faults {
-    let mut faults = Faults {
-        in_openings: 0,
-        in_turns: 0,
-    };
+    let mut faults = Faults::none();
     let (mut device, mut course) = take_course(rt, alloc, device, 0);
     faults.count(course.met);
     for _ in 0..2 {
@@ -80,10 +94,9 @@ fn a_device_that_fails_once_loses_nothing(rt: HostRuntime) -> Result<(), Fail> {
     ];
     for (op, calls) in kinds {
         for at in 0..calls.saturating_add(1) {
-            let device = OneFault::new(formatted(&rt, rt.alloc(), 2)?, op, at);
+            let device = OneFault::new(formatted(rt.alloc(), 2)?, op, at);
             let faults = to_the_end(&rt, rt.alloc(), device);
-            let met = faults.in_openings.saturating_add(faults.in_turns);
-            assert!(rt; met == u64::from(at < calls), "{op:?} {at}");
+            assert!(rt; faults.all() == u64::from(at < calls), "{op:?} {at}");
         }
     }
     Ok(())
@@ -92,13 +105,11 @@ fn a_device_that_fails_once_loses_nothing(rt: HostRuntime) -> Result<(), Fail> {
 // Each call before the fault reaches the device, and none after it, whoever asks the clerk for a turn.
 #[test]
 fn a_faulted_clerk_makes_no_call(rt: HostRuntime) -> Result<(), Fail> {
-    let alloc = rt.alloc();
     for at in 0..CALLS {
-        let Ok(noting) = Noting::new(alloc, formatted(&rt, alloc, 2)?, 100) else {
-            panic!(&rt; "out of memory");
-        };
+        let inner = formatted(rt.alloc(), 2)?;
+        let noting = Noting::new(rt.alloc(), inner, 100).map_err(AllocError::from)?;
         let device = OneFault::new(noting, Op::Any, at);
-        let (device, course) = take_course(&rt, alloc, device, 0);
+        let (device, course) = take_course(&rt, rt.alloc(), device, 0);
         assert!(rt; course.met != Met::Nothing);
         assert!(rt; device.into_inner().calls().len() as u64 == at);
     }
@@ -107,7 +118,7 @@ fn a_faulted_clerk_makes_no_call(rt: HostRuntime) -> Result<(), Fail> {
 
 // A device that fails at the first place, and at a later one: where these faults lay.
 fn two_faults(rt: &impl Abort, alloc: Global, first: u64, second: u64) -> Result<Faults, Fail> {
-    let inner = OneFault::new(formatted(rt, alloc, 2)?, Op::Any, second);
+    let inner = OneFault::new(formatted(alloc, 2)?, Op::Any, second);
     Ok(to_the_end(rt, alloc, OneFault::new(inner, Op::Any, first)))
 }
 
@@ -115,45 +126,56 @@ fn two_faults(rt: &impl Abort, alloc: Global, first: u64, second: u64) -> Result
 // first fault on to the end.
 const PAIRS: u64 = 2044;
 
+// The faults of all pairs with this first place, and how many pairs there are. From some later place on the second fault
+// isn't met.
+fn all_pairs(rt: &impl Abort, alloc: Global, first: u64) -> Result<(Faults, u64), Fail> {
+    let mut pairs = 0u64;
+    let mut all = Faults::none();
+    for second in first..1000 {
+        let faults = two_faults(rt, alloc, first, second)?;
+        if faults.all() < 2 {
+            break;
+        }
+        pairs = pairs.saturating_add(1);
+        all.add(faults);
+    }
+    Ok((all, pairs))
+}
+
 // The calls that the first fault doesn't let through aren't counted by the device behind, so its own fault, at a place not
-// before the first one's, is the second. From some place on it isn't met.
+// before the first one's, is the second.
 #[test]
 fn a_device_that_fails_twice_loses_nothing(rt: HostRuntime) -> Result<(), Fail> {
     let mut pairs = 0u64;
-    let mut all = Faults {
-        in_openings: 0,
-        in_turns: 0,
-    };
+    let mut all = Faults::none();
     for first in 0..CALLS {
-        for second in first..1000 {
-            let faults = two_faults(&rt, rt.alloc(), first, second)?;
-            if faults.in_openings.saturating_add(faults.in_turns) < 2 {
-                break;
-            }
-            pairs = pairs.saturating_add(1);
-            all.in_openings = all.in_openings.saturating_add(faults.in_openings);
-            all.in_turns = all.in_turns.saturating_add(faults.in_turns);
-        }
+        let (faults, count) = all_pairs(&rt, rt.alloc(), first)?;
+        pairs = pairs.saturating_add(count);
+        all.add(faults);
     }
     assert!(rt; pairs == PAIRS);
     assert!(rt; all.in_openings > 0 && all.in_turns > 0);
     Ok(())
 }
 
-// A deposit whose first sync fails, which is that of its body, is in flight, and isn't there when the device is opened
-// again.
+// A deposit whose first sync fails, which is that of its body: it is in flight, and each station is told of the fault.
+fn failed_sync(rt: &impl Abort, alloc: Global) -> Result<OneFault<MemoryDevice>, Fail> {
+    let device = OneFault::new(formatted(alloc, 4)?, Op::Sync, 1);
+    let three_stations = line([0, 0, 0], [1, 0, 0])?;
+    let mut clerk = Clerk::open(alloc, device, three_stations).map_err(|(_, refusal)| refusal)?;
+    let reason = TurnRefusal::Device;
+    refuses(rt, &mut clerk, 0, &[deposit(1, 5)], reason);
+    has_in_flight(rt, &clerk, 5);
+    refuses(rt, &mut clerk, 0, &[], TurnRefusal::Faulted);
+    refuses(rt, &mut clerk, 1, &[], TurnRefusal::Faulted);
+    Ok(clerk.into_device())
+}
+
+// It isn't there when the device is opened again.
 #[test]
 fn a_turn_whose_first_sync_fails_is_in_flight(rt: HostRuntime) -> Result<(), Fail> {
-    let alloc = rt.alloc();
-    let line = Line::from_bits(3, &[false; 3], &[true, false, false]).expect(&rt, "a line");
-    let device = OneFault::new(formatted(&rt, alloc, 4)?, Op::Sync, 1);
-    let mut clerk = Clerk::open(alloc, device, line).map_err(|(_, refusal)| refusal)?;
-    assert!(rt; clerk.turn(0, &[deposit(5)]) == Err(TurnRefusal::Device));
-    let in_flight = clerk.in_flight().expect(&rt, "a batch in flight");
-    assert!(rt; (in_flight.len(), in_flight.get(0)) == (1, Some(deposit(5))));
-    assert!(rt; clerk.turn(0, &[]) == Err(TurnRefusal::Faulted));
-    assert!(rt; clerk.turn(1, &[]) == Err(TurnRefusal::Faulted));
-    let clerk = Clerk::open(alloc, clerk.into_device(), line).map_err(|(_, refusal)| refusal)?;
-    assert!(rt; (clerk.opening_balance(1), clerk.opening_next()) == (Some(0), 0));
+    let (_, there) = look(&rt, rt.alloc(), failed_sync(&rt, rt.alloc())?);
+    let (balance, next) = (Some(0), 0);
+    assert!(rt; there == Some(Found { balance, next }));
     Ok(())
 }

@@ -1,12 +1,12 @@
 //! Two images of which each byte is replaced, and images that are cut short, beside the plain program of the format.
-use crate::course::{deposit, formatted, two_stations};
+use crate::course::opened;
 use crate::plain::{ACCOUNTS, Plain, told};
 use journal_recovery::{Cause, OpenRefusal, recover};
 use sector_device::{Device, MemoryDevice, Picks, SECTOR, Sector};
-use std::alloc::Global;
+use std::alloc::{AllocError, Global};
 use std::process::Abort;
 use std::test::Fail;
-use turn_clerk::Clerk;
+use test_scenes::{deposit, formatted};
 
 // Layout 2: the sectors of the first bank, and with 4 slots a bank the gate of the second one.
 
@@ -102,20 +102,16 @@ const REFUSED_BEHIND_A_CHECKPOINT: [u32; 11] = [
 
 // With 4 slots a bank, after one deposit of 500.
 pub fn after_one_deposit(rt: &impl Abort, alloc: Global) -> Result<MemoryDevice, Fail> {
-    let device = formatted(rt, alloc, 4)?;
-    let line = two_stations(rt, false);
-    let mut clerk = Clerk::open(alloc, device, line).map_err(|(_, refusal)| refusal)?;
-    clerk.turn(0, &[deposit(500)])?;
+    let mut clerk = opened(rt, alloc, formatted(alloc, 4)?);
+    clerk.turn(0, &[deposit(1, 500)])?;
     Ok(clerk.into_device())
 }
 
 // With 1 slot a bank, after two deposits of 5, of which the second made a checkpoint.
 pub fn behind_a_checkpoint(rt: &impl Abort, alloc: Global) -> Result<MemoryDevice, Fail> {
-    let device = formatted(rt, alloc, 1)?;
-    let line = two_stations(rt, false);
-    let mut clerk = Clerk::open(alloc, device, line).map_err(|(_, refusal)| refusal)?;
-    clerk.turn(0, &[deposit(5)])?;
-    clerk.turn(1, &[deposit(5)])?;
+    let mut clerk = opened(rt, alloc, formatted(alloc, 1)?);
+    clerk.turn(0, &[deposit(1, 5)])?;
+    clerk.turn(1, &[deposit(1, 5)])?;
     Ok(clerk.into_device())
 }
 
@@ -203,15 +199,40 @@ enum Values {
 
 const FOUR: [u8; 4] = [0x00, 0x01, 0xa5, 0xff];
 
-// Puts each value at one place, and compares what recovery finds with what the plain program tells: the device, and how
-// many of the four values are refused. The device comes back as it was: of the four values all of it is looked at, of the
-// others the sector that was replaced.
-fn replace_byte(
+// Puts a value at one place, and compares what recovery finds with what the plain program tells: the device, and whether
+// it is refused. The device comes back as it was: with one of the four values all of it is looked at, with another the
+// sector that was replaced.
+fn replace_by(
     rt: &impl Abort,
     alloc: Global,
     mut device: MemoryDevice,
     image: &mut [Sector],
     (at, place): (usize, usize),
+    value: u8,
+) -> Result<(MemoryDevice, bool), Fail> {
+    assert!(rt; at < image.len() && place < SECTOR);
+    image[at][place] = value;
+    put(rt, &mut device, at, &image[at])?;
+    let (mut after, answer) = found(alloc, device);
+    assert!(rt;
+        answer == told(image),
+        "sector {at} byte {place} as {value}"
+    );
+    if FOUR.contains(&value) {
+        holds(rt, &mut after, image)?;
+    } else {
+        has_sector(rt, &mut after, at, &image[at])?;
+    }
+    Ok((after, answer.is_err()))
+}
+
+// Puts each value at one place: the device, and how many of the four values are refused.
+fn replace_byte(
+    rt: &impl Abort,
+    alloc: Global,
+    mut device: MemoryDevice,
+    image: &mut [Sector],
+    place: (usize, usize),
     values: Values,
 ) -> Result<(MemoryDevice, u32), Fail> {
     let mut refused = 0u32;
@@ -220,21 +241,9 @@ fn replace_byte(
         if !is_counted && values == Values::Four {
             continue;
         }
-        assert!(rt; at < image.len() && place < SECTOR);
-        image[at][place] = value;
-        put(rt, &mut device, at, &image[at])?;
-        let (mut after, answer) = found(alloc, device);
-        assert!(rt;
-            answer == told(image),
-            "sector {at} byte {place} as {value}"
-        );
-        if is_counted {
-            holds(rt, &mut after, image)?;
-        } else {
-            has_sector(rt, &mut after, at, &image[at])?;
-        }
-        refused = refused.saturating_add(u32::from(is_counted && answer.is_err()));
+        let (after, is_refused) = replace_by(rt, alloc, device, image, place, value)?;
         device = after;
+        refused = refused.saturating_add(u32::from(is_counted && is_refused));
     }
     Ok((device, refused))
 }
@@ -325,22 +334,32 @@ fn holding(amount: u64, next: u64) -> Plain {
     Plain { balances, next }
 }
 
+// Of the first sectors of an image both recovery and the plain program answer this.
+fn is_cut_to(
+    rt: &impl Abort,
+    alloc: Global,
+    image: &[Sector],
+    sectors: usize,
+    expected: Result<Plain, OpenRefusal>,
+) -> Result<(), Fail> {
+    let (_, answer) = found(alloc, cut(rt, alloc, image, sectors)?);
+    assert!(rt; answer == expected, "{sectors}");
+    let rest = image.get(..sectors).ok_or("sectors")?;
+    assert!(rt; told(rest) == expected, "{sectors}");
+    Ok(())
+}
+
 #[test]
 fn images_that_are_cut_short_are_refused(rt: HostRuntime) -> Result<(), Fail> {
-    let alloc = rt.alloc();
-    let mut device = after_one_deposit(&rt, alloc)?;
-    let image = image_of(&rt, alloc, &mut device)?;
+    let mut device = after_one_deposit(&rt, rt.alloc())?;
+    let image = image_of(&rt, rt.alloc(), &mut device)?;
     for sectors in 0..=SECTORS {
         let expected = match sectors {
             0 => Err(OpenRefusal::Unformatted),
             SECTORS => Ok(holding(500, 1)),
             _ => Err(OpenRefusal::Size),
         };
-        let device = cut(&rt, alloc, image.as_slice(), sectors)?;
-        let (_, answer) = found(alloc, device);
-        assert!(rt; answer == expected, "{sectors}");
-        let rest = image.as_slice().get(..sectors).ok_or("sectors")?;
-        assert!(rt; told(rest) == expected, "{sectors}");
+        is_cut_to(&rt, rt.alloc(), image.as_slice(), sectors, expected)?;
     }
     Ok(())
 }
@@ -352,43 +371,61 @@ enum Damage {
     Whole(usize, u8),
 }
 
-// The sector that is changed, and its bytes then.
-fn with_damage(rt: &impl Abort, image: &[Sector], damage: Damage) -> (usize, Sector) {
+// The image with this change.
+fn with_damage(
+    rt: &impl Abort,
+    alloc: Global,
+    image: &[Sector],
+    damage: Damage,
+) -> Result<Vec<Sector>, AllocError> {
+    let mut changed = image.to_vec(alloc)?;
     match damage {
         Damage::Byte(at, place, byte) => {
-            assert!(rt; at < image.len() && place < SECTOR);
-            let mut bytes = image[at];
-            bytes[place] = byte;
-            (at, bytes)
+            assert!(rt; at < changed.len() && place < SECTOR);
+            changed[at][place] = byte;
         }
-        Damage::Whole(at, byte) => (at, [byte; SECTOR]),
+        Damage::Whole(at, byte) => {
+            assert!(rt; at < changed.len());
+            changed[at] = [byte; SECTOR];
+        }
     }
+    Ok(changed)
 }
+
+// Of an image with this change both the plain program and recovery answer so, and the device comes back with it.
+fn is_told(
+    rt: &impl Abort,
+    alloc: Global,
+    image: &[Sector],
+    damage: Damage,
+    expected: Result<Plain, OpenRefusal>,
+) -> Result<(), Fail> {
+    let changed = with_damage(rt, alloc, image, damage)?;
+    assert!(rt; told(changed.as_slice()) == expected, "{damage:?}");
+    let device = cut(rt, alloc, changed.as_slice(), SECTORS)?;
+    let (mut device, answer) = found(alloc, device);
+    assert!(rt; answer == expected, "{damage:?}");
+    holds(rt, &mut device, changed.as_slice())
+}
+
+// What is changed, and which damage that is.
+const DAMAGES: [(Damage, u64, Cause); 5] = [
+    (Damage::Byte(GATE, 0, 0x00), 0, Cause::Bank),
+    (Damage::Byte(HEAD, 4, 0x01), 0, Cause::Bank),
+    (Damage::Whole(SNAPSHOT, 0xff), 0, Cause::Bank),
+    (Damage::Byte(BODY, 8, 0xff), 0, Cause::Sequence),
+    (Damage::Byte(SECOND_GATE, 0, 0xa5), 1, Cause::Bank),
+];
 
 #[test]
 fn worked_damage_is_told(rt: HostRuntime) -> Result<(), Fail> {
-    let alloc = rt.alloc();
-    let mut device = after_one_deposit(&rt, alloc)?;
-    let image = image_of(&rt, alloc, &mut device)?;
-    let damaged = |slot, cause| Err(OpenRefusal::Damaged { slot, cause });
-    let table = [
-        (Damage::Byte(GATE, 0, 0x00), damaged(0, Cause::Bank)),
-        (Damage::Byte(HEAD, 4, 0x01), damaged(0, Cause::Bank)),
-        (Damage::Whole(SNAPSHOT, 0xff), damaged(0, Cause::Bank)),
-        (Damage::Byte(BODY, 8, 0xff), damaged(0, Cause::Sequence)),
-        (Damage::Byte(SLOT_GATE, 0, 0x00), Ok(holding(0, 0))),
-        (Damage::Byte(SECOND_GATE, 0, 0xa5), damaged(1, Cause::Bank)),
-    ];
-    for (damage, expected) in table {
-        let (at, bytes) = with_damage(&rt, image.as_slice(), damage);
-        let mut changed = image.as_slice().to_vec(alloc)?;
-        assert!(rt; at < changed.len());
-        changed[at] = bytes;
-        assert!(rt; told(changed.as_slice()) == expected, "{damage:?}");
-        let device = cut(&rt, alloc, changed.as_slice(), SECTORS)?;
-        let (mut device, answer) = found(alloc, device);
-        assert!(rt; answer == expected, "{damage:?}");
-        holds(&rt, &mut device, changed.as_slice())?;
+    let mut device = after_one_deposit(&rt, rt.alloc())?;
+    let image = image_of(&rt, rt.alloc(), &mut device)?;
+    let closed = Damage::Byte(SLOT_GATE, 0, 0x00);
+    is_told(&rt, rt.alloc(), image.as_slice(), closed, Ok(holding(0, 0)))?;
+    for (damage, slot, cause) in DAMAGES {
+        let expected = Err(OpenRefusal::Damaged { slot, cause });
+        is_told(&rt, rt.alloc(), image.as_slice(), damage, expected)?;
     }
     Ok(())
 }

@@ -1,8 +1,6 @@
 //! The course through an office, with its two seats in the hands of one thread.
 
-use crate::course::{
-    AMOUNTS, CALLS, Course, Found, Met, deposit, formatted, found_by, two_stations,
-};
+use crate::course::{AMOUNTS, CALLS, Course, Met, found_by, opened, two_stations};
 use fault_injector::{OneFault, Op};
 use line_lock::{
     Clerk, Closing, Ledger, Office, OfficeRefusal, OfficeWork, OpenRefusal, Opening, Seat, Turn,
@@ -13,6 +11,7 @@ use std::alloc::{AllocError, Global};
 use std::process::Abort;
 use std::sync::Wait;
 use std::test::Fail;
+use test_scenes::{deposit, formatted};
 
 type Device = OneFault<MemoryDevice>;
 
@@ -21,6 +20,15 @@ type Device = OneFault<MemoryDevice>;
 struct Walked {
     course: Course,
     turns: Vec<Turn>,
+}
+
+// The seat is told of the fault.
+fn is_told<L: Ledger + Opening, R: Abort + Wait>(
+    rt: &R,
+    office: &Office<Device, L>,
+    seat: &mut Seat<L>,
+) {
+    assert!(rt; office.turn(rt, seat, &[]) == Err(TurnRefusal::Faulted));
 }
 
 // Takes the turns, each with the seat whose turn it is, up to the first fault, and then each seat is told of it.
@@ -39,7 +47,7 @@ fn take_turns<L: Ledger + Opening, R: Abort + Wait>(
         } else {
             &mut *top
         };
-        match office.turn(rt, seat, &[deposit(*amount)]) {
+        match office.turn(rt, seat, &[deposit(1, *amount)]) {
             Ok(turn) => turns.push(turn)?,
             Err(refusal) => {
                 assert!(rt; refusal == TurnRefusal::Device);
@@ -49,8 +57,8 @@ fn take_turns<L: Ledger + Opening, R: Abort + Wait>(
         }
     }
     if met == Met::InTurn {
-        assert!(rt; office.turn(rt, bottom, &[]) == Err(TurnRefusal::Faulted));
-        assert!(rt; office.turn(rt, top, &[]) == Err(TurnRefusal::Faulted));
+        is_told(rt, office, bottom);
+        is_told(rt, office, top);
     }
     let acknowledged = turns.len() as u64;
     let course = Course { acknowledged, met };
@@ -65,14 +73,6 @@ fn listed<L: Ledger>(rt: &impl Abort, turns: &[Turn], seat: &Seat<L>, first: usi
         place = place.saturating_add(1);
     }
     assert!(rt; seat.turns().len() == place);
-}
-
-// What the device, opened by a clerk, is found to hold.
-fn looked_at(rt: &impl Abort, alloc: Global, device: Device) -> Found {
-    match Clerk::open(alloc, device, two_stations(rt, false)) {
-        Ok(clerk) => found_by(&clerk),
-        Err((_, refusal)) => panic!(rt; "{refusal}"),
-    }
 }
 
 // The course through the two seats of an office.
@@ -125,34 +125,31 @@ fn walk<R: Abort + Wait>(
     }
 }
 
-// Where a course meets the fault. After a fault in the opening another office is opened on the device that came back.
+// Where a course meets the fault. After one in a turn a lawful state is found, and after one in the opening another office
+// is opened on the device that came back.
 fn meets_one_fault<R: Abort + Wait>(rt: &R, alloc: Global, device: Device) -> Met {
-    match walk(rt, alloc, device) {
+    let device = match walk(rt, alloc, device) {
         Ok((clerk, walked)) => {
             if walked.course.met == Met::InTurn {
-                assert!(rt;
-                    walked
-                        .course
-                        .allows(looked_at(rt, alloc, clerk.into_device()))
-                );
+                let clerk = opened(rt, alloc, clerk.into_device());
+                assert!(rt; walked.course.allows(found_by(&clerk)));
             }
-            walked.course.met
+            return walked.course.met;
         }
-        Err(device) => {
-            match walk(rt, alloc, device) {
-                Ok((_, walked)) => assert!(rt; walked.course.met == Met::Nothing),
-                Err(_) => panic!(rt; "the second opening failed too"),
-            }
-            Met::InOpening
-        }
+        Err(device) => device,
+    };
+    match walk(rt, alloc, device) {
+        Ok((_, walked)) => assert!(rt; walked.course.met == Met::Nothing),
+        Err(_) => panic!(rt; "the second opening failed too"),
     }
+    Met::InOpening
 }
 
 #[test]
 fn an_office_closes_after_one_fault(rt: HostRuntime) -> Result<(), Fail> {
     let alloc = rt.alloc();
     for at in 0..CALLS.saturating_add(1) {
-        let device = OneFault::new(formatted(&rt, alloc, 2)?, Op::Any, at);
+        let device = OneFault::new(formatted(alloc, 2)?, Op::Any, at);
         let met = meets_one_fault(&rt, alloc, device);
         assert!(rt; (met != Met::Nothing) == (at < CALLS), "{at}");
     }

@@ -2,9 +2,8 @@
 use crate::course::Found;
 use journal_recovery::recover;
 use sector_device::{Device, MemoryDevice, Picks, SECTOR, Sector};
-use std::alloc::Global;
+use std::alloc::{AllocError, Global};
 use std::process::Abort;
-use std::test::Fail;
 
 // What may be left in a pending sector, where what was written isn't.
 fn leavings() -> [Sector; 3] {
@@ -13,8 +12,11 @@ fn leavings() -> [Sector; 3] {
     [[0; SECTOR], open, [0x77; SECTOR]]
 }
 
-// The sectors that a power loss may change, at most four: the two lowest, and the two highest.
-pub fn at_stake(rt: &impl Abort, alloc: Global, device: &MemoryDevice) -> Result<Vec<u64>, Fail> {
+fn pending_in(
+    rt: &impl Abort,
+    alloc: Global,
+    device: &MemoryDevice,
+) -> Result<Vec<u64>, AllocError> {
     let mut pending = Vec::new(alloc);
     for at in 0..device.sectors() {
         assert!(rt; at < device.sectors());
@@ -22,6 +24,16 @@ pub fn at_stake(rt: &impl Abort, alloc: Global, device: &MemoryDevice) -> Result
             pending.push(at)?;
         }
     }
+    Ok(pending)
+}
+
+// The sectors that a power loss may change, at most four: the two lowest, and the two highest.
+pub fn at_stake(
+    rt: &impl Abort,
+    alloc: Global,
+    device: &MemoryDevice,
+) -> Result<Vec<u64>, AllocError> {
+    let pending = pending_in(rt, alloc, device)?;
     let mut stakes = Vec::new(alloc);
     let end = pending.len();
     for (place, at) in pending.iter().enumerate() {
@@ -42,7 +54,7 @@ pub fn outcomes_of(sectors: &[u64]) -> u32 {
 }
 
 // One outcome, by the digits of its number: for the digit 0 a sector keeps what was written.
-pub fn picks(alloc: Global, sectors: &[u64], number: u32) -> Result<Picks, Fail> {
+pub fn picks(alloc: Global, sectors: &[u64], number: u32) -> Result<Picks, AllocError> {
     let mut list = Vec::new(alloc);
     let mut digits = number;
     for at in sectors {

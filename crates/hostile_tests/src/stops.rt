@@ -1,12 +1,13 @@
 //! Courses on a device that stops at one of its calls, and then loses power.
-use crate::course::{CALLS, Course, Met, events, formatted, take_course, two_stations};
+use crate::course::{CALLS, Course, Met, events, take_course, two_stations};
 use crate::power::{at_stake, outcomes_of, picks, recovered};
 use fault_injector::{Fuse, Op};
 use sector_device::MemoryDevice;
 use std::alloc::Global;
 use std::process::Abort;
 use std::test::Fail;
-use turn_clerk::{Clerk, OpenRefusal, TurnRefusal};
+use test_scenes::formatted;
+use turn_clerk::{Clerk, OpenRefusal, Reply, TurnRefusal};
 
 // How a course is taken: one turn after another, or as one run.
 #[derive(Clone, Copy, Debug, PartialEq, Eq)]
@@ -19,24 +20,9 @@ enum By {
 // that is pending, or for the two lowest and the two highest.
 const OUTCOMES: u32 = 757;
 
-// The course as one run on a device that stops at this call.
-fn run_course(
-    rt: &impl Abort,
-    alloc: Global,
-    device: Fuse<MemoryDevice>,
-) -> Result<(Fuse<MemoryDevice>, Course), Fail> {
-    let mut clerk = match Clerk::open(alloc, device, two_stations(rt, false)) {
-        Ok(clerk) => clerk,
-        Err((device, refusal)) => {
-            assert!(rt; refusal == OpenRefusal::Device);
-            let (acknowledged, met) = (0, Met::InOpening);
-            return Ok((device, Course { acknowledged, met }));
-        }
-    };
-    let mut replies = Vec::new(alloc);
-    clerk.run(events(alloc)?.as_slice(), &mut replies)?;
-    let acknowledged = replies.iter().filter(|reply| reply.is_ok()).count();
-    assert!(rt; clerk.history().len() == acknowledged);
+// What a run met, by the replies behind those that were acknowledged: the first of them tells that the device failed, and
+// each other one that the clerk is faulted.
+fn met_in(rt: &impl Abort, replies: &[Reply], acknowledged: usize) -> Met {
     let mut met = Met::Nothing;
     for reply in replies.iter().skip(acknowledged) {
         let expected = if met == Met::Nothing {
@@ -47,8 +33,42 @@ fn run_course(
         assert!(rt; *reply == Err(expected));
         met = Met::InTurn;
     }
-    let acknowledged = acknowledged as u64;
-    Ok((clerk.into_device(), Course { acknowledged, met }))
+    met
+}
+
+// Runs the course's events.
+fn run_events(
+    rt: &impl Abort,
+    alloc: Global,
+    clerk: &mut Clerk<Fuse<MemoryDevice>>,
+) -> Result<Course, Fail> {
+    let mut replies = Vec::new(alloc);
+    clerk.run(events(alloc)?.as_slice(), &mut replies)?;
+    let acknowledged = replies.iter().filter(|reply| reply.is_ok()).count();
+    assert!(rt; clerk.history().len() == acknowledged);
+    Ok(Course {
+        acknowledged: acknowledged as u64,
+        met: met_in(rt, replies.as_slice(), acknowledged),
+    })
+}
+
+// The course as one run on a device that stops at this call.
+fn run_course(
+    rt: &impl Abort,
+    alloc: Global,
+    device: Fuse<MemoryDevice>,
+) -> Result<(Fuse<MemoryDevice>, Course), Fail> {
+    match Clerk::open(alloc, device, two_stations(rt, false)) {
+        Ok(mut clerk) => {
+            let course = run_events(rt, alloc, &mut clerk)?;
+            Ok((clerk.into_device(), course))
+        }
+        Err((device, refusal)) => {
+            assert!(rt; refusal == OpenRefusal::Device);
+            let (acknowledged, met) = (0, Met::InOpening);
+            Ok((device, Course { acknowledged, met }))
+        }
+    }
 }
 
 // A course on a device that stops at this call, and what was left of it in the memory device.
@@ -58,7 +78,7 @@ fn stopped(
     by: By,
     at: u64,
 ) -> Result<(MemoryDevice, Course), Fail> {
-    let device = Fuse::new(formatted(rt, alloc, 2)?, Op::Any, at);
+    let device = Fuse::new(formatted(alloc, 2)?, Op::Any, at);
     let (device, course) = match by {
         By::Turns => take_course(rt, alloc, device, 0),
         By::Run => run_course(rt, alloc, device)?,

@@ -1,5 +1,5 @@
 //! What is written, what is pending until a sync, and what a power loss takes.
-use crate::sectors::sector_of;
+use crate::sectors::{holds, sector_of};
 use sector_device::{Device, DeviceFault, MemoryDevice, Picks, SECTOR, Sector};
 use std::alloc::{AllocError, Global};
 use std::process::Abort;
@@ -11,29 +11,31 @@ const NEW: Sector = [8; SECTOR];
 
 const TORN: Sector = [9; SECTOR];
 
+const ZERO: Sector = [0; SECTOR];
+
 // What any device does, through the trait alone: a sector reads as it was last written, and its neighbour stays.
 fn keeps_what_was_written<D: Device>(rt: &impl Abort, device: &mut D) -> Result<(), DeviceFault> {
     assert!(rt; device.sectors() > 1);
-    let mut bytes = [0; SECTOR];
     device.write(0, &OLD)?;
     device.write(1, &NEW)?;
     device.sync()?;
-    device.read(0, &mut bytes)?;
-    assert!(rt; bytes == OLD);
-    device.read(1, &mut bytes)?;
-    assert!(rt; bytes == NEW);
-    Ok(())
+    holds(rt, device, &[(0, OLD), (1, NEW)])
 }
 
-// Sector 0 was written and synced, sectors 1 and 2 were written after that, and sector 3 never.
-fn partly_synced(rt: &impl Abort, alloc: Global) -> Result<MemoryDevice, Fail> {
-    let mut device = MemoryDevice::new(alloc, 4)?;
+// Sector 0 is written and synced, sectors 1 and 2 are written after that, and sector 3 never.
+fn write_and_sync(rt: &impl Abort, device: &mut MemoryDevice) -> Result<(), DeviceFault> {
     assert!(rt; device.sectors() == 4);
     device.write(0, &OLD)?;
     device.sync()?;
     device.write(1, &NEW)?;
     device.write(2, &OLD)?;
-    device.write(2, &NEW)?;
+    device.write(2, &NEW)
+}
+
+// A device of four sectors that was so written and synced.
+fn partly_synced(rt: &impl Abort, alloc: Global) -> Result<MemoryDevice, Fail> {
+    let mut device = MemoryDevice::new(alloc, 4)?;
+    write_and_sync(rt, &mut device)?;
     Ok(device)
 }
 
@@ -53,14 +55,13 @@ fn any_device_keeps_what_was_written(rt: HostRuntime) -> Result<(), Fail> {
 #[test]
 fn a_new_device_is_zero(rt: HostRuntime) -> Result<(), Fail> {
     let mut device = MemoryDevice::new(rt.alloc(), 1)?;
-    assert!(rt; sector_of(&rt, &mut device, 0)? == [0; SECTOR]);
+    assert!(rt; sector_of(&rt, &mut device, 0)? == ZERO);
     assert!(rt; MemoryDevice::new(rt.alloc(), 0)?.sectors() == 0);
     Ok(())
 }
 
-#[test]
-fn written_sectors_are_pending_until_a_sync(rt: HostRuntime) -> Result<(), Fail> {
-    let mut device = partly_synced(&rt, rt.alloc())?;
+// Which of the four sectors are pending.
+fn are_pending(rt: &impl Abort, device: &MemoryDevice, expected: [bool; 4]) {
     assert!(rt; device.sectors() == 4);
     let pending = [
         device.pending(0),
@@ -68,41 +69,58 @@ fn written_sectors_are_pending_until_a_sync(rt: HostRuntime) -> Result<(), Fail>
         device.pending(2),
         device.pending(3),
     ];
-    assert!(rt; pending == [false, true, true, false]);
+    assert!(rt; pending == expected);
+}
+
+#[test]
+fn written_sectors_are_pending_until_a_sync(rt: HostRuntime) -> Result<(), Fail> {
+    let mut device = partly_synced(&rt, rt.alloc())?;
+    are_pending(&rt, &device, [false, true, true, false]);
     device.sync()?;
-    assert!(rt; device.sectors() == 4);
-    assert!(rt; !device.pending(1));
+    are_pending(&rt, &device, [false, false, false, false]);
+    Ok(())
+}
+
+// Such a device after a power loss with these picks.
+fn after_a_loss(
+    rt: &impl Abort,
+    alloc: Global,
+    list: &[(u64, Sector)],
+) -> Result<MemoryDevice, Fail> {
+    let picks = picks_of(alloc, list)?;
+    Ok(partly_synced(rt, alloc)?.crash(&picks))
+}
+
+// Its four sectors read so then, and nothing is pending.
+fn is_left(rt: &impl Abort, device: &mut MemoryDevice, after: &[Sector]) -> Result<(), Fail> {
+    are_pending(rt, device, [false, false, false, false]);
+    for (at, bytes) in after.iter().enumerate() {
+        assert!(rt; sector_of(rt, device, at as u64)? == *bytes);
+    }
     Ok(())
 }
 
 // The picks, and then what sectors 0 to 3 read after the power loss.
 #[test]
 fn a_power_loss_takes_the_last_pick_for_each_pending_sector(rt: HostRuntime) -> Result<(), Fail> {
-    let zero = [0; SECTOR];
     let table: [(&[(u64, Sector)], [Sector; 4]); 5] = [
-        (&[], [OLD, NEW, NEW, zero]),
-        (&[(1, TORN)], [OLD, TORN, NEW, zero]),
-        (&[(2, TORN), (2, zero)], [OLD, NEW, zero, zero]),
-        (&[(2, zero), (1, OLD), (2, TORN)], [OLD, OLD, TORN, zero]),
-        (&[(0, TORN), (3, TORN), (4, TORN)], [OLD, NEW, NEW, zero]),
+        (&[], [OLD, NEW, NEW, ZERO]),
+        (&[(1, TORN)], [OLD, TORN, NEW, ZERO]),
+        (&[(2, TORN), (2, ZERO)], [OLD, NEW, ZERO, ZERO]),
+        (&[(2, ZERO), (1, OLD), (2, TORN)], [OLD, OLD, TORN, ZERO]),
+        (&[(0, TORN), (3, TORN), (4, TORN)], [OLD, NEW, NEW, ZERO]),
     ];
     for (list, after) in table {
-        let picks = picks_of(rt.alloc(), list)?;
-        let mut device = partly_synced(&rt, rt.alloc())?.crash(&picks);
-        for (at, bytes) in after.iter().enumerate() {
-            assert!(rt; sector_of(&rt, &mut device, at as u64)? == *bytes);
-            assert!(rt; (at as u64) < device.sectors());
-            assert!(rt; !device.pending(at as u64));
-        }
+        let mut device = after_a_loss(&rt, rt.alloc(), list)?;
+        is_left(&rt, &mut device, &after)?;
     }
     Ok(())
 }
 
 #[test]
 fn a_second_power_loss_takes_nothing(rt: HostRuntime) -> Result<(), Fail> {
-    let nothing = picks_of(rt.alloc(), &[])?;
     let torn = picks_of(rt.alloc(), &[(1, TORN)])?;
-    let mut device = partly_synced(&rt, rt.alloc())?.crash(&nothing).crash(&torn);
+    let mut device = after_a_loss(&rt, rt.alloc(), &[])?.crash(&torn);
     assert!(rt; sector_of(&rt, &mut device, 1)? == NEW);
     Ok(())
 }

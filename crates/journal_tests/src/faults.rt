@@ -1,6 +1,8 @@
 //! Devices that fail on demand.
+use crate::sectors::holds;
 use fault_injector::{Fuse, Held, HeldFlags, OneFault, Op};
 use sector_device::{Device, MemoryDevice, SECTOR};
+use std::alloc::Global;
 use std::process::Abort;
 use std::sync::Arc;
 use std::sync::atomic::Ordering;
@@ -38,11 +40,7 @@ fn a_fuse_fails_from_its_call_on(rt: HostRuntime) -> Result<(), Fail> {
 fn what_a_fuse_refused_never_reached_the_device(rt: HostRuntime) -> Result<(), Fail> {
     let mut device = Fuse::new(MemoryDevice::new(rt.alloc(), 1)?, Op::Write, 1);
     let _ = failures(&rt, &mut device);
-    let mut inner = device.into_inner();
-    let mut bytes = [0; SECTOR];
-    assert!(rt; inner.sectors() > 0);
-    inner.read(0, &mut bytes)?;
-    assert!(rt; bytes == [1; SECTOR]);
+    holds(&rt, &mut device.into_inner(), &[(0, [1; SECTOR])])?;
     Ok(())
 }
 
@@ -68,19 +66,20 @@ fn one_fault_fails_its_call_alone(rt: HostRuntime) -> Result<(), Fail> {
 fn a_write_that_failed_once_never_reached_the_device(rt: HostRuntime) -> Result<(), Fail> {
     let mut device = OneFault::new(MemoryDevice::new(rt.alloc(), 1)?, Op::Write, 1);
     let _ = failures(&rt, &mut device);
-    let mut inner = device.into_inner();
-    let mut bytes = [0; SECTOR];
-    assert!(rt; inner.sectors() > 0);
-    inner.read(0, &mut bytes)?;
-    assert!(rt; bytes == [1; SECTOR]);
+    holds(&rt, &mut device.into_inner(), &[(0, [1; SECTOR])])?;
     Ok(())
+}
+
+// A device whose sync of this number is held, and its flags.
+fn held(alloc: Global, at: u64) -> Result<(Held<MemoryDevice>, Arc<HeldFlags>), Fail> {
+    let flags = Arc::new(alloc, HeldFlags::new())?;
+    let device = Held::new(MemoryDevice::new(alloc, 1)?, at, Arc::try_clone(&flags)?);
+    Ok((device, flags))
 }
 
 #[test]
 fn a_held_sync_is_passed_on_with_leave(rt: HostRuntime) -> Result<(), Fail> {
-    let alloc = rt.alloc();
-    let flags = Arc::new(alloc, HeldFlags::new())?;
-    let mut device = Held::new(MemoryDevice::new(alloc, 1)?, 1, Arc::try_clone(&flags)?);
+    let (mut device, flags) = held(rt.alloc(), 1)?;
     flags.go.store(true, Ordering::SeqCst);
     assert!(rt; failures(&rt, &mut device) == [false; 4]);
     assert!(rt; !flags.begun.load(Ordering::SeqCst));
@@ -91,9 +90,7 @@ fn a_held_sync_is_passed_on_with_leave(rt: HostRuntime) -> Result<(), Fail> {
 
 #[test]
 fn a_held_sync_without_leave_fails_alone(rt: HostRuntime) -> Result<(), Fail> {
-    let alloc = rt.alloc();
-    let flags = Arc::new(alloc, HeldFlags::new())?;
-    let mut device = Held::new(MemoryDevice::new(alloc, 1)?, 0, Arc::try_clone(&flags)?);
+    let (mut device, flags) = held(rt.alloc(), 0)?;
     assert!(rt; failures(&rt, &mut device) == [false, false, false, true]);
     assert!(rt; flags.begun.load(Ordering::SeqCst));
     assert!(rt; failures(&rt, &mut device) == [false; 4]);

@@ -56,14 +56,38 @@ fn asked_without(alloc: Global, number: u64) -> Result<Vec<Call>, AllocError> {
     Ok(calls)
 }
 
+// What reached a device that is broken from this call on, behind a fuse for calls of a kind.
+fn behind_a_fuse(
+    rt: &impl Abort,
+    alloc: Global,
+    broken: u64,
+    op: Op,
+    at: u64,
+) -> Result<Behind, AllocError> {
+    let mut device = Fuse::new(behind(alloc, broken)?, op, at);
+    ask(rt, &mut device);
+    Ok(device.into_inner())
+}
+
+// The same behind one fault of a kind.
+fn behind_one_fault(
+    rt: &impl Abort,
+    alloc: Global,
+    broken: u64,
+    op: Op,
+    at: u64,
+) -> Result<Behind, AllocError> {
+    let mut device = OneFault::new(behind(alloc, broken)?, op, at);
+    ask(rt, &mut device);
+    Ok(device.into_inner())
+}
+
 #[test]
 fn a_fuse_hands_on_each_call_before_its_own(rt: HostRuntime) -> Result<(), Fail> {
     for broken in 0..=NEVER {
         for at in 0..=NEVER {
-            let mut device = Fuse::new(behind(rt.alloc(), broken)?, Op::Any, at);
-            ask(&rt, &mut device);
-            let calls = device.into_inner();
-            assert!(rt; calls.calls() == &ASKED[..at as usize], "{broken} {at}");
+            let inner = behind_a_fuse(&rt, rt.alloc(), broken, Op::Any, at)?;
+            assert!(rt; inner.calls() == &ASKED[..at as usize], "{broken} {at}");
         }
     }
     Ok(())
@@ -73,13 +97,9 @@ fn a_fuse_hands_on_each_call_before_its_own(rt: HostRuntime) -> Result<(), Fail>
 fn one_fault_hands_on_each_call_but_its_own(rt: HostRuntime) -> Result<(), Fail> {
     for broken in 0..=NEVER {
         for at in 0..=NEVER {
-            let mut device = OneFault::new(behind(rt.alloc(), broken)?, Op::Any, at);
-            ask(&rt, &mut device);
+            let inner = behind_one_fault(&rt, rt.alloc(), broken, Op::Any, at)?;
             let expected = asked_without(rt.alloc(), at)?;
-            assert!(rt;
-                device.into_inner().calls() == expected.as_slice(),
-                "{broken} {at}"
-            );
+            assert!(rt; inner.calls() == expected.as_slice(), "{broken} {at}");
         }
     }
     Ok(())
@@ -88,69 +108,77 @@ fn one_fault_hands_on_each_call_but_its_own(rt: HostRuntime) -> Result<(), Fail>
 #[test]
 fn a_wrapper_for_calls_of_one_kind_hands_on_all_before_them(rt: HostRuntime) -> Result<(), Fail> {
     for op in [Op::Any, Op::Read, Op::Write, Op::Sync] {
-        let mut fuse = Fuse::new(behind(rt.alloc(), NEVER)?, op, NEVER);
-        ask(&rt, &mut fuse);
-        assert!(rt; fuse.into_inner().calls() == ASKED.as_slice(), "{op:?}");
-        let mut one_fault = OneFault::new(behind(rt.alloc(), NEVER)?, op, NEVER);
-        ask(&rt, &mut one_fault);
-        assert!(rt;
-            one_fault.into_inner().calls() == ASKED.as_slice(),
-            "{op:?}"
-        );
+        let inner = behind_a_fuse(&rt, rt.alloc(), NEVER, op, NEVER)?;
+        assert!(rt; inner.calls() == ASKED.as_slice(), "{op:?}");
+        let inner = behind_one_fault(&rt, rt.alloc(), NEVER, op, NEVER)?;
+        assert!(rt; inner.calls() == ASKED.as_slice(), "{op:?}");
     }
+    Ok(())
+}
+
+// A held device hands on each call, and its flags tell whether the held one has begun: that of number 0 has.
+fn hands_on_while_held(rt: &impl Abort, alloc: Global, broken: u64, at: u64) -> Result<(), Fail> {
+    let flags = Arc::new(alloc, HeldFlags::new())?;
+    flags.go.store(true, Ordering::SeqCst);
+    let mut device = Held::new(behind(alloc, broken)?, at, Arc::try_clone(&flags)?);
+    ask(rt, &mut device);
+    let inner = device.into_inner();
+    assert!(rt; inner.calls() == ASKED.as_slice(), "{broken} {at}");
+    assert!(rt; flags.begun.load(Ordering::SeqCst) == (at == 0));
+    assert!(rt; flags.go.load(Ordering::SeqCst));
     Ok(())
 }
 
 // No sync is held, or the one that is has its leave before it.
 #[test]
 fn a_held_device_hands_on_each_call(rt: HostRuntime) -> Result<(), Fail> {
-    let alloc = rt.alloc();
     for broken in 0..=NEVER {
-        for at in [NEVER, 0] {
-            let flags = Arc::new(alloc, HeldFlags::new())?;
-            flags.go.store(true, Ordering::SeqCst);
-            let mut device = Held::new(behind(alloc, broken)?, at, Arc::try_clone(&flags)?);
-            ask(&rt, &mut device);
-            assert!(rt;
-                device.into_inner().calls() == ASKED.as_slice(),
-                "{broken} {at}"
-            );
-            assert!(rt; flags.begun.load(Ordering::SeqCst) == (at == 0));
-            assert!(rt; flags.go.load(Ordering::SeqCst));
-        }
+        hands_on_while_held(&rt, rt.alloc(), broken, NEVER)?;
+        hands_on_while_held(&rt, rt.alloc(), broken, 0)?;
     }
     Ok(())
+}
+
+// What reached a device that is broken from this call on, behind one that stops.
+fn behind_a_stop(rt: &impl Abort, alloc: Global, broken: u64) -> Result<Behind, AllocError> {
+    let mut device = FailStop::new(behind(alloc, broken)?);
+    ask(rt, &mut device);
+    Ok(device.into_inner())
 }
 
 // The last call that is handed on: a sync that fails stops it.
 #[test]
 fn a_device_that_stops_hands_on_each_call_before(rt: HostRuntime) -> Result<(), Fail> {
     for broken in 0..=NEVER {
-        let mut device = FailStop::new(behind(rt.alloc(), broken)?);
-        ask(&rt, &mut device);
+        let inner = behind_a_stop(&rt, rt.alloc(), broken)?;
         let expected = if broken <= 2 { 3 } else { ASKED.len() };
-        assert!(rt;
-            device.into_inner().calls() == &ASKED[..expected],
-            "{broken}"
-        );
+        assert!(rt; inner.calls() == &ASKED[..expected], "{broken}");
     }
+    Ok(())
+}
+
+// A noting device hands on each call, and notes those that it has room for.
+fn hands_on_and_notes(
+    rt: &impl Abort,
+    alloc: Global,
+    broken: u64,
+    room: usize,
+) -> Result<(), AllocError> {
+    let inner = behind(alloc, broken)?;
+    let mut device = Noting::new(alloc, inner, room)?;
+    ask(rt, &mut device);
+    let noted = ASKED.len().min(room);
+    assert!(rt; device.calls() == &ASKED[..noted], "{broken} {room}");
+    let inner = device.into_inner();
+    assert!(rt; inner.calls() == ASKED.as_slice(), "{broken} {room}");
     Ok(())
 }
 
 #[test]
 fn a_noting_device_hands_on_each_call(rt: HostRuntime) -> Result<(), Fail> {
-    let alloc = rt.alloc();
     for broken in 0..=NEVER {
         for room in [0, 2, ROOM] {
-            let inner = behind(alloc, broken)?;
-            let mut device = Noting::new(alloc, inner, room).map_err(AllocError::from)?;
-            ask(&rt, &mut device);
-            let noted = ASKED.len().min(room);
-            assert!(rt; device.calls() == &ASKED[..noted], "{broken} {room}");
-            assert!(rt;
-                device.into_inner().calls() == ASKED.as_slice(),
-                "{broken} {room}"
-            );
+            hands_on_and_notes(&rt, rt.alloc(), broken, room)?;
         }
     }
     Ok(())

@@ -1,10 +1,11 @@
 //! Devices, and what power losses leave of them.
-use gate_journal::format;
-use journal_recovery::{OpenRefusal, recover};
-use sector_device::{MemoryDevice, Picks, SECTOR, Sector};
+use journal_recovery::{OpenRefusal, Recovered, recover};
+use sector_device::{Device, MemoryDevice, Picks, SECTOR, Sector};
 use std::alloc::{AllocError, Global};
 use std::process::Abort;
 use std::test::Fail;
+use test_scenes::deposit;
+use turn_clerk::{Clerk, Entry, Line, TurnRefusal};
 
 pub const ZERO: Sector = [0; SECTOR];
 
@@ -17,25 +18,68 @@ pub fn torn_open() -> Sector {
     bytes
 }
 
-// An empty journal of 4 slots.
-pub fn formatted(alloc: Global) -> Result<MemoryDevice, Fail> {
-    let mut device = MemoryDevice::new(alloc, 23)?;
-    format(&mut device, 4)?;
-    Ok(device)
+pub fn opened<D: Device>(rt: &impl Abort, alloc: Global, device: D, line: Line) -> Clerk<D> {
+    match Clerk::open(alloc, device, line) {
+        Ok(clerk) => clerk,
+        Err((_, refusal)) => panic!(rt; "{refusal}"),
+    }
 }
 
-pub fn picks_of(alloc: Global, list: &[(u64, Sector)]) -> Result<Picks, AllocError> {
-    Ok(Picks {
-        list: list.to_vec(alloc)?,
-    })
+// A station deposits so much in account 1, by the batch of this number.
+pub fn posts<D: Device>(
+    rt: &impl Abort,
+    clerk: &mut Clerk<D>,
+    station: u8,
+    amount: u64,
+    number: u64,
+) -> Result<(), Fail> {
+    let turn = clerk.turn(station, &[deposit(1, amount)])?;
+    assert!(rt; turn.posted == Some(number));
+    Ok(())
+}
+
+// A station's turn with these entries is refused for this reason.
+pub fn refuses<D: Device>(
+    rt: &impl Abort,
+    clerk: &mut Clerk<D>,
+    station: u8,
+    entries: &[Entry],
+    reason: TurnRefusal,
+) {
+    assert!(rt; clerk.turn(station, entries).err() == Some(reason));
+}
+
+// What a power loss leaves of a device: of the pending sectors these have these bytes.
+pub fn crashed(
+    alloc: Global,
+    device: MemoryDevice,
+    left: &[(u64, Sector)],
+) -> Result<MemoryDevice, AllocError> {
+    let list = left.to_vec(alloc)?;
+    Ok(device.crash(&Picks { list }))
+}
+
+pub fn found_on<D: Device>(rt: &impl Abort, alloc: Global, device: D) -> Recovered<D> {
+    match recover(alloc, device) {
+        Ok(found) => found,
+        Err((_, refusal)) => panic!(rt; "{refusal}"),
+    }
 }
 
 // The balance of account 1 and the next sequence that a device recovers to.
 pub fn recovered(rt: &impl Abort, alloc: Global, device: MemoryDevice) -> (Option<u64>, u64) {
-    match recover(alloc, device) {
-        Ok(found) => (found.ledger.balance(1), found.journal.next()),
-        Err((_, refusal)) => panic!(rt; "{refusal}"),
-    }
+    let found = found_on(rt, alloc, device);
+    (found.ledger.balance(1), found.journal.next())
+}
+
+// The same after a power loss that leaves these bytes.
+pub fn recovered_with(
+    rt: &impl Abort,
+    alloc: Global,
+    device: MemoryDevice,
+    left: &[(u64, Sector)],
+) -> Result<(Option<u64>, u64), AllocError> {
+    Ok(recovered(rt, alloc, crashed(alloc, device, left)?))
 }
 
 // The device, and why it isn't opened.

@@ -1,39 +1,36 @@
 //! Calls beyond any number at which a body might have given up.
 ghost use Rattle.file_device.specs.RealFile.{unknown_sectors};
 
-use crate::devices::recovered;
-use gate_journal::format;
-use journal_recovery::recover;
+use crate::devices::{found_on, opened, recovered};
 use sector_device::{Device, DeviceFault, MemoryDevice, SECTOR, Sector};
 use std::alloc::Global;
 use std::process::Abort;
 use std::test::Fail;
-use turn_clerk::{Clerk, Entry, Line};
+use test_scenes::{deposit, formatted, line, transfer};
+use turn_clerk::Clerk;
 
-fn deposit(to: u32, amount: u64) -> Entry {
-    Entry::Deposit {
-        to,
-        amount,
-        reference: 3,
-    }
+// Two stations, the bottom one privileged, over this journal.
+fn two_stations(
+    rt: &impl Abort,
+    alloc: Global,
+    device: MemoryDevice,
+) -> Result<Clerk<MemoryDevice>, Fail> {
+    Ok(opened(rt, alloc, device, line([0, 0], [1, 0])?))
 }
 
-// Two stations, the bottom one privileged, over a new journal of so many slots.
-fn two_stations(rt: &impl Abort, alloc: Global, slots: u64) -> Result<Clerk<MemoryDevice>, Fail> {
-    assert!(rt; 0 < slots && slots < 1000);
-    let mut device = MemoryDevice::new(alloc, 7 + 4 * slots)?;
-    format(&mut device, slots)?;
-    let line = Line::from_bits(2, &[false; 2], &[true, false]).expect(rt, "a line");
-    match Clerk::open(alloc, device, line) {
-        Ok(clerk) => Ok(clerk),
-        Err((_, refusal)) => panic!(rt; "{refusal}"),
-    }
+// The sector is filled with this byte, and isn't pending.
+fn is_filled(rt: &impl Abort, device: &mut MemoryDevice, at: u64, byte: u8) -> Result<(), Fail> {
+    let mut found = [0; SECTOR];
+    assert!(rt; at < device.sectors());
+    device.read(at, &mut found)?;
+    assert!(rt; found == [byte; SECTOR]);
+    assert!(rt; !device.pending(at));
+    Ok(())
 }
 
 #[test]
 fn a_device_in_memory_takes_250_000_calls(rt: HostRuntime) -> Result<(), Fail> {
     let mut device = MemoryDevice::new(rt.alloc(), 3)?;
-    let mut found = [0; SECTOR];
     for number in 0..125_000u32 {
         assert!(rt; device.sectors() == 3);
         device.write(u64::from(number % 2), &[number.to_le_bytes()[0]; SECTOR])?;
@@ -41,23 +38,24 @@ fn a_device_in_memory_takes_250_000_calls(rt: HostRuntime) -> Result<(), Fail> {
     }
     assert!(rt; device.sectors() == 3);
     // 124,998 and 124,999 have the last bytes 70 and 71.
-    for (at, byte) in [(0, 70), (1, 71), (2, 0)] {
-        assert!(rt; at < device.sectors());
-        device.read(at, &mut found)?;
-        assert!(rt; found == [byte; SECTOR]);
-        assert!(rt; !device.pending(at));
-    }
+    is_filled(&rt, &mut device, 0, 70)?;
+    is_filled(&rt, &mut device, 1, 71)?;
+    is_filled(&rt, &mut device, 2, 0)
+}
+
+// Takes the turn of this number, with a deposit of as much. The first one deposits nothing, and is refused.
+fn take_turn(rt: &impl Abort, clerk: &mut Clerk<MemoryDevice>, number: u64) -> Result<(), Fail> {
+    let turn = clerk.turn((number % 2) as u8, &[deposit(1, number)])?;
+    assert!(rt; turn.index == number);
+    assert!(rt; turn.posted == number.checked_sub(1));
     Ok(())
 }
 
 #[test]
 fn a_clerk_takes_300_turns(rt: HostRuntime) -> Result<(), Fail> {
-    let mut clerk = two_stations(&rt, rt.alloc(), 300)?;
+    let mut clerk = two_stations(&rt, rt.alloc(), formatted(rt.alloc(), 300)?)?;
     for number in 0..300u64 {
-        let turn = clerk.turn((number % 2) as u8, &[deposit(1, number)])?;
-        assert!(rt; turn.index == number);
-        // The first one deposits nothing, and is refused.
-        assert!(rt; turn.posted == number.checked_sub(1));
+        take_turn(&rt, &mut clerk, number)?;
     }
     assert!(rt; (clerk.history().len(), clerk.moves().len()) == (300, 300));
     // 1 + 2 + .. + 299
@@ -66,26 +64,23 @@ fn a_clerk_takes_300_turns(rt: HostRuntime) -> Result<(), Fail> {
     Ok(())
 }
 
-#[test]
-fn a_turn_takes_15_accepted_entries(rt: HostRuntime) -> Result<(), Fail> {
-    let mut clerk = two_stations(&rt, rt.alloc(), 1)?;
+// Takes a turn with 14 deposits of 7, and a transfer of them all to account 64.
+fn take_15_entries(rt: &impl Abort, clerk: &mut Clerk<MemoryDevice>) -> Result<(), Fail> {
     let mut entries = [deposit(1, 7); 15];
-    entries[14] = Entry::Transfer {
-        from: 1,
-        to: 64,
-        amount: 98,
-        reference: 3,
-    };
+    entries[14] = transfer(1, 64, 98);
     let turn = clerk.turn(0, &entries)?;
     assert!(rt; (turn.entries.len(), turn.verdicts.accepted()) == (15, 15));
     assert!(rt; turn.posted == Some(0));
+    Ok(())
+}
+
+#[test]
+fn a_turn_takes_15_accepted_entries(rt: HostRuntime) -> Result<(), Fail> {
+    let mut clerk = two_stations(&rt, rt.alloc(), formatted(rt.alloc(), 1)?)?;
+    take_15_entries(&rt, &mut clerk)?;
     assert!(rt; clerk.ledger().balance(64) == Some(98));
-    match recover(rt.alloc(), clerk.into_device()) {
-        Ok(found) => assert!(rt;
-            (found.ledger.balance(1), found.ledger.balance(64)) == (Some(0), Some(98))
-        ),
-        Err((_, refusal)) => panic!(rt; "{refusal}"),
-    }
+    let ledger = found_on(&rt, rt.alloc(), clerk.into_device()).ledger;
+    assert!(rt; (ledger.balance(1), ledger.balance(64)) == (Some(0), Some(98)));
     Ok(())
 }
 
@@ -143,14 +138,8 @@ fn a_million_slots() -> Sparse {
 }
 
 #[test]
-fn a_device_of_8_000_000_sectors_is_recovered(rt: HostRuntime) -> Result<(), Fail> {
-    match recover(rt.alloc(), a_million_slots()) {
-        Ok(found) => {
-            assert!(rt; found.ledger.balance(1) == Some(500));
-            assert!(rt; found.journal.next() == 1);
-            assert!(rt; found.journal.room() == 999_999);
-        }
-        Err((_, refusal)) => panic!(rt; "{refusal}"),
-    }
-    Ok(())
+fn a_device_of_8_000_000_sectors_is_recovered(rt: HostRuntime) {
+    let found = found_on(&rt, rt.alloc(), a_million_slots());
+    assert!(rt; found.ledger.balance(1) == Some(500));
+    assert!(rt; (found.journal.next(), found.journal.room()) == (1, 999_999));
 }

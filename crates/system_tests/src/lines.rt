@@ -70,41 +70,55 @@ fn moved(plain: Plain, s: usize, rule: Rule) -> Plain {
     next
 }
 
-// Compares what a station of the line may do, and what its moves leave. How many privileges it has.
-fn compare_station(rt: &impl Abort, plain: Plain, line: Line, s: u8) -> usize {
-    let place = s as usize;
-    for rule in RULES {
-        let may = may_move(plain, place, rule);
-        assert!(rt; line.enabled(s, rule) == may, "{s} {rule:?} of {plain:?}");
-        if line.enabled(s, rule) {
-            let mut after = line;
-            after.make_move(s, rule);
-            assert!(rt; after == line_of(rt, moved(plain, place, rule)));
-        }
+// Compares whether a station of the line may make a move, and what that leaves.
+fn compare_move(rt: &impl Abort, plain: Plain, line: Line, s: u8, rule: Rule) {
+    let may = may_move(plain, s as usize, rule);
+    assert!(rt; line.enabled(s, rule) == may, "{s} {rule:?} of {plain:?}");
+    if line.enabled(s, rule) {
+        let mut after = line;
+        after.make_move(s, rule);
+        assert!(rt; after == line_of(rt, moved(plain, s as usize, rule)));
     }
+}
+
+// Compares the bits of a station of the line, and its privilege.
+fn compare_station(rt: &impl Abort, plain: Plain, line: Line, s: u8) {
+    let place = s as usize;
     assert!(rt; s < line.stations());
     assert!(rt; line.x(s) == bit(&plain.x, place));
     assert!(rt; line.up(s) == bit(&plain.up, place));
     let chosen = RULES.into_iter().find(|rule| may_move(plain, place, *rule));
     assert!(rt; line.privilege(s) == chosen);
+}
+
+// Compares a station of the line and all its moves. How many privileges it has.
+fn compare_moves(rt: &impl Abort, plain: Plain, line: Line, s: u8) -> usize {
+    for rule in RULES {
+        compare_move(rt, plain, line, s, rule);
+    }
+    compare_station(rt, plain, line, s);
     RULES
         .iter()
-        .filter(|rule| may_move(plain, place, **rule))
+        .filter(|rule| may_move(plain, s as usize, **rule))
         .count()
+}
+
+// The binary digits of both words are the bits.
+fn compare_words(rt: &impl Abort, plain: Plain, [x, up]: [u64; 2]) {
+    for s in 0..MOST_STATIONS {
+        assert!(rt; ((x >> s) % 2 == 1, (up >> s) % 2 == 1) == (plain.x[s], plain.up[s]));
+    }
 }
 
 fn compare(rt: &impl Abort, plain: Plain) {
     let line = line_of(rt, plain);
     let mut count = 0usize;
     for s in 0..line.stations() {
-        count = count.saturating_add(compare_station(rt, plain, line, s));
+        count = count.saturating_add(compare_moves(rt, plain, line, s));
     }
     assert!(rt; line.privileges() as usize == count, "{plain:?}");
     assert!(rt; line.is_legitimate() == (count == 1));
-    let [x, up] = *line.words();
-    for s in 0..MOST_STATIONS {
-        assert!(rt; ((x >> s) % 2 == 1, (up >> s) % 2 == 1) == (plain.x[s], plain.up[s]));
-    }
+    compare_words(rt, plain, *line.words());
 }
 
 #[test]

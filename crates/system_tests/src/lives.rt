@@ -1,31 +1,31 @@
 //! One device that is opened three times, with turns and a power loss in each of its lives.
-use crate::devices::{TORN, ZERO, picks_of, recovered, torn_open};
+use crate::devices::{TORN, ZERO, crashed, opened, posts, recovered, refuses, torn_open};
 use fault_injector::{Fuse, Op};
-use gate_journal::format;
 use sector_device::{MemoryDevice, Sector};
-use std::alloc::Global;
+use std::alloc::{AllocError, Global};
 use std::process::Abort;
 use std::test::Fail;
-use turn_clerk::{Clerk, Entry, Line, TurnRefusal};
+use test_scenes::{deposit, formatted, line};
+use turn_clerk::{Clerk, TurnRefusal};
 
 // A life: the bits that it starts from, and the two stations in the order of their turns, with what each deposits. No
 // batch deposits what others do together.
 struct Life {
-    bits: [bool; 2],
+    bits: [u8; 2],
     turns: [(u8, u64); 2],
 }
 
 const LIVES: [Life; 3] = [
     Life {
-        bits: [false, false],
+        bits: [0, 0],
         turns: [(0, 1), (1, 2)],
     },
     Life {
-        bits: [false, true],
+        bits: [0, 1],
         turns: [(1, 4), (0, 8)],
     },
     Life {
-        bits: [true, true],
+        bits: [1, 1],
         turns: [(0, 16), (1, 32)],
     },
 ];
@@ -58,14 +58,6 @@ impl Expected {
     }
 }
 
-fn deposit(amount: u64) -> Entry {
-    Entry::Deposit {
-        to: 1,
-        amount,
-        reference: 3,
-    }
-}
-
 // Loses power on a device whose journal has so many records, with these bytes left in the slot behind them.
 fn lose_power(
     rt: &impl Abort,
@@ -76,12 +68,27 @@ fn lose_power(
 ) -> Result<MemoryDevice, Fail> {
     assert!(rt; records < 6);
     let body = 4 + 2 * records;
-    let picks = picks_of(alloc, &[(body, left), (body + 1, left)])?;
-    Ok(device.crash(&picks))
+    Ok(crashed(alloc, device, &[(body, left), (body + 1, left)])?)
 }
 
-// One life: a turn that is acknowledged, one in which a call fails, and the power loss. The batch in flight is there
-// exactly where its gate was written and is left open.
+// The turns of a life, one that is acknowledged and one in which a call fails, of a clerk that finds what was before.
+fn take_turns(
+    rt: &impl Abort,
+    clerk: &mut Clerk<Fuse<MemoryDevice>>,
+    turns: [(u8, u64); 2],
+    before: Expected,
+) -> Result<(), Fail> {
+    assert!(rt; clerk.opening_balance(1) == Some(before.balance));
+    assert!(rt; clerk.opening_next() == before.batches);
+    let [(first, kept), (second, lost)] = turns;
+    posts(rt, clerk, first, kept, before.batches)?;
+    let reason = TurnRefusal::Device;
+    refuses(rt, clerk, second, &[deposit(1, lost)], reason);
+    Ok(())
+}
+
+// One life: its turns, and the power loss. The batch in flight is there exactly where its gate was written and is left
+// open.
 fn live(
     rt: &impl Abort,
     alloc: Global,
@@ -90,17 +97,11 @@ fn live(
     loss: &Loss,
     before: Expected,
 ) -> Result<(MemoryDevice, Expected), Fail> {
-    let line = Line::from_bits(2, &life.bits, &[true, false]).expect(rt, "a line");
     let (op, number) = loss.call;
-    let Ok(mut clerk) = Clerk::open(alloc, Fuse::new(device, op, number), line) else {
-        panic!(rt; "not opened")
-    };
-    assert!(rt; clerk.opening_balance(1) == Some(before.balance));
-    assert!(rt; clerk.opening_next() == before.batches);
-    let [(first, kept), (second, lost)] = life.turns;
-    let turn = clerk.turn(first, &[deposit(kept)])?;
-    assert!(rt; turn.posted == Some(before.batches));
-    assert!(rt; clerk.turn(second, &[deposit(lost)]) == Err(TurnRefusal::Device));
+    let fuse = Fuse::new(device, op, number);
+    let mut clerk = opened(rt, alloc, fuse, line(life.bits, [1, 0])?);
+    take_turns(rt, &mut clerk, life.turns, before)?;
+    let [(_, kept), (_, lost)] = life.turns;
     let acknowledged = before.and(kept);
     let device = clerk.into_device().into_inner();
     let device = lose_power(rt, alloc, device, acknowledged.batches, loss.left)?;
@@ -112,8 +113,7 @@ fn live(
 
 // All lives of one device, with these losses.
 fn live_three_times(rt: &impl Abort, alloc: Global, losses: [Loss; 3]) -> Result<(), Fail> {
-    let mut device = MemoryDevice::new(alloc, 31)?;
-    format(&mut device, 6)?;
+    let mut device = formatted(alloc, 6)?;
     let mut expected = Expected {
         balance: 0,
         batches: 0,
@@ -125,14 +125,20 @@ fn live_three_times(rt: &impl Abort, alloc: Global, losses: [Loss; 3]) -> Result
     Ok(())
 }
 
-#[test]
-fn each_life_finds_what_the_ones_before_acknowledged(rt: HostRuntime) -> Result<(), Fail> {
-    let mut losses = Vec::new(rt.alloc());
+// Each call that fails, with each of the choices that a power loss has.
+fn all_losses(alloc: Global) -> Result<Vec<Loss>, AllocError> {
+    let mut losses = Vec::new(alloc);
     for call in CALLS {
         for left in [ZERO, torn_open(), TORN] {
             losses.push(Loss { call, left })?;
         }
     }
+    Ok(losses)
+}
+
+#[test]
+fn each_life_finds_what_the_ones_before_acknowledged(rt: HostRuntime) -> Result<(), Fail> {
+    let losses = all_losses(rt.alloc())?;
     for first in &losses {
         for second in &losses {
             for third in &losses {

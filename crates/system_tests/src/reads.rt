@@ -3,10 +3,12 @@ ghost use Rattle.sector_device.specs.MemoryDevice.{memory_device_state};
 ghost use Rattle.sector_device.specs.MemoryLaws.{memory_sound};
 
 use crate::devices::{TORN, ZERO, torn_open};
-use gate_journal::{Journal, format};
+use gate_journal::Journal;
 use sector_device::{Device, DeviceFault, MemoryDevice, Sector};
+use std::alloc::Global;
 use std::process::Abort;
 use std::test::Fail;
+use test_scenes::{formatted, head};
 
 // A device that notes the sectors that are read.
 #[derive(Drop)]
@@ -38,33 +40,37 @@ impl Device for NotedReads {
     ghost sound = { λ n honest. memory_sound n.inner };
 }
 
-// The second bank's gate and head, from sector 8 on, on a device with two slots in each bank, and what opening reads.
+// What opening reads of a device with two slots in each bank, of which the second one, from sector 8 on, has this gate and
+// this head.
+fn reads_beside(
+    rt: &impl Abort,
+    alloc: Global,
+    gate: &Sector,
+    head: &Sector,
+) -> Result<Vec<u64>, Fail> {
+    let mut inner = formatted(alloc, 2)?;
+    assert!(rt; inner.sectors() == 15);
+    inner.write(8, gate)?;
+    inner.write(9, head)?;
+    let reads = Vec::new(alloc);
+    match Journal::open(NotedReads { inner, reads }) {
+        Ok(journal) => Ok(journal.into_device().reads),
+        Err((_, refusal)) => panic!(rt; "{refusal}"),
+    }
+}
+
 #[test]
 fn opening_reads_nothing_of_the_other_bank_but_its_gate_and_head(
     rt: HostRuntime,
 ) -> Result<(), Fail> {
-    let mut newer = ZERO;
-    newer[..4].copy_from_slice(&[0x54, 0x4c, 0x42, 0x4b]);
-    newer[15] = 1;
+    let newer = head(1, 0);
     let table: [(Sector, Sector, &[u64]); 3] = [
         (TORN, TORN, &[0, 1, 8, 2, 5, 7]),
         (ZERO, newer, &[0, 1, 8, 2, 5, 7]),
         (torn_open(), newer, &[0, 1, 8, 2, 9, 12, 14]),
     ];
     for (gate, head, expected) in table {
-        let mut inner = MemoryDevice::new(rt.alloc(), 15)?;
-        format(&mut inner, 2)?;
-        assert!(rt; inner.sectors() == 15);
-        inner.write(8, &gate)?;
-        inner.write(9, &head)?;
-        let device = NotedReads {
-            inner,
-            reads: Vec::new(rt.alloc()),
-        };
-        match Journal::open(device) {
-            Ok(journal) => assert!(rt; journal.into_device().reads.as_slice() == expected),
-            Err((_, refusal)) => panic!(&rt; "{refusal}"),
-        }
+        assert!(rt; reads_beside(&rt, rt.alloc(), &gate, &head)?.as_slice() == expected);
     }
     Ok(())
 }

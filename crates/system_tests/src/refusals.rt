@@ -24,33 +24,32 @@ fn read_as<T: Display>(rt: &impl Abort, alloc: Global, table: &[(T, &str)]) -> R
 #[test]
 fn refusals_of_a_journal_have_texts(rt: HostRuntime) -> Result<(), Fail> {
     use JournalRefusal::*;
-    let damaged = |cause| Damaged { slot: 3, cause };
-    read_as(
-        &rt,
-        rt.alloc(),
-        &[
-            (Unformatted, "the device is not formatted"),
-            (Version(9), "the device has version 9"),
-            (Size, "the number of slots is wrong for the device"),
-            (
-                damaged(JournalCause::Header),
-                "damage at 3: the slot's body is no record",
-            ),
-            (
-                damaged(JournalCause::Sequence),
-                "damage at 3: the slot's record has another sequence",
-            ),
-            (
-                damaged(JournalCause::Tail),
-                "damage at 3: the slot is open behind a closed one",
-            ),
-            (
-                damaged(JournalCause::Bank),
-                "damage at 3: no bank is live, or the one of this number isn't sound",
-            ),
-            (Device, "the device failed"),
-        ],
-    )
+    let table = [
+        (Unformatted, "the device is not formatted"),
+        (Version(9), "the device has version 9"),
+        (Size, "the number of slots is wrong for the device"),
+        (Device, "the device failed"),
+    ];
+    read_as(&rt, rt.alloc(), &table)
+}
+
+#[test]
+fn damages_of_a_journal_have_texts(rt: HostRuntime) -> Result<(), Fail> {
+    use JournalCause::*;
+    let table = [
+        (Header, "damage at 3: the slot's body is no record"),
+        (
+            Sequence,
+            "damage at 3: the slot's record has another sequence",
+        ),
+        (Tail, "damage at 3: the slot is open behind a closed one"),
+        (
+            Bank,
+            "damage at 3: no bank is live, or the one of this number isn't sound",
+        ),
+    ];
+    let told = table.map(|(cause, text)| (JournalRefusal::Damaged { slot: 3, cause }, text));
+    read_as(&rt, rt.alloc(), &told)
 }
 
 #[test]
@@ -114,42 +113,38 @@ fn refusals_of_formatting_appending_and_reading_have_texts(rt: HostRuntime) -> R
 #[test]
 fn refusals_of_recovery_have_texts(rt: HostRuntime) -> Result<(), Fail> {
     use OpenRefusal::*;
-    let damaged = |cause| Damaged { slot: 3, cause };
-    read_as(
-        &rt,
-        rt.alloc(),
-        &[
-            (Memory, "out of memory"),
-            (Unformatted, "the device is not formatted"),
-            (Version(9), "the device has version 9"),
-            (Size, "the number of slots is wrong for the device"),
-            (
-                damaged(Cause::Header),
-                "damage at 3: the slot's body is no record",
-            ),
-            (
-                damaged(Cause::Sequence),
-                "damage at 3: the slot's record has another sequence",
-            ),
-            (
-                damaged(Cause::Tail),
-                "damage at 3: the slot is open behind a closed one",
-            ),
-            (
-                damaged(Cause::Bank),
-                "damage at 3: no bank is live, or the one of this number isn't sound",
-            ),
-            (
-                damaged(Cause::Entry(14)),
-                "damage at 3: place 14 is no entry",
-            ),
-            (
-                damaged(Cause::Verdict(0)),
-                "damage at 3: the entry at place 0 breaks a rule of the ledger",
-            ),
-            (Device, "the device failed"),
-        ],
-    )
+    let table = [
+        (Memory, "out of memory"),
+        (Unformatted, "the device is not formatted"),
+        (Version(9), "the device has version 9"),
+        (Size, "the number of slots is wrong for the device"),
+        (Device, "the device failed"),
+    ];
+    read_as(&rt, rt.alloc(), &table)
+}
+
+#[test]
+fn damages_that_recovery_meets_have_texts(rt: HostRuntime) -> Result<(), Fail> {
+    use Cause::*;
+    let table = [
+        (Header, "damage at 3: the slot's body is no record"),
+        (
+            Sequence,
+            "damage at 3: the slot's record has another sequence",
+        ),
+        (Tail, "damage at 3: the slot is open behind a closed one"),
+        (
+            Bank,
+            "damage at 3: no bank is live, or the one of this number isn't sound",
+        ),
+        (Entry(14), "damage at 3: place 14 is no entry"),
+        (
+            Verdict(0),
+            "damage at 3: the entry at place 0 breaks a rule of the ledger",
+        ),
+    ];
+    let told = table.map(|(cause, text)| (OpenRefusal::Damaged { slot: 3, cause }, text));
+    read_as(&rt, rt.alloc(), &told)
 }
 
 #[test]

@@ -1,15 +1,14 @@
 //! What is shown to a programmer.
-use gate_journal::{Journal, Record, Snapshot, format};
+use gate_journal::{Journal, Record, Snapshot};
 use sector_device::{Device, MemoryDevice, SECTOR};
+use std::alloc::Global;
+use std::process::Abort;
 use std::test::Fail;
+use test_scenes::formatted;
 
 // Two records, a checkpoint, and one record more: the second bank counts from 2, and has one slot of six in use.
-#[test]
-fn a_journal_shows_each_of_its_numbers(rt: HostRuntime) -> Result<(), Fail> {
-    let alloc = rt.alloc();
-    let mut device = MemoryDevice::new(alloc, 31)?;
-    format(&mut device, 6)?;
-    let Ok(mut journal) = Journal::open(device) else {
+fn after_a_checkpoint(rt: &impl Abort, alloc: Global) -> Result<Journal<MemoryDevice>, Fail> {
+    let Ok(mut journal) = Journal::open(formatted(alloc, 6)?) else {
         panic!(rt; "a journal");
     };
     let record = Record::new(0, 1, [0; 480]).ok_or("a record")?;
@@ -17,11 +16,16 @@ fn a_journal_shows_each_of_its_numbers(rt: HostRuntime) -> Result<(), Fail> {
     journal.append(&record)?;
     journal.checkpoint(&Snapshot { balances: [0; 64] })?;
     journal.append(&record)?;
-    let shown = format!(in alloc; "{journal:?}")?;
-    assert!(rt;
-        shown.as_str()
-            == "Journal { live_bank: 1, base: 2, next: 3, room: 5, is_faulted: false, .. }"
-    );
+    Ok(journal)
+}
+
+const SHOWN: &str = "Journal { live_bank: 1, base: 2, next: 3, room: 5, is_faulted: false, .. }";
+
+#[test]
+fn a_journal_shows_each_of_its_numbers(rt: HostRuntime) -> Result<(), Fail> {
+    let journal = after_a_checkpoint(&rt, rt.alloc())?;
+    let shown = format!(in rt.alloc(); "{journal:?}")?;
+    assert!(rt; shown.as_str() == SHOWN);
     Ok(())
 }
 
