@@ -1,6 +1,7 @@
 //! The two sides of a desk.
-ghost use Rattle.station_desk.specs.Rings.{AreTogether};
+ghost use Rattle.station_desk.specs.Rings.{AreTogether, StandsAt};
 
+use sector_device::MemoryDevice;
 use station_desk::{
     Answer, Ask, Desk, Entry, EntryRefusal, Feed, Outcome, Reconciled, desk, reconcile,
 };
@@ -18,8 +19,19 @@ fn answer(ticket: u64, entry: Entry, outcome: Outcome) -> Answer {
     }
 }
 
-fn undecided(ticket: u64, amount: u64) -> Option<Answer> {
-    Some(answer(ticket, deposit(1, amount), Outcome::Undecided))
+// The feed takes a deposit of this amount, and gives it this ticket.
+fn takes(rt: &impl Abort, feed: &mut Feed, amount: u64, ticket: u64)
+    ensures { StandsAt feed.old feed.new }
+{
+    assert!(rt; feed.submit(deposit(1, amount)) == Ok(ticket));
+}
+
+// The feed is told of the deposit of this amount that it is undecided.
+fn is_undecided(rt: &impl Abort, feed: &mut Feed, ticket: u64, amount: u64)
+    ensures { StandsAt feed.old feed.new }
+{
+    let undecided = answer(ticket, deposit(1, amount), Outcome::Undecided);
+    assert!(rt; feed.answer() == Some(undecided));
 }
 
 fn reconciled(rt: &impl Abort, alloc: Global, feed: Feed, desk: Desk) -> Reconciled
@@ -31,25 +43,33 @@ fn reconciled(rt: &impl Abort, alloc: Global, feed: Feed, desk: Desk) -> Reconci
     }
 }
 
-#[test]
-fn full_rings_and_a_desk_that_gives_up(rt: HostRuntime) -> Result<(), Fail> {
-    let alloc = rt.alloc();
-    let (mut feed, mut desk) = desk(alloc, 2)?;
-    assert!(rt; feed.submit(deposit(1, 5)) == Ok(0));
-    assert!(rt; feed.submit(deposit(1, 6)) == Ok(1));
+// Each ring has two places: the feed's are full, and then the desk's, which holds as many requests as it can answer.
+fn fill_rings(rt: &impl Abort, feed: &mut Feed, desk: &mut Desk)
+    requires { AreTogether feed.old desk.old }
+    ensures { AreTogether feed.new desk.new }
+{
+    takes(rt, feed, 5, 0);
+    takes(rt, feed, 6, 1);
     assert!(rt; feed.submit(deposit(1, 7)) == Err(deposit(1, 7)));
     let both = [deposit(1, 5), deposit(1, 6)];
     assert!(rt; desk.gather() == both.as_slice());
-    assert!(rt; feed.submit(deposit(1, 7)) == Ok(2));
-    // There are two places for answers, and both are spoken for.
+    takes(rt, feed, 7, 2);
     assert!(rt; desk.gather() == both.as_slice());
-    let shown = format!(in alloc; "{feed:?} {desk:?}")?;
-    assert!(rt; shown.as_str() == "Feed { next: 3, .. } Desk { held: 2, .. }");
+}
+
+// The desk answers the two requests that it holds, and there is no further answer.
+fn give_up(rt: &impl Abort, feed: &mut Feed, desk: &mut Desk)
+    requires { AreTogether feed.old desk.old }
+    ensures { AreTogether feed.new desk.new }
+{
     desk.give_up();
-    assert!(rt; feed.answer() == undecided(0, 5));
-    assert!(rt; feed.answer() == undecided(1, 6));
+    is_undecided(rt, feed, 0, 5);
+    is_undecided(rt, feed, 1, 6);
     assert!(rt; feed.answer() == None);
-    let all = reconciled(&rt, alloc, feed, desk);
+}
+
+// Of three requests the last one has no answer.
+fn has_one_unanswered(rt: &impl Abort, all: &Reconciled) {
     let left = [Ask {
         ticket: 2,
         entry: deposit(1, 7),
@@ -57,24 +77,48 @@ fn full_rings_and_a_desk_that_gives_up(rt: HostRuntime) -> Result<(), Fail> {
     assert!(rt; (all.submitted, all.collected) == (3, 2));
     assert!(rt; all.answers.as_slice() == [].as_slice());
     assert!(rt; all.unanswered.as_slice() == left.as_slice());
+}
+
+#[test]
+fn full_rings_and_a_desk_that_gives_up(rt: HostRuntime) -> Result<(), Fail> {
+    let (mut feed, mut desk) = desk(rt.alloc(), 2)?;
+    fill_rings(&rt, &mut feed, &mut desk);
+    let shown = format!(in rt.alloc(); "{feed:?} {desk:?}")?;
+    assert!(rt; shown.as_str() == "Feed { next: 3, .. } Desk { held: 2, .. }");
+    give_up(&rt, &mut feed, &mut desk);
+    has_one_unanswered(&rt, &reconciled(&rt, rt.alloc(), feed, desk));
     Ok(())
 }
 
-// Of three requests that were answered one answer is collected, so of two more the desk can hold one.
-#[test]
-fn what_is_left_is_reconciled_in_order(rt: HostRuntime) -> Result<(), Fail> {
-    let alloc = rt.alloc();
-    let (mut feed, mut desk) = desk(alloc, 3)?;
-    assert!(rt; feed.submit(deposit(1, 10)) == Ok(0));
-    assert!(rt; feed.submit(deposit(1, 11)) == Ok(1));
-    assert!(rt; feed.submit(deposit(1, 12)) == Ok(2));
+// Three requests are answered, and one of the answers is collected.
+fn answer_three(rt: &impl Abort, feed: &mut Feed, desk: &mut Desk)
+    requires { AreTogether feed.old desk.old }
+    ensures { AreTogether feed.new desk.new }
+{
+    takes(rt, feed, 10, 0);
+    takes(rt, feed, 11, 1);
+    takes(rt, feed, 12, 2);
     assert!(rt; desk.gather().len() == 3);
     desk.give_up();
-    assert!(rt; feed.answer() == undecided(0, 10));
-    assert!(rt; feed.submit(deposit(1, 13)) == Ok(3));
-    assert!(rt; feed.submit(deposit(1, 14)) == Ok(4));
+    is_undecided(rt, feed, 0, 10);
+}
+
+// Of two more the desk can hold one.
+fn submit_two(rt: &impl Abort, feed: &mut Feed, desk: &mut Desk)
+    requires { AreTogether feed.old desk.old }
+    ensures { AreTogether feed.new desk.new }
+{
+    takes(rt, feed, 13, 3);
+    takes(rt, feed, 14, 4);
     assert!(rt; desk.gather() == [deposit(1, 13)].as_slice());
-    let all = reconciled(&rt, alloc, feed, desk);
+}
+
+#[test]
+fn what_is_left_is_reconciled_in_order(rt: HostRuntime) -> Result<(), Fail> {
+    let (mut feed, mut desk) = desk(rt.alloc(), 3)?;
+    answer_three(&rt, &mut feed, &mut desk);
+    submit_two(&rt, &mut feed, &mut desk);
+    let all = reconciled(&rt, rt.alloc(), feed, desk);
     assert!(rt; (all.submitted, all.collected) == (5, 1));
     let answers = all.answers.iter().map(|answer| answer.ticket);
     assert!(rt; answers.eq([1, 2]));
@@ -83,26 +127,34 @@ fn what_is_left_is_reconciled_in_order(rt: HostRuntime) -> Result<(), Fail> {
     Ok(())
 }
 
+fn two_stations(rt: &impl Abort, alloc: Global) -> Result<Clerk<MemoryDevice>, Fail> {
+    match Clerk::open(alloc, formatted(alloc, 4)?, line([0, 0], [1, 0])?) {
+        Ok(clerk) => Ok(clerk),
+        Err((_, refusal)) => panic!(rt; "{refusal}"),
+    }
+}
+
+// The withdrawal was too much, and the deposits before and behind it were posted.
+fn tells_of_three(rt: &impl Abort, feed: &mut Feed) {
+    let posted = Outcome::Posted(0);
+    let refused = Outcome::Refused(EntryRefusal::Short);
+    assert!(rt; feed.answer() == Some(answer(0, deposit(1, 100), posted)));
+    assert!(rt; feed.answer() == Some(answer(1, withdrawal(1, 500), refused)));
+    assert!(rt; feed.answer() == Some(answer(2, deposit(1, 20), posted)));
+    assert!(rt; feed.answer() == None);
+}
+
 #[test]
 fn a_turn_answers_what_was_gathered(rt: HostRuntime) -> Result<(), Fail> {
-    let alloc = rt.alloc();
-    let line = line([0, 0], [1, 0])?;
-    let Ok(mut clerk) = Clerk::open(alloc, formatted(alloc, 4)?, line) else {
-        panic!(rt; "a clerk");
-    };
-    let withdrawal = withdrawal(1, 500);
-    let (mut feed, mut desk) = desk(alloc, 4)?;
-    for entry in [deposit(1, 100), withdrawal, deposit(1, 20)] {
+    let mut clerk = two_stations(&rt, rt.alloc())?;
+    let (mut feed, mut desk) = desk(rt.alloc(), 4)?;
+    for entry in [deposit(1, 100), withdrawal(1, 500), deposit(1, 20)] {
         let _ = feed.submit(entry);
     }
     let turn = clerk.turn(0, desk.gather())?;
     desk.settle(&turn);
     assert!(rt; desk.gather() == [].as_slice());
-    let refused = Outcome::Refused(EntryRefusal::Short);
-    assert!(rt; feed.answer() == Some(answer(0, deposit(1, 100), Outcome::Posted(0))));
-    assert!(rt; feed.answer() == Some(answer(1, withdrawal, refused)));
-    assert!(rt; feed.answer() == Some(answer(2, deposit(1, 20), Outcome::Posted(0))));
-    assert!(rt; feed.answer() == None);
+    tells_of_three(&rt, &mut feed);
     Ok(())
 }
 

@@ -2,6 +2,8 @@
 ghost use Rattle.std.specs.Prelude.{◌+◌, ◌≤◌, IsErr};
 
 use crate::device_file::DeviceFile;
+use crate::opening::open_sectors;
+use crate::{FileRefusal, SECTOR, SectorFile};
 use std::alloc::{Allocator, Global};
 use std::cell::Cell;
 use std::fs::{Files, Metadata, OpenFile, OpenOptions};
@@ -53,8 +55,9 @@ pub struct Disk<'a> {
 /// What a disk does of what it is asked.
 #[derive(Clone, Copy)]
 pub struct Limits {
-    /// The number of the call that fails, counted from 0.
+    /// The number of the call that fails, counted from 0, and why.
     pub fails: usize,
+    pub reason: ErrorKind,
     /// How many bytes a read or a write moves at most.
     pub bytes_a_call: usize,
     /// The number that an opened file has.
@@ -64,6 +67,7 @@ pub struct Limits {
 /// A disk that fails nowhere.
 pub const WHOLE: Limits = Limits {
     fails: usize::MAX,
+    reason: ErrorKind::TimedOut,
     bytes_a_call: usize::MAX,
     number: 3,
 };
@@ -80,6 +84,11 @@ impl<'a> Disk<'a> {
             asked: Cell::new(Vec::new(alloc)),
             limits: Cell::new(limits),
         }
+    }
+
+    /// Opens a file with five sectors, which grows by pieces of two.
+    pub fn open_five(&'a self, path: &str) -> Result<SectorFile<Opened<'a>>, FileRefusal> {
+        open_sectors(&OnDisk { disk: self }, path, 5, &[[0; SECTOR]; 2])
     }
 
     /// The disk with a file of these bytes.
@@ -122,8 +131,9 @@ impl<'a> Disk<'a> {
         let outcome = asked.push(call);
         self.asked.set(asked);
         outcome?;
-        if number == self.limits.get().fails {
-            return Err(io::Error::from(ErrorKind::TimedOut));
+        let limits = self.limits.get();
+        if number == limits.fails {
+            return Err(io::Error::from(limits.reason));
         }
         Ok(())
     }

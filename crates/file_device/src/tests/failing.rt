@@ -1,7 +1,7 @@
 // What the system refuses.
 ghost use Rattle.file_device.specs.RealFile.{unknown_sectors};
 
-use super::{make_folder, read_at, sector_of, write_at};
+use super::{expect_sector, make_folder, read_at, sector_of, write_at};
 use crate::device::device_over;
 use crate::{
     Device, DeviceFault, FailStop, FileDevice, ReadAhead, ReadBuffer, ReadRun, SECTOR, Sector,
@@ -10,12 +10,20 @@ use crate::{
 use std::alloc::AllocError;
 use std::fs;
 use std::fs::File;
+use std::process::Abort;
 use std::test::Fail;
 
 // Two sectors of whatever file this is.
 fn two_sectors(rt: &HostRuntime, file: File) -> Result<FileDevice, AllocError> {
     let buffer = ReadBuffer::new(rt.alloc())?;
     Ok(device_over(SectorFile::new(file, 2), buffer))
+}
+
+// The file ends before sector 10.
+fn ends_at_ten<D: Device>(rt: &impl Abort, device: &mut D) -> Result<(), DeviceFault> {
+    expect_sector(rt, device, 9, &sector_of(9))?;
+    assert!(rt; read_at(rt, device, 10).is_err());
+    Ok(())
 }
 
 #[test]
@@ -25,10 +33,16 @@ fn a_sector_behind_the_end_spoils_no_other(rt: HostRuntime) -> Result<(), Fail> 
     let mut device = FileDevice::open(&rt, rt.alloc(), path, 20)?;
     write_at(&rt, &mut device, 9, &sector_of(9))?;
     File::options().write(true).open(&rt, path)?.set_len(5120)?;
-    assert!(rt; read_at(&rt, &mut device, 9)? == sector_of(9));
-    assert!(rt; read_at(&rt, &mut device, 10).is_err());
+    ends_at_ten(&rt, &mut device)?;
     fs::remove_dir_all(&rt, "file_device_shortened")?;
     Ok(())
+}
+
+// Its second sector holds threes, which can't be written over.
+fn keeps_its_threes<D: Device>(rt: &impl Abort, device: &mut D) -> Result<(), DeviceFault> {
+    expect_sector(rt, device, 1, &[3; SECTOR])?;
+    assert!(rt; write_at(rt, device, 1, &[4; SECTOR]).is_err());
+    expect_sector(rt, device, 1, &[3; SECTOR])
 }
 
 #[test]
@@ -37,27 +51,34 @@ fn a_file_that_may_not_be_written_tells_it(rt: HostRuntime) -> Result<(), Fail> 
     let path = "file_device_unwritable/sectors";
     fs::write(&rt, path, [3; 2 * SECTOR].as_slice())?;
     let mut device = two_sectors(&rt, File::open(&rt, path)?)?;
-    assert!(rt; read_at(&rt, &mut device, 1)? == [3; SECTOR]);
-    assert!(rt; write_at(&rt, &mut device, 1, &[4; SECTOR]).is_err());
-    assert!(rt; read_at(&rt, &mut device, 1)? == [3; SECTOR]);
+    keeps_its_threes(&rt, &mut device)?;
     fs::remove_dir_all(&rt, "file_device_unwritable")?;
+    Ok(())
+}
+
+// A device of two sectors, each of this byte, is read and written; then its sync fails, and so does every later call.
+fn stops_at_its_sync<D: Device>(
+    rt: &impl Abort,
+    device: &mut D,
+    byte: u8,
+) -> Result<(), DeviceFault> {
+    expect_sector(rt, device, 1, &[byte; SECTOR])?;
+    write_at(rt, device, 1, &sector_of(1))?;
+    assert!(rt; device.sync().is_err());
+    for at in 0..2 {
+        assert!(rt; read_at(rt, device, at).is_err());
+        assert!(rt; write_at(rt, device, at, &sector_of(0)).is_err());
+    }
+    assert!(rt; device.sync().is_err());
     Ok(())
 }
 
 // The system can't sync a file that isn't on a disk.
 #[test]
 fn after_a_failed_sync_every_call_fails(rt: HostRuntime) -> Result<(), Fail> {
-    let file = File::options()
-        .read(true)
-        .write(true)
-        .open(&rt, "/dev/zero")?;
-    let mut device = two_sectors(&rt, file)?;
-    assert!(rt; read_at(&rt, &mut device, 1)? == [0; SECTOR]);
-    write_at(&rt, &mut device, 1, &sector_of(1))?;
-    assert!(rt; device.sync().is_err());
-    assert!(rt; read_at(&rt, &mut device, 0).is_err());
-    assert!(rt; write_at(&rt, &mut device, 0, &sector_of(0)).is_err());
-    assert!(rt; device.sync().is_err());
+    let mut options = File::options();
+    let file = options.read(true).write(true).open(&rt, "/dev/zero")?;
+    stops_at_its_sync(&rt, &mut two_sectors(&rt, file)?, 0)?;
     Ok(())
 }
 
@@ -107,9 +128,9 @@ fn after_a_failed_sync_the_buffer_is_read_anew(rt: HostRuntime) -> Result<(), Fa
         failures: 0,
     };
     let mut ahead = ReadAhead::new(forgetful, ReadBuffer::new(rt.alloc())?);
-    assert!(rt; read_at(&rt, &mut ahead, 0)? == [1; SECTOR]);
+    expect_sector(&rt, &mut ahead, 0, &[1; SECTOR])?;
     assert!(rt; ahead.sync().is_err());
-    assert!(rt; read_at(&rt, &mut ahead, 0)? == [2; SECTOR]);
+    expect_sector(&rt, &mut ahead, 0, &[2; SECTOR])?;
     Ok(())
 }
 
@@ -119,12 +140,7 @@ fn a_device_that_stopped_hands_nothing_on(rt: HostRuntime) -> Result<(), Fail> {
         byte: 1,
         failures: 0,
     });
-    assert!(rt; read_at(&rt, &mut device, 1)? == [1; SECTOR]);
-    write_at(&rt, &mut device, 1, &[4; SECTOR])?;
-    assert!(rt; device.sync().is_err());
-    assert!(rt; read_at(&rt, &mut device, 1).is_err());
-    assert!(rt; write_at(&rt, &mut device, 1, &[4; SECTOR]).is_err());
-    assert!(rt; device.sync().is_err());
+    stops_at_its_sync(&rt, &mut device, 1)?;
     assert!(rt; device.sectors() == 2);
     Ok(())
 }

@@ -1,9 +1,9 @@
 // What an opening asks of a disk, step by step, and what it does where a step fails.
 use super::disk::{Asked, Disk, Limits, OnDisk, WHOLE};
 use crate::device::open_device;
-use crate::opening::open_sectors;
-use crate::{Device, FileRefusal, SECTOR};
+use crate::{Device, FileRefusal};
 use std::alloc::Global;
+use std::io::ErrorKind;
 use std::process::Abort;
 use std::test::Fail;
 
@@ -90,8 +90,7 @@ const REFUSED: Result<u64, FileRefusal> = Err(FileRefusal::File);
 
 // Opens five sectors at this path, and gives how many there are.
 fn opened(disk: &Disk, path: &str) -> Result<u64, FileRefusal> {
-    let file = open_sectors(&OnDisk { disk }, path, 5, &[[0; SECTOR]; 2])?;
-    Ok(file.sectors())
+    Ok(disk.open_five(path)?.sectors())
 }
 
 fn failing_at(fails: usize) -> Limits {
@@ -121,8 +120,8 @@ fn expect_bytes(rt: &impl Abort, disk: &Disk, after: Option<(usize, usize)>) {
 // The disk was asked for these steps, and then for this one, if any.
 fn expect_steps(rt: &impl Abort, disk: &Disk, steps: &[Asked], last: Option<Asked>) {
     let asked = disk.take_asked();
-    let expected = steps.iter().copied().chain(last);
-    assert!(rt; asked.iter().copied().eq(expected), "{asked:?}");
+    let behind = asked.as_slice().strip_prefix(steps);
+    assert!(rt; behind == Some(last.as_slice()));
 }
 
 // Makes the disk and opens its file.
@@ -189,6 +188,29 @@ fn where_a_step_fails_an_old_file_keeps_its_bytes(rt: HostRuntime) -> Result<(),
         comes_to_pass(&rt, rt.alloc(), &opening)?;
     }
     Ok(())
+}
+
+// A file that is there is opened, and its folder isn't synced; no new file is made.
+#[test]
+fn a_folder_that_may_not_be_read_keeps_no_old_file_closed(rt: HostRuntime) -> Result<(), Fail> {
+    let limits = Limits {
+        reason: ErrorKind::PermissionDenied,
+        ..failing_at(1)
+    };
+    let of_an_old_file = Opening {
+        limits,
+        steps: &OLD[..7],
+        ..OF_AN_OLD_FILE
+    };
+    comes_to_pass(&rt, rt.alloc(), &of_an_old_file)?;
+    let of_a_new_file = Opening {
+        limits,
+        outcome: REFUSED,
+        steps: &NEW[..2],
+        after: None,
+        ..OF_A_NEW_FILE
+    };
+    comes_to_pass(&rt, rt.alloc(), &of_a_new_file)
 }
 
 // A kilobyte takes eleven writes of a hundred bytes, and the last sector six. So with the three lengths the growth has

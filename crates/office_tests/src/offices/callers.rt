@@ -3,7 +3,7 @@ ghost use Rattle.std.specs.Prelude.{◌<◌, length};
 ghost use Rattle.sector_device.specs.MemoryDevice.{memory_device_state};
 ghost use Rattle.line_lock.specs.Opening.{Names};
 
-use line_lock::{Blank, Closing, Ledger, Line, Office, Opening, Seat, TurnRefusal};
+use line_lock::{Blank, Closing, Ledger, Line, Office, Opening, Seat, Turn, TurnRefusal};
 use sector_device::{Device, MemoryDevice};
 use std::alloc::Global;
 use std::marker::Brand;
@@ -56,6 +56,14 @@ fn take_all_turns<D: Device + Send, L: Ledger + Opening + Send + Sync, R: Wait +
     );
 }
 
+// The two stations have taken their turns one after the other.
+fn took_turns(rt: &impl Abort, history: &[Turn]) {
+    assert!(rt; history.len() == 2 * TURNS);
+    for (index, turn) in history.iter().enumerate() {
+        assert!(rt; turn.station as usize == index % 2);
+    }
+}
+
 fn two_callers_in<L: Ledger + Opening + Send + Sync, R: Abort + Wait + Threads + Sync>(
     rt: &R,
     alloc: Global,
@@ -72,10 +80,7 @@ fn two_callers_in<L: Ledger + Opening + Send + Sync, R: Abort + Wait + Threads +
     take_all_turns(rt, &office, seats.as_mut_slice());
     match office.close(seats) {
         Ok(Closing { clerk, audit }) => {
-            assert!(rt; clerk.history().len() == 2 * TURNS);
-            for (index, turn) in clerk.history().iter().enumerate() {
-                assert!(rt; turn.station as usize == index % 2);
-            }
+            took_turns(rt, clerk.history());
             assert!(rt; audit.first_legitimate == Some(0));
             Ok(())
         }

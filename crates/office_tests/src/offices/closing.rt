@@ -5,7 +5,7 @@ ghost use Rattle.line_lock.specs.Opening.{Names};
 
 use line_lock::{
     Blank, Clerk, CloseRefusal, Closing, Ledger, Line, Office, OfficeWork, Opening, Seat,
-    with_office,
+    TurnRefusal, with_office,
 };
 use sector_device::MemoryDevice;
 use std::alloc::{AllocError, Global};
@@ -74,6 +74,18 @@ fn closed<L: Ledger + Opening>(
     }
 }
 
+// Turns 0 and 1 of an office.
+fn one_turn_each<L: Ledger + Opening, R: Abort + Wait>(
+    rt: &R,
+    office: &Office<MemoryDevice, L>,
+    bottom: &mut Seat<L>,
+    top: &mut Seat<L>,
+) -> Result<(), TurnRefusal> {
+    assert!(rt; office.turn(rt, bottom, &[deposit(1, 7)])?.index == 0);
+    assert!(rt; office.turn(rt, top, &[])?.index == 1);
+    Ok(())
+}
+
 struct OneSeatIsMissing;
 
 impl Scene for OneSeatIsMissing {
@@ -84,13 +96,11 @@ impl Scene for OneSeatIsMissing {
     ) -> Result<(), Fail> {
         let mut top = seats.pop().ok_or("the seat of station 1")?;
         let (office, mut seats) = refused(rt, office, seats, CloseRefusal::SeatMissing);
-        assert!(rt; seats.len() == 1);
-
+        let [bottom] = seats.as_mut_slice() else {
+            panic!(rt; "the seat of station 0");
+        };
         // the office goes on after a refusal
-        let mut bottom = seats.pop().ok_or("the seat of station 0")?;
-        assert!(rt; office.turn(rt, &mut bottom, &[deposit(1, 7)])?.index == 0);
-        assert!(rt; office.turn(rt, &mut top, &[])?.index == 1);
-        seats.push(bottom)?;
+        one_turn_each(rt, &office, bottom, &mut top)?;
         seats.push(top)?;
         let Closing { clerk, audit } = closed(rt, office, seats);
         assert!(rt; (clerk.history().len(), clerk.next()) == (2, 1));
@@ -134,6 +144,13 @@ fn with_one_deposit(rt: &impl Abort, alloc: Global) -> Result<MemoryDevice, Fail
     }
 }
 
+// A clerk of an office that opened with 500 on account 1, and in which nobody took a turn.
+fn is_as_it_opened(rt: &impl Abort, clerk: &Clerk<MemoryDevice>, opening: Line) {
+    assert!(rt; clerk.history().len() == 0);
+    assert!(rt; clerk.opening() == opening);
+    assert!(rt; (clerk.opening_balance(1), clerk.opening_next()) == (Some(500), 1));
+}
+
 #[test]
 fn close_keeps_opening(rt: HostRuntime) -> Result<(), Fail> {
     let alloc = rt.alloc();
@@ -141,10 +158,8 @@ fn close_keeps_opening(rt: HostRuntime) -> Result<(), Fail> {
     let opening = line([1, 1, 0], [1, 1, 0])?;
     match with_office(alloc, device, opening, NobodyTakesATurn) {
         Ok((Closing { clerk, audit }, _)) => {
-            assert!(rt; clerk.history().len() == 0);
-            assert!(rt; clerk.opening() == opening);
-            assert!(rt; (clerk.opening_balance(1), clerk.opening_next()) == (Some(500), 1));
-            assert!(rt; audit.last == clerk.opening());
+            is_as_it_opened(&rt, &clerk, opening);
+            assert!(rt; audit.last == opening);
             Ok(())
         }
         Err((_, refusal)) => panic!(rt; "{refusal}"),

@@ -1,8 +1,8 @@
 //! An office that is lent to a piece of work.
 
 use line_lock::{
-    Clerk, CloseRefusal, Ledger, Office, OfficeRefusal, OfficeWork, OpenRefusal, Opening, Seat,
-    TurnRefusal, with_office,
+    Clerk, CloseRefusal, Closing, Ledger, Line, Office, OfficeRefusal, OfficeWork, OpenRefusal,
+    Opening, Seat, TurnRefusal, with_office,
 };
 use sector_device::MemoryDevice;
 use std::alloc::Global;
@@ -51,6 +51,13 @@ impl<'a, R: Wait> OfficeWork<MemoryDevice> for OneTurn<'a, R> {
     }
 }
 
+type Lent = Result<(Closing<MemoryDevice>, u64), (MemoryDevice, OfficeRefusal<TurnRefusal>)>;
+
+// Lends an office of this line, on this device.
+fn lent<R: Wait>(rt: &R, alloc: Global, device: MemoryDevice, line: Line, ends: Ends) -> Lent {
+    with_office(alloc, device, line, OneTurn { rt, ends })
+}
+
 // The device has the turn's batch, as a clerk finds it.
 fn holds_the_turn(rt: &impl Abort, alloc: Global, device: MemoryDevice) -> Result<(), Fail> {
     match Clerk::open(alloc, device, line([0, 0], [1, 0])?) {
@@ -63,57 +70,55 @@ fn holds_the_turn(rt: &impl Abort, alloc: Global, device: MemoryDevice) -> Resul
 #[test]
 fn an_office_is_lent_and_closed(rt: HostRuntime) -> Result<(), Fail> {
     let alloc = rt.alloc();
-    let work = OneTurn {
-        rt: &rt,
-        ends: Ends::Well,
-    };
-    match with_office(alloc, formatted(alloc, 4)?, line([0, 0], [1, 0])?, work) {
-        Ok((closing, index)) => {
-            assert!(rt; (closing.clerk.history().len(), index) == (1, 0));
-            assert!(rt; closing.audit.first_legitimate == Some(0));
-            holds_the_turn(&rt, alloc, closing.clerk.into_device())?;
+    let line = line([0, 0], [1, 0])?;
+    match lent(&rt, alloc, formatted(alloc, 4)?, line, Ends::Well) {
+        Ok((Closing { clerk, audit }, index)) => {
+            assert!(rt; (clerk.history().len(), index) == (1, 0));
+            assert!(rt; audit.first_legitimate == Some(0));
+            holds_the_turn(&rt, alloc, clerk.into_device())
         }
         Err((_, refusal)) => panic!(rt; "{refusal}"),
     }
-    Ok(())
+}
+
+// The office is refused for what became of its work, whose turn stays on the device.
+fn hands_the_device_back<R: Abort + Wait>(
+    rt: &R,
+    alloc: Global,
+    ends: Ends,
+    expected: OfficeRefusal<TurnRefusal>,
+) -> Result<(), Fail> {
+    let line = line([0, 0], [1, 0])?;
+    match lent(rt, alloc, formatted(alloc, 4)?, line, ends) {
+        Ok(_) => panic!(rt; "closed"),
+        Err((device, refusal)) => {
+            assert!(rt; refusal == expected);
+            holds_the_turn(rt, alloc, device)
+        }
+    }
 }
 
 #[test]
-fn a_work_that_ends_otherwise_hands_the_device_back(rt: HostRuntime) -> Result<(), Fail> {
-    let alloc = rt.alloc();
-    let refusals = [
-        (Ends::ByGivingUp, OfficeRefusal::Work(TurnRefusal::TooMany)),
-        (
-            Ends::WithASeatTooFew,
-            OfficeRefusal::Closing(CloseRefusal::SeatMissing),
-        ),
-    ];
-    for (ends, expected) in refusals {
-        let work = OneTurn { rt: &rt, ends };
-        match with_office(alloc, formatted(alloc, 4)?, line([0, 0], [1, 0])?, work) {
-            Ok(_) => panic!(rt; "closed"),
-            Err((device, refusal)) => {
-                assert!(rt; refusal == expected);
-                holds_the_turn(&rt, alloc, device)?;
-            }
-        }
-    }
-    Ok(())
+fn a_work_that_gives_up_hands_the_device_back(rt: HostRuntime) -> Result<(), Fail> {
+    let expected = OfficeRefusal::Work(TurnRefusal::TooMany);
+    hands_the_device_back(&rt, rt.alloc(), Ends::ByGivingUp, expected)
+}
+
+#[test]
+fn a_work_that_loses_a_seat_hands_the_device_back(rt: HostRuntime) -> Result<(), Fail> {
+    let expected = OfficeRefusal::Closing(CloseRefusal::SeatMissing);
+    hands_the_device_back(&rt, rt.alloc(), Ends::WithASeatTooFew, expected)
 }
 
 #[test]
 fn a_device_without_a_journal_is_not_lent(rt: HostRuntime) -> Result<(), Fail> {
-    let alloc = rt.alloc();
-    let work = OneTurn {
-        rt: &rt,
-        ends: Ends::Well,
-    };
-    let device = MemoryDevice::new(alloc, 23)?;
-    match with_office(alloc, device, line([0, 0], [1, 0])?, work) {
+    let device = MemoryDevice::new(rt.alloc(), 23)?;
+    let line = line([0, 0], [1, 0])?;
+    match lent(&rt, rt.alloc(), device, line, Ends::Well) {
         Ok(_) => panic!(rt; "opened"),
         Err((_, refusal)) => {
             assert!(rt; refusal == OfficeRefusal::Opening(OpenRefusal::Unformatted));
+            Ok(())
         }
     }
-    Ok(())
 }

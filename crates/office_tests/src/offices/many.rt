@@ -31,22 +31,30 @@ impl<'a, R: Abort + Wait> OfficeWork<MemoryDevice> for SeventyThousandTurnsEach<
         mut seats: Vec<Seat<L>>,
     ) -> Result<(Vec<Seat<L>>, ()), TurnRefusal> {
         let SeventyThousandTurnsEach { rt } = self;
-        let mut top = seats.pop().expect(rt, "the seat of station 1");
-        let mut bottom = seats.pop().expect(rt, "the seat of station 0");
+        let alloc = *seats.allocator();
+        let [bottom, top] = seats.as_mut_slice() else {
+            panic!(rt; "two seats");
+        };
         for _ in 0..TURNS {
-            office.turn(rt, &mut bottom, &[])?;
-            office.turn(rt, &mut top, &[])?;
+            office.turn(rt, bottom, &[])?;
+            office.turn(rt, top, &[])?;
         }
-        // the bottom station has the privilege, and five turns are long taken
-        let denied = Err(WithinRefusal::Turn(TurnRefusal::NotPrivileged));
-        assert!(rt; office.turn_within(rt, &mut top, &[], 3 * TURNS) == denied);
-        assert!(rt; office.turn_within(rt, &mut top, &[], 5) == Err(WithinRefusal::Reached));
-        let shown = format!(in *seats.allocator(); "{bottom:?} {top:?}").expect(rt, "memory");
+        has_no_more_turns(rt, office, top);
+        let shown = format!(in alloc; "{bottom:?} {top:?}").expect(rt, "memory");
         assert!(rt; shown.as_str() == SHOWN);
-        seats.push(bottom).expect(rt, "memory");
-        seats.push(top).expect(rt, "memory");
         Ok((seats, ()))
     }
+}
+
+// The bottom station has the privilege, and five turns are long taken.
+fn has_no_more_turns<L: Ledger + Opening, R: Abort + Wait>(
+    rt: &R,
+    office: &Office<MemoryDevice, L>,
+    top: &mut Seat<L>,
+) {
+    let denied = Err(WithinRefusal::Turn(TurnRefusal::NotPrivileged));
+    assert!(rt; office.turn_within(rt, top, &[], 3 * TURNS) == denied);
+    assert!(rt; office.turn_within(rt, top, &[], 5) == Err(WithinRefusal::Reached));
 }
 
 #[test]

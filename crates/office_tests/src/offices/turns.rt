@@ -1,8 +1,8 @@
 //! What a seat is answered.
 
 use line_lock::{
-    Closing, Ledger, Office, OfficeWork, Opening, Rule, Seat, Turn, TurnRefusal, WithinRefusal,
-    with_office,
+    Clerk, Closing, Ledger, Office, OfficeWork, Opening, Rule, Seat, Turn, TurnRefusal,
+    WithinRefusal, with_office,
 };
 use sector_device::MemoryDevice;
 use std::process::Abort;
@@ -27,25 +27,36 @@ impl<'a, R: Abort + Wait> OfficeWork<MemoryDevice> for OneTurnAfterTheOther<'a, 
         mut seats: Vec<Seat<L>>,
     ) -> Result<(Vec<Seat<L>>, (Turn, Turn)), WithinRefusal> {
         let OneTurnAfterTheOther { rt } = self;
-        let mut top = seats.pop().expect(rt, "the seat of station 1");
-        let mut bottom = seats.pop().expect(rt, "the seat of station 0");
+        let alloc = *seats.allocator();
+        let [bottom, top] = seats.as_mut_slice() else {
+            panic!(rt; "two seats");
+        };
         assert!(rt; (bottom.station(), top.station()) == (0, 1));
         assert!(rt; (bottom.turns().len(), bottom.denied()) == (0, None));
-        let first = bottom_turn(rt, office, &mut bottom, &mut top)?;
-        let second = top_turn(rt, office, &mut top)?;
+        let first = bottom_turn(rt, office, bottom, top)?;
+        let second = top_turn(rt, office, top)?;
         assert!(rt; bottom.reached() == 0);
         assert!(rt; bottom.turns() == [first].as_slice() && top.turns() == [second].as_slice());
-        let shown = format!(in *seats.allocator(); "{office:?} {top:?}").expect(rt, "memory");
-        assert!(rt;
-            shown.as_str()
-                == "Office { .. } Seat { station: 1, turns: 1, denied: Some(2), reached: 1, .. }"
-        );
+        let shown = format!(in alloc; "{office:?} {top:?}").expect(rt, "memory");
+        assert!(rt; shown.as_str() == SHOWN);
 
         // in whatever order the seats are handed in
-        seats.push(top).expect(rt, "memory");
-        seats.push(bottom).expect(rt, "memory");
+        seats.as_mut_slice().reverse();
         Ok((seats, (first, second)))
     }
+}
+
+const SHOWN: &str = "Office { .. } Seat { station: 1, turns: 1, denied: Some(2), reached: 1, .. }";
+
+// The seat is denied a turn, which would have had this index.
+fn is_denied<L: Ledger + Opening, R: Abort + Wait>(
+    rt: &R,
+    office: &Office<MemoryDevice, L>,
+    seat: &mut Seat<L>,
+    index: u64,
+) {
+    assert!(rt; office.turn(rt, seat, &[]) == Err(TurnRefusal::NotPrivileged));
+    assert!(rt; seat.denied() == Some(index));
 }
 
 // The first turn is the bottom station's, which is denied a second one; before it the top station is denied.
@@ -55,13 +66,10 @@ fn bottom_turn<L: Ledger + Opening, R: Abort + Wait>(
     bottom: &mut Seat<L>,
     top: &mut Seat<L>,
 ) -> Result<Turn, WithinRefusal> {
-    let denied = Err(TurnRefusal::NotPrivileged);
-    assert!(rt; office.turn(rt, top, &[]) == denied);
-    assert!(rt; top.denied() == Some(0));
+    is_denied(rt, office, top, 0);
     let first = office.turn(rt, bottom, &[deposit(1, 5)])?;
     assert!(rt; (first.index, first.rule, first.posted) == (0, Rule::Bottom, Some(0)));
-    assert!(rt; office.turn(rt, bottom, &[]) == denied);
-    assert!(rt; bottom.denied() == Some(1));
+    is_denied(rt, office, bottom, 1);
     Ok(first)
 }
 
@@ -75,10 +83,24 @@ fn top_turn<L: Ledger + Opening, R: Abort + Wait>(
     assert!(rt; (stopped, top.reached()) == (Err(WithinRefusal::Reached), 1));
     let second = office.turn_within(rt, top, &[], 2)?;
     assert!(rt; (second.index, second.rule, second.posted) == (1, Rule::Top, None));
+    is_denied_within_three(rt, office, top);
+    Ok(second)
+}
+
+fn is_denied_within_three<L: Ledger + Opening, R: Abort + Wait>(
+    rt: &R,
+    office: &Office<MemoryDevice, L>,
+    top: &mut Seat<L>,
+) {
     let denied = office.turn_within(rt, top, &[], 3);
     assert!(rt; denied == Err(WithinRefusal::Turn(TurnRefusal::NotPrivileged)));
     assert!(rt; (top.denied(), top.reached()) == (Some(2), 1));
-    Ok(second)
+}
+
+// The clerk lists two turns, of which the first posted a deposit of 5.
+fn lists(rt: &impl Abort, clerk: &Clerk<MemoryDevice>, turns: &[Turn]) {
+    assert!(rt; clerk.history() == turns);
+    assert!(rt; clerk.ledger().balance(1) == Some(5));
 }
 
 #[test]
@@ -87,8 +109,7 @@ fn turns_are_listed_and_refusals_noted(rt: HostRuntime) -> Result<(), Fail> {
     let work = OneTurnAfterTheOther { rt: &rt };
     match with_office(alloc, formatted(alloc, 4)?, line([0, 0], [1, 0])?, work) {
         Ok((Closing { clerk, audit }, (first, second))) => {
-            assert!(rt; clerk.history() == [first, second].as_slice());
-            assert!(rt; clerk.ledger().balance(1) == Some(5));
+            lists(&rt, &clerk, &[first, second]);
             assert!(rt; audit.last == line([1, 1], [1, 0])?);
             assert!(rt; audit.first_legitimate == Some(0));
             Ok(())
