@@ -1,15 +1,15 @@
 //! Days of station threads, from scripts. Each test holds whatever thread runs when.
 use crate::scripts::{prints, told};
 use crate::streams::whole;
-use console_engine::{Device, LineFault, MemoryDevice, PowerLoss, ScriptFault, run_script};
+use console_engine::{Device, LineFault, PowerLoss, ScriptFault, run_script};
 use fault_injector::{OneFault, Op};
-use gate_journal::format;
 use sector_device::{DeviceFault, Sector};
 use std::alloc::Global;
 use std::process::Abort;
 use std::sync::Wait;
 use std::test::Fail;
 use std::thread::Threads;
+use test_scenes::formatted;
 
 // A device from which a power loss takes nothing.
 #[derive(Drop)]
@@ -52,15 +52,16 @@ fn a_day_of_three_stations(rt: HostRuntime) -> Result<(), Fail> {
 }
 
 #[test]
-fn a_day_needs_an_office_and_some_turns(rt: HostRuntime) -> Result<(), Fail> {
-    prints(&rt, rt.alloc(), "day 3\n", "refused NoOffice\n")?;
+fn a_day_needs_an_office(rt: HostRuntime) -> Result<(), Fail> {
+    prints(&rt, rt.alloc(), "day 3\n", "refused NoOffice\n")
+}
+
+#[test]
+fn a_day_needs_1_to_100000_turns(rt: HostRuntime) -> Result<(), Fail> {
     for script in ["day 0", "day 100001"] {
         let (output, end) = told(&rt, rt.alloc(), script)?;
-        let cause = LineFault::BadNumber;
-        assert!(rt;
-            end == Err(ScriptFault::Line { line: 1, cause }),
-            "{script}"
-        );
+        let (line, cause) = (1, LineFault::BadNumber);
+        assert!(rt; end == Err(ScriptFault::Line { line, cause }), "{script}");
         assert!(rt; output.len() == 0);
     }
     Ok(())
@@ -92,23 +93,27 @@ fn a_day_on_banks_of_one_slot(rt: HostRuntime) -> Result<(), Fail> {
 #[test]
 fn a_day_takes_what_one_turn_refuses(rt: HostRuntime) -> Result<(), Fail> {
     let alloc = rt.alloc();
-    let mut script = String::new(alloc);
-    script.push_str("format 4\nopen 2 00 10\n")?;
-    for _ in 0..16 {
-        script.push_str("post 0 deposit 1 1\n")?;
-    }
+    let mut script = sixteen_posted(alloc)?;
     script.push_str("turn 0\nday 3\npost 0 deposit 1 1\nbalances\n")?;
     let (output, end) = told(&rt, alloc, script.as_str())?;
     assert!(rt; end == Ok(()));
-    let output = output.as_slice();
     for part in [
         "held 0 16\nrefused TooMany\nturn 0 station 0 Bottom posted 0\nentry 0 ok\n",
         "entry 14 ok\nturn 1 station 1 Top empty\nturn 2 station 0 Bottom posted 1\nentry 0 ok\nday 3 ",
         "answer 0 14 posted 0\nanswer 0 15 posted 1\nheld 0 1\naccount 1 16\ntotal 16\n",
     ] {
-        assert!(rt; has(output, part), "{part}");
+        assert!(rt; has(output.as_slice(), part), "{part}");
     }
     Ok(())
+}
+
+// A script that opens an office of two stations, of which the bottom one holds sixteen deposits.
+pub fn sixteen_posted(alloc: Global) -> Result<String, Fail> {
+    let mut script = String::from_str(alloc, "format 4\nopen 2 00 10\n")?;
+    for _ in 0..16 {
+        script.push_str("post 0 deposit 1 1\n")?;
+    }
+    Ok(script)
 }
 
 pub fn has(output: &[u8], part: &str) -> bool {
@@ -122,30 +127,36 @@ fn told_with_a_fault<R: Threads + Wait + Sync>(
     sync: u64,
     script: &str,
 ) -> Result<Vec<u8>, Fail> {
-    let mut device = MemoryDevice::new(alloc, 64)?;
-    format(&mut device, 4)?;
     let mut output = Vec::new(alloc);
     let mut reader = script.as_bytes();
-    let inner = OneFault::new(device, Op::Sync, sync);
+    let inner = OneFault::new(formatted(alloc, 4)?, Op::Sync, sync);
     let device = Steady { inner };
     run_script(rt, alloc, &mut reader, &mut output, device)?;
     Ok(output)
 }
 
+const FAULTY_DAY: &str =
+    "open 3 000 100\npost 0 deposit 1 5\npost 1 deposit 2 6\nday 8\npost 0 deposit 1 1\npost 1 deposit 2 7\nday 1\nturn 0\nbalances\n";
+
 // Station 0 meets the fault, and its answer is undecided; what the others held stays held.
 #[test]
 fn a_day_on_a_device_that_fails(rt: HostRuntime) -> Result<(), Fail> {
-    let script =
-        "open 3 000 100\npost 0 deposit 1 5\npost 1 deposit 2 6\nday 8\npost 0 deposit 1 1\npost 1 deposit 2 7\nday 1\nturn 0\nbalances\n";
-    let alloc = rt.alloc();
-    let output = told_with_a_fault(&rt, alloc, 2, script)?;
-    let output = output.as_slice();
+    let output = told_with_a_fault(&rt, rt.alloc(), 2, FAULTY_DAY)?;
     for part in [
         "held 1 1\nday 0 legitimate at 0\nstation 0 Device\nstation 1 ",
         "\nanswer 0 0 undecided\nheld 0 1\nheld 1 2\nrefused Faulted\nrefused Faulted\ntotal 0\n",
     ] {
-        assert!(rt; has(output, part), "{part}");
+        assert!(rt; has(output.as_slice(), part), "{part}");
     }
+    Ok(())
+}
+
+// A station that was told of the fault, or found it.
+#[test]
+fn the_others_end_with_the_one_that_fails(rt: HostRuntime) -> Result<(), Fail> {
+    let alloc = rt.alloc();
+    let output = told_with_a_fault(&rt, alloc, 2, FAULTY_DAY)?;
+    let output = output.as_slice();
     for station in 1..3 {
         let stopped = format!(in alloc; "station {station} Stopped\n")?;
         let faulted = format!(in alloc; "station {station} Faulted\n")?;
@@ -198,28 +209,44 @@ fn bits_from(alloc: Global, stations: u64, number: u64) -> Result<String, Fail> 
     Ok(bits)
 }
 
+// A day of as many turns as are enough for so many stations, from these bits.
+fn settles<R: Abort + Threads + Wait + Sync>(
+    rt: &R,
+    alloc: Global,
+    stations: u64,
+    number: u64,
+) -> Result<(), Fail> {
+    assert!(rt; 1 < stations && stations < 9);
+    let top = stations - 1;
+    let bound = top * top - top + 1;
+    let x = bits_from(alloc, stations, number >> 20)?;
+    let up = bits_from(alloc, stations, number >> 40)?;
+    let script = format!(in alloc; "format 4\nopen {stations} {x} {up}\nday {bound}\n")?;
+    let (output, end) = told(rt, alloc, script.as_str())?;
+    assert!(rt; end == Ok(()));
+    let index = legitimate_at(output.as_slice());
+    assert!(rt; index.is_some_and(|index| index <= bound), "{script}");
+    Ok(())
+}
+
 #[test]
-fn a_day_from_any_bits_becomes_legitimate(rt: HostRuntime) -> Result<(), Fail> {
-    let alloc = rt.alloc();
-    let (output, end) = told(&rt, alloc, "format 4\nopen 4 0101 1000\nday 26\n")?;
+fn a_day_tells_when_it_became_legitimate(rt: HostRuntime) -> Result<(), Fail> {
+    let (output, end) = told(&rt, rt.alloc(), "format 4\nopen 4 0101 1000\nday 26\n")?;
     assert!(rt; end == Ok(()));
     assert!(rt; has(output.as_slice(), "\nday 26 legitimate at "));
     assert!(rt; legitimate_at(output.as_slice()).is_some_and(|index| index <= 7));
+    Ok(())
+}
+
+#[test]
+fn a_day_from_any_bits_becomes_legitimate(rt: HostRuntime) -> Result<(), Fail> {
     let mut number = 1u64;
     for stations in 2..9u64 {
-        let top = stations - 1;
-        let bound = top * top - top + 1;
         for _ in 0..8 {
             number = number
                 .wrapping_mul(6364136223846793005)
                 .wrapping_add(1442695040888963407);
-            let x = bits_from(alloc, stations, number >> 20)?;
-            let up = bits_from(alloc, stations, number >> 40)?;
-            let script = format!(in alloc; "format 4\nopen {stations} {x} {up}\nday {bound}\n")?;
-            let (output, end) = told(&rt, alloc, script.as_str())?;
-            assert!(rt; end == Ok(()));
-            let index = legitimate_at(output.as_slice());
-            assert!(rt; index.is_some_and(|index| index <= bound), "{script}");
+            settles(&rt, rt.alloc(), stations, number)?;
         }
     }
     Ok(())

@@ -1,6 +1,8 @@
 //! Whole scripts, with all that they print and how they end.
+use crate::day::sixteen_posted;
 use console_engine::{LineFault, MemoryDevice, ScriptFault, run_program, run_script};
 use std::alloc::Global;
+use std::fs::{File, Files};
 use std::process::Abort;
 use std::sync::Wait;
 use std::test::Fail;
@@ -72,63 +74,34 @@ fn a_line_with_two_privileges_settles(rt: HostRuntime) -> Result<(), Fail> {
     )
 }
 
-// What follows `format 1`, `open 2 00 10` and `crash`; and what it prints after those.
 #[test]
-fn refusals_come_in_their_order(rt: HostRuntime) -> Result<(), Fail> {
-    let table = [
-        // before an office is open
-        ("turn 0", "refused NoOffice\n"),
-        ("post 9 deposit 0 0", "refused NoOffice\n"),
-        ("bits\nbalances", "refused NoOffice\nrefused NoOffice\n"),
-        ("crash", "crashed\n"),
-        ("format 1000001", "refused TooManySlots\n"),
-        ("format 15", "refused TooSmall\n"),
-        ("format 14", "formatted 14\n"),
-        ("open 1 0 1", "refused Stations\n"),
-        ("open 65 0 1", "refused Stations\n"),
-        ("open 3 00 100", "refused Length\n"),
-        ("open 3 000 10", "refused Length\n"),
-        ("open 2 00 10", "refused Unformatted\n"),
-        // with an open office
-        (
-            "format 1\nopen 2 00 10\nformat 1000001",
-            "refused OfficeOpen\n",
-        ),
-        ("format 1\nopen 2 00 10\nopen 1 0 1", "refused OfficeOpen\n"),
-        (
-            "format 1\nopen 2 00 10\npost 2 deposit 1 1",
-            "refused NoStation\n",
-        ),
-        ("format 1\nopen 2 00 10\nturn 2", "refused NoStation\n"),
-        (
-            "format 1\nopen 2 00 10\nturn 18446744073709551615",
-            "refused NoStation\n",
-        ),
-        ("format 1\nopen 2 00 10\nturn 256", "refused NoStation\n"),
-        (
-            "format 1\nopen 2 00 10\npost 256 deposit 1 1",
-            "refused NoStation\n",
-        ),
-        ("format 1\nopen 2 00 10\nturn 1", "refused NotPrivileged\n"),
-        // an office that is forgotten, and a device that is kept
-        (
-            "format 1\nopen 2 00 10\ncrash\nturn 0",
-            "crashed\nrefused NoOffice\n",
-        ),
-        (
-            "format 1\nopen 2 00 10\ncrash\nopen 1 0 1\nopen 2 00 10",
-            "crashed\nrefused Stations\nopened 2 next 0 total 0\n",
-        ),
-    ];
-    for (script, wanted) in table {
-        let (output, end) = told(&rt, rt.alloc(), script)?;
-        assert!(rt; end == Ok(()), "{script}");
-        let opened = "formatted 1\nopened 2 next 0 total 0\n";
-        let output = output.as_slice();
-        let rest = output.strip_prefix(opened.as_bytes()).unwrap_or(output);
-        assert!(rt; rest == wanted.as_bytes(), "{script}");
-    }
-    Ok(())
+fn refusals_before_an_office_is_open(rt: HostRuntime) -> Result<(), Fail> {
+    prints(
+        &rt,
+        rt.alloc(),
+        "turn 0\npost 9 deposit 0 0\nbits\nbalances\ncrash\nformat 1000001\nformat 15\nopen 1 0 1\nopen 65 0 1\nopen 3 00 100\nopen 3 000 10\nopen 2 00 10\nformat 14\n",
+        "refused NoOffice\nrefused NoOffice\nrefused NoOffice\nrefused NoOffice\ncrashed\nrefused TooManySlots\nrefused TooSmall\nrefused Stations\nrefused Stations\nrefused Length\nrefused Length\nrefused Unformatted\nformatted 14\n",
+    )
+}
+
+#[test]
+fn refusals_of_an_open_office(rt: HostRuntime) -> Result<(), Fail> {
+    prints(
+        &rt,
+        rt.alloc(),
+        "format 1\nopen 2 00 10\nformat 1000001\nopen 1 0 1\npost 2 deposit 1 1\nturn 2\nturn 18446744073709551615\nturn 256\npost 256 deposit 1 1\nturn 1\n",
+        "formatted 1\nopened 2 next 0 total 0\nrefused OfficeOpen\nrefused OfficeOpen\nrefused NoStation\nrefused NoStation\nrefused NoStation\nrefused NoStation\nrefused NoStation\nrefused NotPrivileged\n",
+    )
+}
+
+#[test]
+fn a_crash_forgets_the_office_and_keeps_the_device(rt: HostRuntime) -> Result<(), Fail> {
+    prints(
+        &rt,
+        rt.alloc(),
+        "format 1\nopen 2 00 10\ncrash\nturn 0\nopen 1 0 1\nopen 2 00 10\n",
+        "formatted 1\nopened 2 next 0 total 0\ncrashed\nrefused NoOffice\nrefused Stations\nopened 2 next 0 total 0\n",
+    )
 }
 
 #[test]
@@ -143,13 +116,9 @@ fn a_full_bank_makes_a_checkpoint(rt: HostRuntime) -> Result<(), Fail> {
 
 #[test]
 fn a_station_holds_sixteen_entries(rt: HostRuntime) -> Result<(), Fail> {
-    let alloc = rt.alloc();
-    let mut script = String::from_str(alloc, "format 4\nopen 2 00 10\n")?;
-    for _ in 0..17 {
-        script.push_str("post 0 deposit 1 1\n")?;
-    }
-    script.push_str("turn 0\npost 1 deposit 1 1\n")?;
-    let (output, end) = told(&rt, alloc, script.as_str())?;
+    let mut script = sixteen_posted(rt.alloc())?;
+    script.push_str("post 0 deposit 1 1\nturn 0\npost 1 deposit 1 1\n")?;
+    let (output, end) = told(&rt, rt.alloc(), script.as_str())?;
     assert!(rt; end == Ok(()));
     let wanted = b"held 0 16\nrefused HeldFull\nrefused TooMany\nheld 1 1\n";
     assert!(rt; output.as_slice().ends_with(wanted));
@@ -191,61 +160,55 @@ fn spaces_returns_and_zeros_are_taken(rt: HostRuntime) -> Result<(), Fail> {
     )
 }
 
-// The words, the script, and what the program ends with: its status, output and errors.
+// The program on these words and this script ends with this status, output and errors.
+fn program_ends<R: Abort + Files<File = File> + Threads + Wait + Sync>(
+    rt: &R,
+    alloc: Global,
+    words: &[&str],
+    script: &str,
+    (wanted, prints, tells): (u8, &str, &str),
+) {
+    let (mut writer, mut errors) = (Vec::new(alloc), Vec::new(alloc));
+    let mut reader = script.as_bytes();
+    let status = run_program(rt, alloc, words, &mut reader, &mut writer, &mut errors);
+    assert!(rt; status == wanted, "{script}");
+    assert!(rt; writer.as_slice() == prints.as_bytes(), "{script}");
+    assert!(rt; errors.as_slice() == tells.as_bytes(), "{script}");
+}
+
 #[test]
-fn the_program_tells_how_it_ended(rt: HostRuntime) -> Result<(), Fail> {
-    let alloc = rt.alloc();
-    let table: [(&[&str], &str, u8, &str, &str); 9] = [
-        (&["console"], "", 0, "", ""),
-        (&["console"], "turn 0", 0, "refused NoOffice\n", ""),
+fn the_program_tells_how_it_ended(rt: HostRuntime) {
+    let table = [
+        ("", (0, "", "")),
+        ("turn 0", (0, "refused NoOffice\n", "")),
         (
-            &["console"],
             "format 4\nfrob\n",
-            1,
-            "formatted 4\n",
-            "line 2: unknown command\n",
+            (1, "formatted 4\n", "line 2: unknown command\n"),
         ),
+        ("turn", (1, "", "line 1: wrong number of words\n")),
+        ("format x", (1, "", "line 1: bad number\n")),
+        ("open 2 0x 10", (1, "", "line 1: bad bits\n")),
         (
-            &["console"],
-            "turn",
-            1,
-            "",
-            "line 1: wrong number of words\n",
-        ),
-        (&["console"], "format x", 1, "", "line 1: bad number\n"),
-        (&["console"], "open 2 0x 10", 1, "", "line 1: bad bits\n"),
-        (
-            &["console"],
             "format 14\nformat 15",
-            0,
-            "formatted 14\nrefused TooSmall\n",
-            "",
-        ),
-        (
-            &["console", "--sectors", "23"],
-            "format 4\nformat 5",
-            0,
-            "formatted 4\nrefused TooSmall\n",
-            "",
-        ),
-        (
-            &["console", "--sectors=1"],
-            "format 1",
-            0,
-            "refused TooSmall\n",
-            "",
+            (0, "formatted 14\nrefused TooSmall\n", ""),
         ),
     ];
-    for (words, script, wanted, prints, tells) in table {
-        let (mut reader, mut writer, mut errors) = (
-            script.as_bytes(),
-            Vec::new(alloc),
-            Vec::new(alloc),
-        );
-        let status = run_program(&rt, alloc, words, &mut reader, &mut writer, &mut errors);
-        assert!(rt; status == wanted, "{script}");
-        assert!(rt; writer.as_slice() == prints.as_bytes(), "{script}");
-        assert!(rt; errors.as_slice() == tells.as_bytes(), "{script}");
+    for (script, ends) in table {
+        program_ends(&rt, rt.alloc(), &["console"], script, ends);
     }
-    Ok(())
+}
+
+#[test]
+fn the_program_has_a_device_of_so_many_sectors(rt: HostRuntime) {
+    let words = ["console", "--sectors", "23"];
+    let ends = (0, "formatted 4\nrefused TooSmall\n", "");
+    program_ends(&rt, rt.alloc(), &words, "format 4\nformat 5", ends);
+    let words = ["console", "--sectors=1"];
+    program_ends(
+        &rt,
+        rt.alloc(),
+        &words,
+        "format 1",
+        (0, "refused TooSmall\n", ""),
+    );
 }

@@ -61,20 +61,29 @@ fn of_cut_line(number: usize, left: &str) -> (&'static str, Result<(), ScriptFau
     }
 }
 
+// A script of so many whole lines, and of what is left of the next one.
+fn cut_prints<R: Abort + Threads + Wait + Sync>(
+    rt: &R,
+    alloc: Global,
+    left: &str,
+) -> Result<(), Fail> {
+    let lines = left.bytes().filter(|byte| *byte == b'\n').count();
+    let last = left.rsplit('\n').next().unwrap_or("");
+    let (prints, wanted) = of_cut_line(lines, last);
+    let (output, end) = told(rt, alloc, left)?;
+    assert!(rt; end == wanted, "{left}");
+    let before = printed_by(alloc, lines)?;
+    let rest = output.as_slice().strip_prefix(before.as_str().as_bytes());
+    assert!(rt; rest == Some(prints.as_bytes()), "{left}");
+    Ok(())
+}
+
 #[test]
 fn a_script_is_cut_after_each_byte(rt: HostRuntime) -> Result<(), Fail> {
-    let alloc = rt.alloc();
-    let (script, _) = whole(alloc)?;
+    let (script, _) = whole(rt.alloc())?;
     for cut in 0..=script.len() {
         let left = script.as_str().get(..cut).ok_or("a cut")?;
-        let lines = left.bytes().filter(|byte| *byte == b'\n').count();
-        let last = left.rsplit('\n').next().unwrap_or("");
-        let (prints, wanted) = of_cut_line(lines, last);
-        let (output, end) = told(&rt, alloc, left)?;
-        assert!(rt; end == wanted, "{left}");
-        let before = printed_by(alloc, lines)?;
-        let rest = output.as_slice().strip_prefix(before.as_str().as_bytes());
-        assert!(rt; rest == Some(prints.as_bytes()), "{left}");
+        cut_prints(&rt, rt.alloc(), left)?;
     }
     Ok(())
 }
@@ -221,44 +230,46 @@ fn fails_with<S: Abort + Files<File = File> + Threads + Wait + Sync, R: Read, W:
 }
 
 #[test]
-fn streams_that_fail_are_told(rt: HostRuntime) {
-    let alloc = rt.alloc();
-    let words = ["console"];
-    let help = ["console", "--help"];
-    let mut output = Vec::new(alloc);
-    let mut failing = Failing::over(alloc, b"crash", 0);
+fn a_reader_that_fails_is_told(rt: HostRuntime) {
+    let mut reader = Failing::over(rt.alloc(), b"crash", 0);
+    let mut output = Vec::new(rt.alloc());
     fails_with(
         &rt,
-        alloc,
-        &words,
-        &mut failing,
+        rt.alloc(),
+        &["console"],
+        &mut reader,
         &mut output,
         "read failed\n",
     );
+}
+
+#[test]
+fn a_script_that_is_too_long_is_told(rt: HostRuntime) {
+    let mut output = Vec::new(rt.alloc());
     fails_with(
         &rt,
-        alloc,
-        &words,
+        rt.alloc(),
+        &["console"],
         &mut Endless,
         &mut output,
         "script too long\n",
     );
-    let mut script = b"crash".as_slice();
-    let mut refusing = Refusing::after(alloc, 0);
-    fails_with(
-        &rt,
-        alloc,
-        &help,
-        &mut script,
-        &mut refusing,
-        "write failed\n",
-    );
-    fails_with(
-        &rt,
-        alloc,
-        &words,
-        &mut script,
-        &mut refusing,
-        "write failed\n",
-    );
+}
+
+// The help is written before a script is read.
+#[test]
+fn a_writer_that_fails_is_told(rt: HostRuntime) {
+    let words: [&[&str]; 2] = [&["console", "--help"], &["console"]];
+    for words in words {
+        let mut script = b"crash".as_slice();
+        let mut writer = Refusing::after(rt.alloc(), 0);
+        fails_with(
+            &rt,
+            rt.alloc(),
+            words,
+            &mut script,
+            &mut writer,
+            "write failed\n",
+        );
+    }
 }

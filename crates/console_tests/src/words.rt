@@ -1,28 +1,32 @@
 //! The words of the command line.
+use crate::day::has;
 use crate::scripts::DEPOSIT;
 use console_engine::{options, run_program, tell_not_text};
 use std::alloc::Global;
 use std::fs::{File, Files};
+use std::process::Abort;
 use std::sync::Wait;
-use std::test::Fail;
 use std::thread::Threads;
 
-// The sectors that these words ask for, where they aren't refused.
+// So many sectors are asked for, on a device in a file, unless they are refused.
+fn asks_for(rt: &impl Abort, alloc: Global, sectors: &str, wanted: Option<u64>) {
+    let words = ["console", "--device", "office.ledger", "--sectors", sectors];
+    let asked = options(alloc, &words).ok();
+    assert!(rt; asked.map(|options| options.sectors) == wanted, "{sectors}");
+    let device = asked.and_then(|options| options.device);
+    assert!(rt; device == wanted.map(|_| "office.ledger"), "{sectors}");
+}
+
 #[test]
 fn the_sectors_are_1_to_4000039(rt: HostRuntime) {
-    let table = [
-        ("0", None),
-        ("1", Some(1)),
-        ("4000039", Some(4_000_039)),
-        ("4000040", None),
-    ];
-    for (sectors, wanted) in table {
-        let words = ["console", "--device", "office.ledger", "--sectors", sectors];
-        let asked = options(rt.alloc(), &words).ok();
-        assert!(rt; asked.map(|options| options.sectors) == wanted, "{sectors}");
-        let device = asked.and_then(|options| options.device);
-        assert!(rt; device == wanted.map(|_| "office.ledger"), "{sectors}");
-    }
+    asks_for(&rt, rt.alloc(), "0", None);
+    asks_for(&rt, rt.alloc(), "1", Some(1));
+    asks_for(&rt, rt.alloc(), "4000039", Some(4_000_039));
+    asks_for(&rt, rt.alloc(), "4000040", None);
+}
+
+#[test]
+fn without_words_the_device_has_64_sectors_in_memory(rt: HostRuntime) {
     let alone = options(rt.alloc(), &["console"]).ok();
     assert!(rt; alone.map(|options| (options.sectors, options.device)) == Some((64, None)));
 }
@@ -39,45 +43,49 @@ fn a_word_that_is_no_text_is_wrong(rt: HostRuntime) {
     );
 }
 
-// The words that are wrong, and what is told of them.
+// The words are wrong, and this is told of them.
+fn are_wrong<S: Abort + Files<File = File> + Threads + Wait + Sync>(
+    rt: &S,
+    alloc: Global,
+    words: &[&str],
+    wanted: &str,
+) {
+    let (status, writer, errors) = program(rt, alloc, words);
+    assert!(rt; (status, writer.len()) == (2, 0), "{words:?}");
+    let told = errors.as_slice().strip_prefix(b"error: ").unwrap_or(b"");
+    assert!(rt; told.starts_with(wanted.as_bytes()), "{words:?}");
+}
+
 #[test]
-fn wrong_words_are_told(rt: HostRuntime) -> Result<(), Fail> {
-    let alloc = rt.alloc();
-    let wrong: [(&[&str], &str); 6] = [
-        (
-            &["console", "--sectors", "0"],
-            "invalid value '0' for '--sectors <K>'",
-        ),
-        (
-            &["console", "--sectors", "4000040"],
-            "invalid value '4000040' for '--sectors <K>'",
-        ),
-        (
-            &["console", "--sectors", "x"],
-            "invalid value 'x' for '--sectors <K>'",
-        ),
-        (
-            &["console", "--sectors"],
-            "a value is required for '--sectors <K>'",
-        ),
-        (&["console", "frob"], "unexpected argument 'frob' found"),
-        (&["console", "--frob"], "unexpected argument '--frob' found"),
+fn wrong_sectors_are_told(rt: HostRuntime) {
+    let table = [
+        ("0", "invalid value '0' for '--sectors <K>'"),
+        ("4000040", "invalid value '4000040' for '--sectors <K>'"),
+        ("x", "invalid value 'x' for '--sectors <K>'"),
     ];
-    for (words, wanted) in wrong {
-        let (status, writer, errors) = program(&rt, alloc, words);
-        assert!(rt; (status, writer.len()) == (2, 0), "{words:?}");
-        let told = errors.as_slice().strip_prefix(b"error: ").unwrap_or(b"");
-        assert!(rt; told.starts_with(wanted.as_bytes()), "{words:?}");
+    for (sectors, wanted) in table {
+        are_wrong(&rt, rt.alloc(), &["console", "--sectors", sectors], wanted);
     }
-    Ok(())
+    let wanted = "a value is required for '--sectors <K>'";
+    are_wrong(&rt, rt.alloc(), &["console", "--sectors"], wanted);
+}
+
+#[test]
+fn wrong_words_are_told(rt: HostRuntime) {
+    let table = [
+        ("frob", "unexpected argument 'frob' found"),
+        ("--frob", "unexpected argument '--frob' found"),
+    ];
+    for (word, wanted) in table {
+        are_wrong(&rt, rt.alloc(), &["console", word], wanted);
+    }
 }
 
 #[test]
 fn help_tells_what_a_script_may_say(rt: HostRuntime) {
     let (status, writer, errors) = program(&rt, rt.alloc(), &["console", "--help"]);
     assert!(rt; (status, errors.len()) == (0, 0));
-    let help = writer.as_slice();
-    assert!(rt; help.ends_with(b"  balances\n"));
+    assert!(rt; writer.as_slice().ends_with(b"  balances\n"));
     for text in [
         "and is read to its end before its first line runs:\n",
         "  post S withdraw A M         the same: M units from account A\n",
@@ -85,10 +93,7 @@ fn help_tells_what_a_script_may_say(rt: HostRuntime) {
         "which takes 4K + 7 sectors;\n                              what is there is erased\n",
         "How many sectors of 512 bytes the device has, 1 to 4000039 [default: 64]",
     ] {
-        assert!(rt;
-            help.windows(text.len()).any(|part| part == text.as_bytes()),
-            "{text}"
-        );
+        assert!(rt; has(writer.as_slice(), text), "{text}");
     }
 }
 

@@ -1,6 +1,7 @@
 //! Worked examples: lines, and what the grammar says of each.
 use script_grammar::LineFault::{BadBits, BadNumber, UnknownCommand, WrongNumberOfWords};
 use script_grammar::{Bits, Command, LineFault, Lines, read_command};
+use std::process::Abort;
 use std::test::Fail;
 use turn_ledger::Entry;
 
@@ -94,45 +95,31 @@ fn lines_that_say_nothing_are_passed_over(rt: HostRuntime) {
     }
 }
 
-#[test]
-fn line_faults_come_in_their_order(rt: HostRuntime) {
-    let table: [(&[u8], LineFault); 32] = [
-        (b"frob", UnknownCommand),
-        (b"Format 4", UnknownCommand),
-        (b"days 8", UnknownCommand),
-        (b"\xff", UnknownCommand),
-        (b"\tcrash", UnknownCommand),
-        (b"post 0 seal 1", UnknownCommand),
-        (b"post x frob", UnknownCommand),
-        (b"format", WrongNumberOfWords),
-        (b"format 1 2", WrongNumberOfWords),
-        (b"crash now", WrongNumberOfWords),
-        (b"post", WrongNumberOfWords),
-        (b"post 0", WrongNumberOfWords),
-        (b"post x deposit 1", WrongNumberOfWords),
-        (b"post 0 transfer 1 2", WrongNumberOfWords),
-        (b"open 2 00", WrongNumberOfWords),
-        (b"day", WrongNumberOfWords),
-        (b"day 1 2", WrongNumberOfWords),
-        (b"format 0", BadNumber),
-        (b"format 18446744073709551616", BadNumber),
-        (b"format +1", BadNumber),
-        (b"format -1", BadNumber),
-        (b"format 1x", BadNumber),
-        (b"format 1\xff", BadNumber),
-        (b"turn 1\r", BadNumber),
-        (b"post 0 deposit 4294967296 1", BadNumber),
-        (b"post 0 deposit 1 18446744073709551616", BadNumber),
-        (b"open x 2 2", BadNumber),
-        (b"day 0", BadNumber),
-        (b"day 100001", BadNumber),
-        (b"day x", BadNumber),
-        (b"open 2 02 10", BadBits),
-        (b"open 2 00 1\xff", BadBits),
-    ];
-    for (line, wanted) in table {
+// Each of these lines has this fault.
+fn are_faulty(rt: &impl Abort, lines: &[u8], wanted: LineFault) {
+    for line in Lines::of(lines) {
         assert!(rt; read_command(line, 1).err() == Some(wanted), "{line:?}");
     }
+}
+
+#[test]
+fn line_faults_come_in_their_order(rt: HostRuntime) {
+    are_faulty(
+        &rt,
+        b"frob\nFormat 4\ndays 8\n\xff\n\tcrash\npost 0 seal 1\npost x frob",
+        UnknownCommand,
+    );
+    are_faulty(
+        &rt,
+        b"format\nformat 1 2\ncrash now\npost\npost 0\npost x deposit 1\npost 0 transfer 1 2\nopen 2 00\nday\nday 1 2",
+        WrongNumberOfWords,
+    );
+    are_faulty(
+        &rt,
+        b"format 0\nformat 18446744073709551616\nformat +1\nformat -1\nformat 1x\nformat 1\xff\nturn 1\r\r\npost 0 deposit 4294967296 1\npost 0 deposit 1 18446744073709551616\nopen x 2 2\nday 0\nday 100001\nday x",
+        BadNumber,
+    );
+    are_faulty(&rt, b"open 2 02 10\nopen 2 00 1\xff", BadBits);
 }
 
 #[test]

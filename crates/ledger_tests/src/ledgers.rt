@@ -1,6 +1,8 @@
 //! Worked examples: what is expected was worked out by hand from the rules.
 
+use std::alloc::Global;
 use std::fmt::Write;
+use std::process::Abort;
 use std::test::Fail;
 use turn_ledger::{Batch, Entry, EntryRefusal, Ledger, TOTAL_LIMIT, Verdicts};
 
@@ -29,23 +31,8 @@ fn transfer(from: u32, to: u32, amount: u64) -> Entry {
     }
 }
 
-#[test]
-fn an_entry_is_judged_after_the_accepted_ones_before_it(rt: HostRuntime) -> Result<(), Fail> {
-    let mut ledger = Ledger::new(rt.alloc())?;
-    let entries = [deposit(1, 100), withdraw(1, 150), transfer(1, 2, 40)];
-    let expected = [Ok(()), Err(EntryRefusal::Short), Ok(())];
-
-    let verdicts = ledger.screen(&entries);
-    assert!(rt; verdicts.len() == 3);
-    assert!(rt; verdicts.accepted() == 2);
-    assert!(rt; verdicts.get(3) == None);
-    assert!(rt; ledger.total() == 0, "screening changes nothing");
-
-    for (i, entry) in entries.iter().enumerate() {
-        let posted = ledger.post(entry);
-        assert!(rt; expected.get(i).copied() == Some(posted), "entry {i}");
-        assert!(rt; verdicts.get(i) == Some(posted), "entry {i}");
-    }
+// Accounts 1 and 2 hold something, 3 nothing, and there are no others but 1 to 64.
+fn holds_60_and_40(rt: &impl Abort, ledger: &Ledger) {
     for (account, balance) in [
         (1, Some(60)),
         (2, Some(40)),
@@ -56,18 +43,39 @@ fn an_entry_is_judged_after_the_accepted_ones_before_it(rt: HostRuntime) -> Resu
         assert!(rt; ledger.balance(account) == balance, "account {account}");
     }
     assert!(rt; ledger.total() == 100);
+}
+
+#[test]
+fn an_entry_is_judged_after_the_accepted_ones_before_it(rt: HostRuntime) -> Result<(), Fail> {
+    let mut ledger = Ledger::new(rt.alloc())?;
+    let entries = [deposit(1, 100), withdraw(1, 150), transfer(1, 2, 40)];
+    let expected = [Ok(()), Err(EntryRefusal::Short), Ok(())];
+
+    let verdicts = ledger.screen(&entries);
+    let said = (verdicts.len(), verdicts.accepted(), verdicts.get(3));
+    assert!(rt; (said, ledger.total()) == ((3, 2, None), 0));
+
+    for (i, entry) in entries.iter().enumerate() {
+        let posted = Some(ledger.post(entry));
+        let said = (expected.get(i).copied(), verdicts.get(i));
+        assert!(rt; said == (posted, posted), "entry {i}");
+    }
+    holds_60_and_40(&rt, &ledger);
     Ok(())
 }
 
 #[test]
 fn the_last_account_is_number_64(rt: HostRuntime) -> Result<(), Fail> {
     let mut ledger = Ledger::new(rt.alloc())?;
-    assert!(rt; ledger.post(&deposit(64, 7)) == Ok(()));
-    assert!(rt; ledger.post(&deposit(65, 7)) == Err(EntryRefusal::NoAccount));
-    assert!(rt; ledger.post(&transfer(64, 65, 1)) == Err(EntryRefusal::NoAccount));
-    assert!(rt; ledger.balance(64) == Some(7));
-    assert!(rt; ledger.balance(65) == None);
-    assert!(rt; ledger.total() == 7);
+    let posted = (
+        ledger.post(&deposit(64, 7)),
+        ledger.post(&deposit(65, 7)),
+        ledger.post(&transfer(64, 65, 1)),
+    );
+    let refused = Err(EntryRefusal::NoAccount);
+    assert!(rt; posted == (Ok(()), refused, refused));
+    let held = (ledger.balance(64), ledger.balance(65), ledger.total());
+    assert!(rt; held == (Some(7), None, 7));
     Ok(())
 }
 
@@ -82,8 +90,7 @@ fn a_deposit_may_fill_the_ledger_and_not_pass_the_limit(rt: HostRuntime) -> Resu
     for (entry, verdict) in table {
         assert!(rt; ledger.post(&entry) == verdict, "{entry:?}");
     }
-    assert!(rt; ledger.total() == 1_000_000_000_000_000_000);
-    assert!(rt; ledger.balance(2) == Some(0));
+    assert!(rt; (ledger.total(), ledger.balance(2)) == (1_000_000_000_000_000_000, Some(0)));
     Ok(())
 }
 
@@ -100,11 +107,8 @@ fn the_first_broken_rule_is_answered(rt: HostRuntime) -> Result<(), Fail> {
         (withdraw(1, 1), EntryRefusal::Short),
     ];
     for (entry, refusal) in table {
-        assert!(rt; ledger.post(&entry) == Err(refusal), "{entry:?}");
-        assert!(rt;
-            ledger.screen(&[entry]).get(0) == Some(Err(refusal)),
-            "{entry:?}"
-        );
+        let said = (ledger.post(&entry), ledger.screen(&[entry]).get(0));
+        assert!(rt; said == (Err(refusal), Some(Err(refusal))), "{entry:?}");
     }
     assert!(rt; ledger.total() == 0);
     Ok(())
@@ -138,6 +142,18 @@ fn what_is_written_is_read_again(rt: HostRuntime) {
     }
 }
 
+// The ledger takes these balances or refuses them, and then has these and their sum.
+fn restores(
+    rt: &impl Abort,
+    ledger: &mut Ledger,
+    balances: &[u64; 64],
+    taken: bool,
+    (held, total): (&[u64; 64], u64),
+) {
+    assert!(rt; ledger.restore(balances) == taken);
+    assert!(rt; (ledger.balances(), ledger.total()) == (*held, total));
+}
+
 #[test]
 fn balances_are_restored_up_to_the_limit(rt: HostRuntime) -> Result<(), Fail> {
     let mut ledger = Ledger::new(rt.alloc())?;
@@ -147,27 +163,24 @@ fn balances_are_restored_up_to_the_limit(rt: HostRuntime) -> Result<(), Fail> {
     assert!(rt; ledger.balances() == before);
 
     let mut too_much = [0; 64];
-    too_much[0] = 1_000_000_000_000_000_000;
-    too_much[1] = 1_000_000_000_000_000_000;
-    assert!(rt; ledger.restore(&too_much) == false);
-    assert!(rt; ledger.balances() == before);
-    assert!(rt; ledger.total() == 9);
+    (too_much[0], too_much[1]) = (TOTAL_LIMIT, TOTAL_LIMIT);
+    restores(&rt, &mut ledger, &too_much, false, (&before, 9));
 
     let mut some = [0; 64];
-    some[0] = 5;
-    some[63] = 7;
-    assert!(rt; ledger.restore(&some) == true);
-    assert!(rt; ledger.balances() == some);
-    assert!(rt; ledger.balance(1) == Some(5));
-    assert!(rt; ledger.balance(3) == Some(0));
-    assert!(rt; ledger.balance(64) == Some(7));
-    assert!(rt; ledger.total() == 12);
+    (some[0], some[63]) = (5, 7);
+    restores(&rt, &mut ledger, &some, true, (&some, 12));
+    let held = (ledger.balance(1), ledger.balance(3), ledger.balance(64));
+    assert!(rt; held == (Some(5), Some(0), Some(7)));
 
     let mut limit = [0; 64];
-    limit[0] = 999_999_999_999_999_999;
-    limit[1] = 1;
-    assert!(rt; ledger.restore(&limit) == true);
-    assert!(rt; ledger.total() == 1_000_000_000_000_000_000);
+    (limit[0], limit[1]) = (999_999_999_999_999_999, 1);
+    restores(
+        &rt,
+        &mut ledger,
+        &limit,
+        true,
+        (&limit, 1_000_000_000_000_000_000),
+    );
     assert!(rt; ledger.post(&deposit(2, 1)) == Err(EntryRefusal::OverLimit));
     Ok(())
 }
@@ -192,43 +205,51 @@ fn bytes_of_no_entry(rt: HostRuntime) {
 fn a_batch_holds_its_entries(rt: HostRuntime) {
     let entries = [deposit(1, 100), transfer(1, 2, 40)];
     let batch = Batch::of(&entries);
-    assert!(rt; batch.len() == 2);
-    assert!(rt; batch.get(0) == Some(deposit(1, 100)));
-    assert!(rt; batch.get(1) == Some(transfer(1, 2, 40)));
-    assert!(rt; batch.get(2) == None);
-    assert!(rt; Batch::of(&[]).get(0) == None);
+    assert!(rt; (batch.len(), batch.is_empty()) == (2, false));
+    let held = (batch.get(0), batch.get(1), batch.get(2));
+    assert!(rt; held == (Some(entries[0]), Some(entries[1]), None));
     assert!(rt; batch.iter().as_slice() == entries.as_slice());
-    assert!(rt; batch.is_empty() == false);
-    assert!(rt; Batch::default().is_empty() == true);
-    assert!(rt; Batch::of(&[entries[0]; 15]).len() == 15);
+    let none = (Batch::of(&[]).get(0), Batch::default().is_empty());
+    assert!(rt; (none, Batch::of(&[entries[0]; 15]).len()) == ((None, true), 15));
 }
 
-#[test]
-fn an_example_of_a_turn(rt: HostRuntime) -> Result<(), Fail> {
-    let alloc = rt.alloc();
-    let mut ledger = Ledger::new(alloc)?;
-    let entries = [deposit(1, 100), withdraw(1, 150), transfer(1, 2, 40)];
-    let verdicts = ledger.screen(&entries);
-    for (place, verdict) in verdicts.iter().enumerate() {
-        assert!(rt; verdict.is_ok() == (place != 1), "entry {place}");
-    }
-    for entry in &Batch::of_accepted(&entries, &verdicts) {
-        assert!(rt; ledger.post(entry) == Ok(()));
-    }
+// The accounts that hold something, in words.
+fn in_words(alloc: Global, ledger: &Ledger) -> Result<String, Fail> {
     let mut text = String::new(alloc);
     for (account, balance) in ledger.accounts() {
         if balance > 0 {
             write!(text, "{account}: {balance}, ")?;
         }
     }
-    assert!(rt; text.as_str() == "1: 60, 2: 40, ");
-    assert!(rt; ledger.accounts().count() == 64);
+    Ok(text)
+}
 
-    for verdict in &verdicts {
+// The second of three verdicts is a refusal.
+fn refuse_the_second(rt: &impl Abort, verdicts: &Verdicts) {
+    for (place, verdict) in verdicts.iter().enumerate() {
+        assert!(rt; verdict.is_ok() == (place != 1), "entry {place}");
+    }
+    assert!(rt; (verdicts.is_empty(), Verdicts::default().is_empty()) == (false, true));
+}
+
+fn refuse_none_for_the_limit(rt: &impl Abort, verdicts: &Verdicts) {
+    for verdict in verdicts {
         assert!(rt; *verdict != Err(EntryRefusal::OverLimit));
     }
-    assert!(rt; verdicts.is_empty() == false);
-    assert!(rt; Verdicts::default().is_empty() == true);
+}
+
+#[test]
+fn an_example_of_a_turn(rt: HostRuntime) -> Result<(), Fail> {
+    let mut ledger = Ledger::new(rt.alloc())?;
+    let entries = [deposit(1, 100), withdraw(1, 150), transfer(1, 2, 40)];
+    let verdicts = ledger.screen(&entries);
+    refuse_the_second(&rt, &verdicts);
+    refuse_none_for_the_limit(&rt, &verdicts);
+    for entry in &Batch::of_accepted(&entries, &verdicts) {
+        assert!(rt; ledger.post(entry) == Ok(()));
+    }
+    assert!(rt; in_words(rt.alloc(), &ledger)?.as_str() == "1: 60, 2: 40, ");
+    assert!(rt; ledger.accounts().count() == 64);
     Ok(())
 }
 

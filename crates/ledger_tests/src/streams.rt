@@ -68,11 +68,10 @@ fn a_writer_is_interrupted_1000_times_in_a_row_at_most(rt: HostRuntime) {
 #[test]
 fn a_writer_is_handed_all_or_told(rt: HostRuntime) {
     let mut writer = Taking::for_calls(rt.alloc(), 1);
-    assert!(rt; write_all(&mut writer, b"").is_ok());
-    assert!(rt; writer.pieces().len() == 0);
-    assert!(rt; write_all(&mut writer, b"abc").is_ok());
-    assert!(rt; write_all(&mut writer, b"def").is_err());
-    assert!(rt; writer.pieces().len() == 1);
+    assert!(rt; (write_all(&mut writer, b"").is_ok(), writer.pieces().len()) == (true, 0));
+    let taken = write_all(&mut writer, b"abc").is_ok();
+    let refused = write_all(&mut writer, b"def").is_err();
+    assert!(rt; (taken, refused, writer.pieces().len()) == (true, true, 1));
 }
 
 // So many lines of this text, and one more.
