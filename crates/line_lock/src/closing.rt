@@ -8,7 +8,7 @@ ghost use Rattle.line_lock.specs.Account.{turns_of, WasDenied, IsBorneOut, seats
 use crate::seat::Seat;
 use four_state::Line;
 use sector_device::Device;
-use std::sync::ledger::{Ledger, Share};
+use std::sync::ledger::{Ledger as Count, Share};
 use sweep_auditor::{Audit, audit};
 use thiserror::Error;
 use turn_clerk::{Clerk, Turn};
@@ -35,7 +35,7 @@ pub enum CloseRefusal {
 }
 
 // How many of the seats are a station's.
-fn seats_of<L: Ledger>(seats: &[Seat<L>], station: u8) -> usize
+fn seats_of<L: Count>(seats: &[Seat<L>], station: u8) -> usize
     ensures { result ≡ seats_of station seats.now }
 {
     seats
@@ -45,7 +45,7 @@ fn seats_of<L: Ledger>(seats: &[Seat<L>], station: u8) -> usize
 }
 
 // Whether some station has no seat.
-fn is_seat_missing<L: Ledger>(seats: &[Seat<L>], stations: u8) -> bool
+fn is_seat_missing<L: Count>(seats: &[Seat<L>], stations: u8) -> bool
     ensures { IsTrue result ↔ IsSeatMissing stations seats.now }
 {
     for station in 0..stations {
@@ -67,7 +67,7 @@ fn stands_at(turns: &[Turn], place: usize, turn: &Turn) -> bool
 }
 
 // Whether a seat's list has all turns of its station, in order, and no others.
-fn lists_all<L: Ledger>(seat: &Seat<L>, history: &[Turn]) -> bool
+fn lists_all<L: Count>(seat: &Seat<L>, history: &[Turn]) -> bool
     ensures { IsTrue result ↔ (seat.now.turns ≡ turns_of seat.now.station history.now) }
 {
     let mut listed = 0;
@@ -104,7 +104,7 @@ fn was_denied<D: Device>(clerk: &Clerk<D>, station: u8, turns: u64) -> bool
 }
 
 // Whether the office's history bears out what a seat holds.
-fn is_borne_out<D: Device, L: Ledger>(clerk: &Clerk<D>, seat: &Seat<L>) -> bool
+fn is_borne_out<D: Device, L: Count>(clerk: &Clerk<D>, seat: &Seat<L>) -> bool
     requires { stations clerk.now.line ≡ L.parts }
     ensures { IsTrue result ↔ IsBorneOut clerk.now.opening.line clerk.now.history seat.now }
 {
@@ -116,7 +116,7 @@ fn is_borne_out<D: Device, L: Ledger>(clerk: &Clerk<D>, seat: &Seat<L>) -> bool
 }
 
 /// Whether an office with this clerk can be closed with these seats, or why not.
-pub(crate) fn look_at<D: Device, L: Ledger>(
+pub(crate) fn look_at<D: Device, L: Count>(
     clerk: &Clerk<D>,
     seats: &[Seat<L>],
 ) -> Result<(), CloseRefusal>
@@ -153,7 +153,7 @@ pub(crate) fn look_at<D: Device, L: Ledger>(
 }
 
 /// All seats' shares, put together with what was left of the ledger.
-pub(crate) fn gathered<L: Ledger>(rest: Share<L>, seats: Vec<Seat<L>>) -> Share<L>
+pub(crate) fn gathered<L: Count>(rest: Share<L>, seats: Vec<Seat<L>>) -> Share<L>
     requires { (rest.parts ≡ 0) × (rest.amount ≡ 0) }
     ensures parts { result.parts ≡ length seats.items }
     ensures amount { result.amount ≡ sum_by (λ seat. length seat.turns + seat.failed) seats.items }

@@ -15,7 +15,7 @@ use sector_device::Device;
 use std::alloc::Global;
 use std::fmt::Display;
 use std::marker::Brand;
-use std::sync::ledger::{Blank, Ledger};
+use std::sync::ledger::{Blank, Ledger as Count};
 use thiserror::Error;
 use turn_clerk::OpenRefusal;
 
@@ -35,7 +35,7 @@ pub trait OfficeWork<D: Device>: Drop {
     ghost makes: { Self → DeviceState → Configuration → List SeatState → List SeatState → Self.Answer → Type 0 } = { λ _ _ _ _ _ _. Unit {0} };
 
     /// Works with the seats of an office, that of station 0 first, and gives all of them back.
-    fn work<L: Ledger + Opening + Send + Sync>(
+    fn work<L: Count + Opening + Send + Sync>(
         self,
         office: &Office<D, L>,
         seats: Vec<Seat<L>>,
@@ -94,7 +94,7 @@ pub fn with_office<D: Device, W: OfficeWork<D>>(
 }
 
 // The same in an office that has a name, which says what it is opened on.
-fn lent<D: Device, L: Ledger + Opening + Send + Sync, W: OfficeWork<D>>(
+fn lent<D: Device, L: Count + Opening + Send + Sync, W: OfficeWork<D>>(
     alloc: Global,
     device: D,
     line: Line,

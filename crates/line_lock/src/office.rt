@@ -22,18 +22,18 @@ use crate::seat::Seat;
 use four_state::Line;
 use sector_device::Device;
 use std::alloc::Global;
-use std::sync::ledger::{Blank, Ledger};
+use std::sync::ledger::{Blank, Ledger as Count};
 use std::sync::{Mutex, Wait};
 use turn_clerk::{Clerk, OpenRefusal, Turn, TurnRefusal};
 use turn_ledger::Entry;
 
 /// One clerk that several stations share, one turn at a time.
 #[derive(Drop)]
-pub struct Office<D: Device, L: Ledger + Opening> {
+pub struct Office<D: Device, L: Count + Opening> {
     locked: Mutex<Locked<D, L>>,
 }
 
-impl<D: Device, L: Ledger + Opening> Office<D, L> {
+impl<D: Device, L: Count + Opening> Office<D, L> {
     /// Opens the ledger of a device for a line of stations, and hands out a seat for each, station 0 first. All memory
     /// is reserved before any device call. A refusal hands the device back and drops the blank. `L` names the device and
     /// the line, so that closing the office can tell what it was opened on.

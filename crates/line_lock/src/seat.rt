@@ -4,14 +4,14 @@ ghost use Rattle.line_lock.specs.Seat.{new_seat};
 
 use std::alloc::Global;
 use std::marker::Model;
-use std::sync::ledger::{Ledger, Share};
+use std::sync::ledger::{Ledger as Count, Share};
 use turn_clerk::Turn;
 
 /// A station's right to take turns, and an account of those that it took. Each turn that its station takes, and each in
 /// which the device fails, is counted in the office's book by the seat's share, which no one else has. `L` names the
 /// book: a seat of another office has another type, and a list with it is refused by the compiler (`mismatched-types`).
 #[derive(Drop)]
-pub struct Seat<L: Ledger> {
+pub struct Seat<L: Count> {
     pub(crate) station: u8,
     pub(crate) turns: Vec<Turn>,
     pub(crate) denied: Option<u64>,
@@ -19,7 +19,7 @@ pub struct Seat<L: Ledger> {
     pub(crate) share: Share<L>,
 }
 
-impl<L: Ledger> Model for Seat<L> {
+impl<L: Count> Model for Seat<L> {
     ghost use Rattle.std.specs.Prelude.{◌≡◌, ◌-◌, ◌<◌, ◌≤◌, length};
     ghost use Rattle.line_lock.specs.Seat.{SeatState};
 
@@ -36,7 +36,7 @@ impl<L: Ledger> Model for Seat<L> {
     ghost invariant = { λ s. (s.station < L.parts) × (s.share.parts ≡ 1) × (length s.turns.items ≤ s.share.amount) };
 }
 
-impl<L: Ledger> Seat<L> {
+impl<L: Count> Seat<L> {
     // The seat of a station that has taken no turn, with its share of the book.
     pub(crate) fn new(alloc: Global, station: u8, share: Share<L>) -> Seat<L>
         requires station { station < L.parts }

@@ -4,15 +4,15 @@ use crate::opening::Opening;
 use crate::seat::Seat;
 use sector_device::Device;
 use std::fmt;
-use std::sync::ledger::Ledger;
+use std::sync::ledger::Ledger as Count;
 
-impl<D: Device, L: Ledger + Opening> fmt::Debug for Office<D, L> {
+impl<D: Device, L: Count + Opening> fmt::Debug for Office<D, L> {
     fn fmt<W: fmt::Write>(&self, f: &mut fmt::Formatter<W>) -> fmt::Result {
         f.debug_struct("Office").finish_non_exhaustive()
     }
 }
 
-impl<L: Ledger> fmt::Debug for Seat<L> {
+impl<L: Count> fmt::Debug for Seat<L> {
     fn fmt<W: fmt::Write>(&self, f: &mut fmt::Formatter<W>) -> fmt::Result {
         f.debug_struct("Seat")
             .field("station", &self.station())

@@ -7,7 +7,7 @@ ghost use Rattle.line_lock.specs.Lent.{new_seats, AccountFor, IsClosed, IsRefuse
 ghost use Rattle.office_day.specs.Day.{HaveServed};
 
 use crate::seated::{Left, risen, seated};
-use line_lock::{Blank, Closing, Device, Ledger, Line, Office, OfficeRefusal, Opening, Seat};
+use line_lock::{Blank, Closing, Count, Device, Line, Office, OfficeRefusal, Opening, Seat};
 use station_desk::{Desk, Gate, run_stations};
 use std::alloc::{AllocError, Global};
 use std::marker::Brand;
@@ -59,7 +59,7 @@ pub fn run_office<D: Device + Send, G: Gate + Sync, R: Threads + Wait + Sync>(
 // The same in an office that has a name, which says what it is opened on.
 fn named_run<
     D: Device + Send,
-    L: Ledger + Opening + Send + Sync,
+    L: Count + Opening + Send + Sync,
     G: Gate + Sync,
     R: Threads + Wait + Sync,
 >(
@@ -100,7 +100,7 @@ fn named_run<
 // The stations take their seats, run, and rise again.
 fn served<
     D: Device + Send,
-    L: Ledger + Opening + Send + Sync,
+    L: Count + Opening + Send + Sync,
     G: Gate + Sync,
     R: Threads + Wait + Sync,
 >(

@@ -2,7 +2,7 @@
 ghost use Rattle.std.specs.Prelude.{◌≡◌, length, map, IfOk};
 ghost use Rattle.office_day.specs.Left.{left_of};
 
-use line_lock::{Ledger, Seat};
+use line_lock::{Count, Seat};
 use station_desk::{Desk, End, Station};
 use std::alloc::{AllocError, Global};
 
@@ -16,7 +16,7 @@ pub struct Left {
 }
 
 /// A station for each seat, with the desk at the same place.
-pub(crate) fn seated<L: Ledger>(
+pub(crate) fn seated<L: Count>(
     alloc: Global,
     seats: Vec<Seat<L>>,
     desks: Vec<Desk>,
@@ -39,7 +39,7 @@ pub(crate) fn seated<L: Ledger>(
 }
 
 /// The seats of the stations, and what the stations leave beside them.
-pub(crate) fn risen<L: Ledger>(
+pub(crate) fn risen<L: Count>(
     alloc: Global,
     stations: Vec<Station<L>>,
 ) -> Result<(Vec<Seat<L>>, Vec<Left>), AllocError>

@@ -23,7 +23,7 @@ pub use desk_end::Desk;
 pub use end::End;
 pub use feed::Feed;
 pub use gate::Gate;
-pub use line_lock::{Ledger, Office, Opening, Seat};
+pub use line_lock::{Count, Office, Opening, Seat};
 pub use messages::{Answer, Ask, Outcome};
 pub use reconciling::{Reconciled, reconcile};
 pub use rings::desk;

@@ -8,7 +8,7 @@ ghost use Rattle.station_desk.specs.Run.{HasRun, HaveRun};
 use crate::desk_end::Desk;
 use crate::end::End;
 use crate::gate::Gate;
-use line_lock::{Ledger, Office, Opening, Seat, WithinRefusal};
+use line_lock::{Count, Office, Opening, Seat, WithinRefusal};
 use sector_device::Device;
 use std::sync::Wait;
 use std::sync::atomic::{AtomicBool, Ordering};
@@ -18,7 +18,7 @@ use turn_clerk::TurnRefusal;
 /// A station: its seat in the office, its desk, and how its last run ended.
 #[derive(Drop)]
 #[derive_where(Debug)]
-pub struct Station<L: Ledger> {
+pub struct Station<L: Count> {
     /// Its right to take turns, and those that it took.
     pub seat: Seat<L>,
     /// Where its clients' requests come in and the answers go out.
@@ -28,7 +28,7 @@ pub struct Station<L: Ledger> {
 }
 
 // One round: a turn with all that is gathered, and an answer for each.
-fn round<D: Device, L: Ledger + Opening, G: Gate, R: Wait>(
+fn round<D: Device, L: Count + Opening, G: Gate, R: Wait>(
     rt: &R,
     office: &Office<D, L>,
     seat: &mut Seat<L>,
@@ -91,7 +91,7 @@ fn end_of(refusal: WithinRefusal) -> Option<End>
 }
 
 // Rounds of a station until it ends, and how it ends.
-fn work<D: Device, L: Ledger + Opening, G: Gate, R: Wait>(
+fn work<D: Device, L: Count + Opening, G: Gate, R: Wait>(
     rt: &R,
     office: &Office<D, L>,
     seat: &mut Seat<L>,
@@ -133,7 +133,7 @@ fn work<D: Device, L: Ledger + Opening, G: Gate, R: Wait>(
 }
 
 // The run of one station; one that ends otherwise than as Reached stops the others.
-fn run_station<D: Device, L: Ledger + Opening, G: Gate, R: Wait>(
+fn run_station<D: Device, L: Count + Opening, G: Gate, R: Wait>(
     rt: &R,
     office: &Office<D, L>,
     station: &mut Station<L>,
@@ -159,7 +159,7 @@ fn run_station<D: Device, L: Ledger + Opening, G: Gate, R: Wait>(
 /// stations run one after another. The call may wait.
 pub fn run_stations<
     D: Device + Send,
-    L: Ledger + Opening + Send + Sync,
+    L: Count + Opening + Send + Sync,
     G: Gate + Sync,
     R: Threads + Wait + Sync,
 >(rt: &R, office: &Office<D, L>, stations: &mut [Station<L>], gate: &G, moves: u64, tries: u64)

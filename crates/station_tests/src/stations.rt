@@ -13,7 +13,7 @@ mod requests;
 mod runs;
 mod tries;
 
-use line_lock::{Closing, Ledger, Office, Opening, Seat};
+use line_lock::{Closing, Count, Office, Opening, Seat};
 use sector_device::Device;
 use station_desk::{Answer, End, Entry, Feed, Gate, Reconciled, Station, desk, reconcile};
 use std::alloc::{AllocError, Global};
@@ -31,7 +31,7 @@ impl Gate for NoGate {
 }
 
 // A feed for each seat, and the stations that serve them.
-fn seated<L: Ledger>(
+fn seated<L: Count>(
     alloc: Global,
     seats: Vec<Seat<L>>,
 ) -> Result<(Vec<Feed>, Vec<Station<L>>), AllocError>
@@ -53,13 +53,13 @@ fn seated<L: Ledger>(
 
 // What a run leaves: what became of each feed's requests, how each station ended, and its seat.
 #[derive(Drop)]
-struct Remains<L: Ledger> {
+struct Remains<L: Count> {
     accounts: Vec<Reconciled>,
     ends: Vec<End>,
     seats: Vec<Seat<L>>,
 }
 
-fn reconciled<L: Ledger>(
+fn reconciled<L: Count>(
     alloc: Global,
     feeds: Vec<Feed>,
     stations: Vec<Station<L>>,
@@ -102,7 +102,7 @@ fn collect(feeds: &mut [Feed], station: usize) -> Option<Answer>
 }
 
 // Closes the office, or fails the test.
-fn closed<D: Device, L: Ledger + Opening>(
+fn closed<D: Device, L: Count + Opening>(
     rt: &impl Abort,
     office: Office<D, L>,
     seats: Vec<Seat<L>>,

@@ -4,7 +4,7 @@ ghost use Rattle.sector_device.specs.MemoryDevice.{memory_device_state};
 ghost use Rattle.line_lock.specs.Opening.{Names};
 
 use line_lock::{
-    Blank, Clerk, CloseRefusal, Closing, Ledger, Line, Office, OfficeWork, Opening, Seat,
+    Blank, Clerk, CloseRefusal, Closing, Count, Line, Office, OfficeWork, Opening, Seat,
     TurnRefusal, with_office,
 };
 use sector_device::MemoryDevice;
@@ -17,7 +17,7 @@ use test_scenes::{deposit, formatted, line};
 
 // What is done with an office of two stations.
 trait Scene {
-    fn play<L: Ledger + Opening, R: Abort + Wait>(
+    fn play<L: Count + Opening, R: Abort + Wait>(
         rt: &R,
         office: Office<MemoryDevice, L>,
         seats: Vec<Seat<L>>,
@@ -32,7 +32,7 @@ fn act<S: Scene, R: Abort + Wait>(rt: &R, alloc: Global) -> Result<(), Fail> {
     act_in::<S, Brand, R>(rt, alloc, device, line, blank)
 }
 
-fn act_in<S: Scene, L: Ledger + Opening, R: Abort + Wait>(
+fn act_in<S: Scene, L: Count + Opening, R: Abort + Wait>(
     rt: &R,
     alloc: Global,
     device: MemoryDevice,
@@ -48,7 +48,7 @@ fn act_in<S: Scene, L: Ledger + Opening, R: Abort + Wait>(
 }
 
 // Closes the office, which refuses, and hands out what it handed back.
-fn refused<L: Ledger + Opening>(
+fn refused<L: Count + Opening>(
     rt: &impl Abort,
     office: Office<MemoryDevice, L>,
     seats: Vec<Seat<L>>,
@@ -63,7 +63,7 @@ fn refused<L: Ledger + Opening>(
     }
 }
 
-fn closed<L: Ledger + Opening>(
+fn closed<L: Count + Opening>(
     rt: &impl Abort,
     office: Office<MemoryDevice, L>,
     seats: Vec<Seat<L>>,
@@ -75,7 +75,7 @@ fn closed<L: Ledger + Opening>(
 }
 
 // Turns 0 and 1 of an office.
-fn one_turn_each<L: Ledger + Opening, R: Abort + Wait>(
+fn one_turn_each<L: Count + Opening, R: Abort + Wait>(
     rt: &R,
     office: &Office<MemoryDevice, L>,
     bottom: &mut Seat<L>,
@@ -89,7 +89,7 @@ fn one_turn_each<L: Ledger + Opening, R: Abort + Wait>(
 struct OneSeatIsMissing;
 
 impl Scene for OneSeatIsMissing {
-    fn play<L: Ledger + Opening, R: Abort + Wait>(
+    fn play<L: Count + Opening, R: Abort + Wait>(
         rt: &R,
         office: Office<MemoryDevice, L>,
         mut seats: Vec<Seat<L>>,
@@ -122,7 +122,7 @@ impl OfficeWork<MemoryDevice> for NobodyTakesATurn {
 
     type Failure = AllocError;
 
-    fn work<L: Ledger + Opening + Send + Sync>(
+    fn work<L: Count + Opening + Send + Sync>(
         self,
         _office: &Office<MemoryDevice, L>,
         seats: Vec<Seat<L>>,
@@ -169,7 +169,7 @@ fn close_keeps_opening(rt: HostRuntime) -> Result<(), Fail> {
 struct NobodyCloses;
 
 impl Scene for NobodyCloses {
-    fn play<L: Ledger + Opening, R: Abort + Wait>(
+    fn play<L: Count + Opening, R: Abort + Wait>(
         rt: &R,
         office: Office<MemoryDevice, L>,
         mut seats: Vec<Seat<L>>,

@@ -1,7 +1,7 @@
 //! An office that is lent to a piece of work.
 
 use line_lock::{
-    Clerk, CloseRefusal, Closing, Ledger, Line, Office, OfficeRefusal, OfficeWork, OpenRefusal,
+    Clerk, CloseRefusal, Closing, Count, Line, Office, OfficeRefusal, OfficeWork, OpenRefusal,
     Opening, Seat, TurnRefusal, with_office,
 };
 use sector_device::MemoryDevice;
@@ -31,7 +31,7 @@ impl<'a, R: Wait> OfficeWork<MemoryDevice> for OneTurn<'a, R> {
 
     type Failure = TurnRefusal;
 
-    fn work<L: Ledger + Opening + Send + Sync>(
+    fn work<L: Count + Opening + Send + Sync>(
         self,
         office: &Office<MemoryDevice, L>,
         mut seats: Vec<Seat<L>>,

@@ -1,7 +1,7 @@
 //! Many turns in one office, and what its seats show then.
 
 use line_lock::{
-    Closing, Ledger, Office, OfficeWork, Opening, Seat, TurnRefusal, WithinRefusal, with_office,
+    Closing, Count, Office, OfficeWork, Opening, Seat, TurnRefusal, WithinRefusal, with_office,
 };
 use sector_device::MemoryDevice;
 use std::process::Abort;
@@ -25,7 +25,7 @@ impl<'a, R: Abort + Wait> OfficeWork<MemoryDevice> for SeventyThousandTurnsEach<
 
     type Failure = TurnRefusal;
 
-    fn work<L: Ledger + Opening + Send + Sync>(
+    fn work<L: Count + Opening + Send + Sync>(
         self,
         office: &Office<MemoryDevice, L>,
         mut seats: Vec<Seat<L>>,
@@ -47,7 +47,7 @@ impl<'a, R: Abort + Wait> OfficeWork<MemoryDevice> for SeventyThousandTurnsEach<
 }
 
 // The bottom station has the privilege, and five turns are long taken.
-fn has_no_more_turns<L: Ledger + Opening, R: Abort + Wait>(
+fn has_no_more_turns<L: Count + Opening, R: Abort + Wait>(
     rt: &R,
     office: &Office<MemoryDevice, L>,
     top: &mut Seat<L>,

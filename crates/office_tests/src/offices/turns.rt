@@ -1,7 +1,7 @@
 //! What a seat is answered.
 
 use line_lock::{
-    Clerk, Closing, Ledger, Office, OfficeWork, Opening, Rule, Seat, Turn, TurnRefusal,
+    Clerk, Closing, Count, Office, OfficeWork, Opening, Rule, Seat, Turn, TurnRefusal,
     WithinRefusal, with_office,
 };
 use sector_device::MemoryDevice;
@@ -21,7 +21,7 @@ impl<'a, R: Abort + Wait> OfficeWork<MemoryDevice> for OneTurnAfterTheOther<'a, 
 
     type Failure = WithinRefusal;
 
-    fn work<L: Ledger + Opening + Send + Sync>(
+    fn work<L: Count + Opening + Send + Sync>(
         self,
         office: &Office<MemoryDevice, L>,
         mut seats: Vec<Seat<L>>,
@@ -49,7 +49,7 @@ impl<'a, R: Abort + Wait> OfficeWork<MemoryDevice> for OneTurnAfterTheOther<'a, 
 const SHOWN: &str = "Office { .. } Seat { station: 1, turns: 1, denied: Some(2), reached: 1, .. }";
 
 // The seat is denied a turn, which would have had this index.
-fn is_denied<L: Ledger + Opening, R: Abort + Wait>(
+fn is_denied<L: Count + Opening, R: Abort + Wait>(
     rt: &R,
     office: &Office<MemoryDevice, L>,
     seat: &mut Seat<L>,
@@ -60,7 +60,7 @@ fn is_denied<L: Ledger + Opening, R: Abort + Wait>(
 }
 
 // The first turn is the bottom station's, which is denied a second one; before it the top station is denied.
-fn bottom_turn<L: Ledger + Opening, R: Abort + Wait>(
+fn bottom_turn<L: Count + Opening, R: Abort + Wait>(
     rt: &R,
     office: &Office<MemoryDevice, L>,
     bottom: &mut Seat<L>,
@@ -74,7 +74,7 @@ fn bottom_turn<L: Ledger + Opening, R: Abort + Wait>(
 }
 
 // The second turn is the top station's, where two are wanted and not where one is; it is denied a third one.
-fn top_turn<L: Ledger + Opening, R: Abort + Wait>(
+fn top_turn<L: Count + Opening, R: Abort + Wait>(
     rt: &R,
     office: &Office<MemoryDevice, L>,
     top: &mut Seat<L>,
@@ -87,7 +87,7 @@ fn top_turn<L: Ledger + Opening, R: Abort + Wait>(
     Ok(second)
 }
 
-fn is_denied_within_three<L: Ledger + Opening, R: Abort + Wait>(
+fn is_denied_within_three<L: Count + Opening, R: Abort + Wait>(
     rt: &R,
     office: &Office<MemoryDevice, L>,
     top: &mut Seat<L>,

@@ -7,7 +7,7 @@ ghost use Rattle.station_desk.specs.Rings.{StandsAt};
 ghost use Rattle.station_desk.specs.Run.{HaveRun};
 
 use super::{NoGate, Remains, TRIES, closed, reconciled, seated};
-use line_lock::{Blank, Closing, Ledger, Line, Office, Opening};
+use line_lock::{Blank, Closing, Count, Line, Office, Opening};
 use sector_device::{Device, MemoryDevice};
 use station_desk::{Answer, End, Feed, Outcome, Reconciled, Station, run_stations};
 use std::alloc::Global;
@@ -98,7 +98,7 @@ fn work_all<R: Wait + Threads + Sync>(rt: &R, clients: &mut [Client], ended: &At
 }
 
 // Runs the stations, and beside them the clients until the stations have ended.
-fn run_beside<D: Device + Send, L: Ledger + Opening + Send + Sync, R: Wait + Threads + Sync>(
+fn run_beside<D: Device + Send, L: Count + Opening + Send + Sync, R: Wait + Threads + Sync>(
     rt: &R,
     office: &Office<D, L>,
     stations: &mut [Station<L>],
@@ -164,7 +164,7 @@ fn posted(rt: &impl Abort, tally: Tally, account: &Reconciled) -> u64 {
     answered
 }
 
-fn many_moves<L: Ledger + Opening + Send + Sync, R: Abort + Wait + Threads + Sync>(
+fn many_moves<L: Count + Opening + Send + Sync, R: Abort + Wait + Threads + Sync>(
     rt: &R,
     alloc: Global,
     device: MemoryDevice,

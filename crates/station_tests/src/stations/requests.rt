@@ -5,7 +5,7 @@ ghost use Rattle.line_lock.specs.Opening.{Names};
 
 use super::{NoGate, Remains, TRIES, closed, collect, reconciled, seated, submit};
 use fault_injector::{OneFault, Op};
-use line_lock::{Blank, Closing, Ledger, Line, Office, Opening};
+use line_lock::{Blank, Closing, Count, Line, Office, Opening};
 use sector_device::{Device, MemoryDevice};
 use station_desk::{
     Answer, Ask, End, EntryRefusal, Outcome, Reconciled, TurnRefusal, run_stations,
@@ -37,7 +37,7 @@ fn all_answered(rt: &impl Abort, accounts: &[Reconciled]) {
 }
 
 // Three clients submit, and their stations make eight moves.
-fn eight_moves<L: Ledger + Opening + Send + Sync, R: Abort + Wait + Threads + Sync>(
+fn eight_moves<L: Count + Opening + Send + Sync, R: Abort + Wait + Threads + Sync>(
     rt: &R,
     alloc: Global,
     device: MemoryDevice,
@@ -98,7 +98,7 @@ fn first_undecided(rt: &impl Abort, accounts: &[Reconciled]) {
 }
 
 // The gate of the first batch is never written.
-fn a_failed_sync<L: Ledger + Opening + Send + Sync, R: Abort + Wait + Threads + Sync>(
+fn a_failed_sync<L: Count + Opening + Send + Sync, R: Abort + Wait + Threads + Sync>(
     rt: &R,
     alloc: Global,
     device: OneFault<MemoryDevice>,

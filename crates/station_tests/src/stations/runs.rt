@@ -2,7 +2,7 @@
 ghost use Rattle.sector_device.specs.MemoryDevice.{memory_device_state};
 ghost use Rattle.line_lock.specs.Opening.{Names};
 
-use line_lock::{Blank, Ledger, Line, Office, Opening, Seat, Turn};
+use line_lock::{Blank, Count, Line, Office, Opening, Seat, Turn};
 use sector_device::MemoryDevice;
 use station_desk::{Desk, End, Gate, Station, desk, run_stations};
 use std::alloc::{AllocError, Global};
@@ -43,7 +43,7 @@ pub(super) fn played<'a, G: Gate + Sync, R: Abort + Wait + Threads + Sync>(
     play_in::<G, Brand, R>(rt, alloc, device, line, blank, run)
 }
 
-fn play_in<'a, G: Gate + Sync, L: Ledger + Opening + Send + Sync, R: Abort + Wait + Threads + Sync>(
+fn play_in<'a, G: Gate + Sync, L: Count + Opening + Send + Sync, R: Abort + Wait + Threads + Sync>(
     rt: &R,
     alloc: Global,
     device: MemoryDevice,
@@ -73,7 +73,7 @@ fn play_in<'a, G: Gate + Sync, L: Ledger + Opening + Send + Sync, R: Abort + Wai
     left_by(alloc, stations)
 }
 
-fn left_by<L: Ledger>(alloc: Global, stations: Vec<Station<L>>) -> Result<Vec<Left>, Fail> {
+fn left_by<L: Count>(alloc: Global, stations: Vec<Station<L>>) -> Result<Vec<Left>, Fail> {
     let mut left = Vec::new(alloc);
     for Station { seat, end, .. } in stations {
         let mut turns = Vec::new(alloc);
