@@ -8,21 +8,22 @@ use std::process::Abort;
 use std::sync::Wait;
 use std::thread::Threads;
 
-// So many sectors are asked for, on a device in a file, unless they are refused.
-fn asks_for(rt: &impl Abort, alloc: Global, sectors: &str, wanted: Option<u64>) {
-    let words = ["console", "--device", "office.ledger", "--sectors", sectors];
-    let asked = options(alloc, &words).ok();
-    assert!(rt; asked.map(|options| options.sectors) == wanted, "{sectors}");
-    let device = asked.and_then(|options| options.device);
-    assert!(rt; device == wanted.map(|_| "office.ledger"), "{sectors}");
-}
-
+// The sectors that these words ask for, where they aren't refused.
 #[test]
 fn the_sectors_are_1_to_4000039(rt: HostRuntime) {
-    asks_for(&rt, rt.alloc(), "0", None);
-    asks_for(&rt, rt.alloc(), "1", Some(1));
-    asks_for(&rt, rt.alloc(), "4000039", Some(4_000_039));
-    asks_for(&rt, rt.alloc(), "4000040", None);
+    let table = [
+        ("0", None),
+        ("1", Some(1)),
+        ("4000039", Some(4_000_039)),
+        ("4000040", None),
+    ];
+    for (sectors, wanted) in table {
+        let words = ["console", "--device", "office.ledger", "--sectors", sectors];
+        let asked = options(rt.alloc(), &words).ok();
+        assert!(rt; asked.map(|options| options.sectors) == wanted, "{sectors}");
+        let device = asked.and_then(|options| options.device);
+        assert!(rt; device == wanted.map(|_| "office.ledger"), "{sectors}");
+    }
 }
 
 #[test]
