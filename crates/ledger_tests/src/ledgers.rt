@@ -4,7 +4,7 @@ use std::alloc::Global;
 use std::fmt::Write;
 use std::process::Abort;
 use std::test::Fail;
-use turn_ledger::{Batch, Entry, EntryRefusal, Ledger, TOTAL_LIMIT, Verdicts};
+use turn_ledger::{ALL_ACCOUNTS, Batch, Entry, EntryRefusal, Ledger, TOTAL_LIMIT, Verdicts};
 
 fn deposit(to: u32, amount: u64) -> Entry {
     Entry::Deposit {
@@ -31,14 +31,15 @@ fn transfer(from: u32, to: u32, amount: u64) -> Entry {
     }
 }
 
-// Accounts 1 and 2 hold something, 3 nothing, and there are no others but 1 to 64.
+// Accounts 1 and 2 hold something, 3 nothing, and there are no others but 1 to 1,024.
 fn holds_60_and_40(rt: &impl Abort, ledger: &Ledger) {
     for (account, balance) in [
         (1, Some(60)),
         (2, Some(40)),
         (3, Some(0)),
+        (1024, Some(0)),
         (0, None),
-        (65, None),
+        (1025, None),
     ] {
         assert!(rt; ledger.balance(account) == balance, "account {account}");
     }
@@ -65,17 +66,24 @@ fn an_entry_is_judged_after_the_accepted_ones_before_it(rt: HostRuntime) -> Resu
 }
 
 #[test]
-fn the_last_account_is_number_64(rt: HostRuntime) -> Result<(), Fail> {
+fn the_last_account_is_number_1024(rt: HostRuntime) -> Result<(), Fail> {
     let mut ledger = Ledger::new(rt.alloc())?;
-    let posted = (
-        ledger.post(&deposit(64, 7)),
-        ledger.post(&deposit(65, 7)),
-        ledger.post(&transfer(64, 65, 1)),
-    );
     let refused = Err(EntryRefusal::NoAccount);
-    assert!(rt; posted == (Ok(()), refused, refused));
-    let held = (ledger.balance(64), ledger.balance(65), ledger.total());
-    assert!(rt; held == (Some(7), None, 7));
+    let table = [
+        (deposit(1, 9), Ok(())),
+        (transfer(1, 64, 8), Ok(())),
+        (transfer(64, 65, 7), Ok(())),
+        (transfer(65, 1024, 6), Ok(())),
+        (transfer(1024, 1025, 5), refused),
+        (deposit(1025, 5), refused),
+    ];
+    for (entry, verdict) in table {
+        assert!(rt; ledger.post(&entry) == verdict, "{entry:?}");
+    }
+    let held = (ledger.balance(1), ledger.balance(64), ledger.balance(65));
+    assert!(rt; held == (Some(1), Some(1), Some(1)));
+    let held = (ledger.balance(1024), ledger.balance(1025), ledger.total());
+    assert!(rt; held == (Some(6), None, 9));
     Ok(())
 }
 
@@ -100,11 +108,11 @@ fn the_first_broken_rule_is_answered(rt: HostRuntime) -> Result<(), Fail> {
     let table = [
         (deposit(1, 0), EntryRefusal::ZeroAmount),
         (deposit(0, 1), EntryRefusal::NoAccount),
-        (withdraw(65, 1), EntryRefusal::NoAccount),
-        (transfer(3, 3, 1), EntryRefusal::SameAccount),
-        (transfer(65, 65, 0), EntryRefusal::ZeroAmount),
-        (transfer(65, 65, 1), EntryRefusal::NoAccount),
-        (withdraw(1, 1), EntryRefusal::Short),
+        (withdraw(1025, 1), EntryRefusal::NoAccount),
+        (transfer(65, 65, 1), EntryRefusal::SameAccount),
+        (transfer(1025, 1025, 0), EntryRefusal::ZeroAmount),
+        (transfer(1025, 1025, 1), EntryRefusal::NoAccount),
+        (withdraw(65, 1), EntryRefusal::Short),
     ];
     for (entry, refusal) in table {
         let said = (ledger.post(&entry), ledger.screen(&[entry]).get(0));
@@ -142,46 +150,88 @@ fn what_is_written_is_read_again(rt: HostRuntime) {
     }
 }
 
-// The ledger takes these balances or refuses them, and then has these and their sum.
-fn restores(
+// The ledger has these balances and these marks, and this total.
+fn has(
+    rt: &impl Abort,
+    ledger: &Ledger,
+    balances: &[u64; ALL_ACCOUNTS],
+    marks: &[bool; ALL_ACCOUNTS],
+    total: u64,
+) {
+    assert!(rt; (ledger.balances(), ledger.marks()) == (balances, marks));
+    assert!(rt; ledger.total() == total);
+}
+
+// The ledger takes these balances and these marks.
+fn takes(
     rt: &impl Abort,
     ledger: &mut Ledger,
-    balances: &[u64; 64],
-    taken: bool,
-    (held, total): (&[u64; 64], u64),
+    balances: &[u64; ALL_ACCOUNTS],
+    marks: &[bool; ALL_ACCOUNTS],
+    total: u64,
 ) {
-    assert!(rt; ledger.restore(balances) == taken);
-    assert!(rt; (ledger.balances(), ledger.total()) == (*held, total));
+    assert!(rt; ledger.restore(balances, marks));
+    has(rt, ledger, balances, marks, total);
 }
 
 #[test]
 fn balances_are_restored_up_to_the_limit(rt: HostRuntime) -> Result<(), Fail> {
+    let (none, mut marks) = ([false; ALL_ACCOUNTS], [false; ALL_ACCOUNTS]);
+    marks[64] = true;
     let mut ledger = Ledger::new(rt.alloc())?;
     assert!(rt; ledger.post(&deposit(3, 9)) == Ok(()));
-    let mut before = [0; 64];
+    let mut before = [0; ALL_ACCOUNTS];
     before[2] = 9;
-    assert!(rt; ledger.balances() == before);
 
-    let mut too_much = [0; 64];
-    (too_much[0], too_much[1]) = (TOTAL_LIMIT, TOTAL_LIMIT);
-    restores(&rt, &mut ledger, &too_much, false, (&before, 9));
+    let mut too_much = [0; ALL_ACCOUNTS];
+    (too_much[64], too_much[1023]) = (TOTAL_LIMIT, TOTAL_LIMIT);
+    assert!(rt; !ledger.restore(&too_much, &marks));
+    has(&rt, &ledger, &before, &none, 9);
 
-    let mut some = [0; 64];
-    (some[0], some[63]) = (5, 7);
-    restores(&rt, &mut ledger, &some, true, (&some, 12));
-    let held = (ledger.balance(1), ledger.balance(3), ledger.balance(64));
-    assert!(rt; held == (Some(5), Some(0), Some(7)));
+    let mut some = [0; ALL_ACCOUNTS];
+    (some[0], some[1023]) = (5, 7);
+    takes(&rt, &mut ledger, &some, &marks, 12);
 
-    let mut limit = [0; 64];
-    (limit[0], limit[1]) = (999_999_999_999_999_999, 1);
-    restores(
-        &rt,
-        &mut ledger,
-        &limit,
-        true,
-        (&limit, 1_000_000_000_000_000_000),
-    );
+    let mut limit = [0; ALL_ACCOUNTS];
+    (limit[64], limit[1023]) = (999_999_999_999_999_999, 1);
+    takes(&rt, &mut ledger, &limit, &none, 1_000_000_000_000_000_000);
     assert!(rt; ledger.post(&deposit(2, 1)) == Err(EntryRefusal::OverLimit));
+    Ok(())
+}
+
+// Accounts 1, 65 and 1,024 are sealed, and no others.
+fn three_are_sealed(rt: &impl Abort, ledger: &Ledger) {
+    for (account, mark) in [
+        (0, None),
+        (1, Some(true)),
+        (2, Some(false)),
+        (64, Some(false)),
+        (65, Some(true)),
+        (66, Some(false)),
+        (1023, Some(false)),
+        (1024, Some(true)),
+        (1025, None),
+    ] {
+        assert!(rt; ledger.is_sealed(account) == mark, "account {account}");
+    }
+    assert!(rt; ledger.marks().iter().filter(|mark| **mark).count() == 3);
+}
+
+#[test]
+fn entries_leave_the_marks(rt: HostRuntime) -> Result<(), Fail> {
+    let mut marks = [false; ALL_ACCOUNTS];
+    (marks[0], marks[64], marks[1023]) = (true, true, true);
+    let mut ledger = Ledger::new(rt.alloc())?;
+    assert!(rt; ledger.restore(&[0; ALL_ACCOUNTS], &marks));
+    for entry in [deposit(1, 100), transfer(1, 65, 40), withdraw(65, 10)] {
+        assert!(rt; ledger.post(&entry) == Ok(()), "{entry:?}");
+    }
+    three_are_sealed(&rt, &ledger);
+
+    let mut copy = Ledger::new(rt.alloc())?;
+    copy.copy_from(&ledger);
+    three_are_sealed(&rt, &copy);
+    assert!(rt; (copy.balance(1), copy.balance(65), copy.total()) == (Some(60), Some(30), 90));
     Ok(())
 }
 
@@ -249,7 +299,7 @@ fn an_example_of_a_turn(rt: HostRuntime) -> Result<(), Fail> {
         assert!(rt; ledger.post(entry) == Ok(()));
     }
     assert!(rt; in_words(rt.alloc(), &ledger)?.as_str() == "1: 60, 2: 40, ");
-    assert!(rt; ledger.accounts().count() == 64);
+    assert!(rt; ledger.accounts().count() == 1024);
     Ok(())
 }
 

@@ -11,7 +11,7 @@ use Rattle.turn_ledger.specs.declared.limits.TheConstants.{ACCOUNTS}
 use Rattle.turn_ledger.specs.declared.entry.Entry.{Entry}
 use Rattle.turn_ledger.specs.declared.entry.Entry.TheVariants.{Deposit, Withdraw, Transfer}
 use Rattle.turn_ledger.specs.State.{LedgerState, IsAccount, balance_of, IsLedger, credited, debited}
-use Rattle.turn_ledger.specs.StateLaws.{length-with_balance, balance_of-with_balance_same, balance_of-with_balance_other}
+use Rattle.turn_ledger.specs.StateLaws.{same_state, length-with_balance, balance_of-with_balance_same, balance_of-with_balance_other}
 use Rattle.turn_ledger.specs.Entry.{verdict, posted}
 use Rattle.turn_ledger.specs.EntryLaws.{passes-from_yes, length-posted, IsLedger-posted}
 use Rattle.turn_ledger.specs.Screen.{AreAccepted, posted_in_order}
@@ -108,20 +108,33 @@ balances_agree state entries k d l a h =
     ∙ omega (arith, sums)
     ∙ sym (get_or-map-range_with_len (balance_after state entries) 1 (length state.balances) k (k + 1) d within (omega arith))
 
-record_of : (first second : LedgerState) → first.balances ≡ second.balances → first ≡ second
-record_of first second same = let make : List ℕ → LedgerState = λ balances. record { balances = balances } in ap make same
+-- entries leave the marks
+pub sealed-posted : (state : LedgerState) (entry : Entry) → (posted state entry).sealed ≡ state.sealed
+unfolding posted
+sealed-posted state (Deposit to amount reference) = refl
+sealed-posted state (Withdraw from amount reference) = refl
+sealed-posted state (Transfer from to amount reference) = refl
+
+pub sealed-posted_in_order : (state : LedgerState) (entries : List Entry) → (posted_in_order state entries).sealed ≡ state.sealed
+sealed-posted_in_order state [] = refl
+sealed-posted_in_order state (entry ∷ entries) = sealed-posted_in_order (posted state entry) entries ∙ sealed-posted state entry
 
 pub posted_in_order-is-ledger_after : (state : LedgerState) (batches : List (List Entry)) → IsLedger state → AreAccepted state (entries_of batches) → posted_in_order state (entries_of batches) ≡ ledger_after state batches
 unfolding ledger_after
 posted_in_order-is-ledger_after state batches l a =
-    record_of (posted_in_order state (entries_of batches)) _
+    same_state (posted_in_order state (entries_of batches)) _
     (same_lists _ _
     (length-posted_in_order state (entries_of batches) ∙ sym (length-map-range_with_len (balance_after state (entries_of batches)) 1 (length state.balances)))
     (λ k d h. balances_agree state (entries_of batches) k d l a h))
+    (sealed-posted_in_order state (entries_of batches))
 
 -- a ledger after batches is a ledger
 pub IsLedger-ledger_after : (state : LedgerState) (batches : List (List Entry)) → IsLedger state → AreAccepted state (entries_of batches) → IsLedger (ledger_after state batches)
 IsLedger-ledger_after state batches l a = subst IsLedger (posted_in_order-is-ledger_after state batches l a) (IsLedger-posted_in_order state (entries_of batches) l a)
+
+pub sealed-ledger_after : (state : LedgerState) (batches : List (List Entry)) → (ledger_after state batches).sealed ≡ state.sealed
+unfolding ledger_after
+sealed-ledger_after state batches = refl
 
 -- one batch
 pub entries_of-one : (batch : List Entry) → entries_of (batch ∷ []) ≡ batch

@@ -4,11 +4,11 @@ use Rattle.arrayvec.specs.ArrayVec.{array_vec_len}
 use Rattle.turn_ledger.specs.declared.scratch.Scratch.{Scratch}
 use Rattle.turn_ledger.specs.declared.scratch.TheConstants.{CHANGES}
 use Rattle.turn_ledger.specs.State.{LedgerState}
-use Rattle.turn_ledger.specs.Scratch.{changed}
+use Rattle.turn_ledger.specs.Scratch.{changed_state}
 
--- the balances with the changes written over them
+-- the ledger's state with the changes written over it
 abbrev pub scratch_state : Scratch → LedgerState
-scratch_state scratch = record { balances = changed scratch.balances.now scratch.changes.items }
+scratch_state scratch = changed_state scratch.ledger.now scratch.changes.items
 
 -- how many changes it has room for
 abbrev pub room_of : Scratch → ℕ

@@ -1,10 +1,15 @@
 -- What a ledger holds.
-use Rattle.std.specs.Prelude.{◌≡◌, ℕ, ◌-◌, ◌+◌, ◌≤◌, Bool, ◌&&◌, nat_le, List, length, sum, replicate, slice_index, slice_set}
+use Rattle.std.specs.Prelude.{◌≡◌, ℕ, ◌-◌, ◌+◌, ◌≤◌, Bool, false, ◌&&◌, nat_le, List, length, sum, replicate, slice_index, slice_index_or, slice_set}
 use Rattle.turn_ledger.specs.declared.limits.TheConstants.{ACCOUNTS, TOTAL_LIMIT}
 
--- the balance of each account, account 1 first
+-- the balance of each account, account 1 first, and the mark of each: whether it is sealed
 pub record LedgerState : Type 0 where
   pub balances : List ℕ
+  pub sealed : List Bool
+
+-- the state with these balances and these marks
+abbrev pub state_of : List ℕ → List Bool → LedgerState
+state_of balances sealed = record { balances = balances; sealed = sealed }
 
 -- accounts are numbered from 1
 abbrev pub IsAccount : ℕ → Type 0
@@ -17,18 +22,23 @@ is_account account = nat_le 1 account && nat_le account ACCOUNTS
 abbrev pub balance_of : LedgerState → ℕ → ℕ
 balance_of state account = slice_index state.balances (account - 1)
 
+-- an account's mark
+abbrev pub mark_of : LedgerState → ℕ → Bool
+mark_of state account = slice_index_or state.sealed (account - 1) false
+
 -- what all accounts hold together
 abbrev pub total_of : LedgerState → ℕ
 total_of state = sum state.balances
 
--- a state of a ledger: it has all accounts, and they hold no more than the limit together
+-- a state of a ledger: it has all accounts and a mark for each, and they hold no more than the limit together
 pub record IsLedger (state : LedgerState) : Type 0 where
   pub accounts : length state.balances ≡ ACCOUNTS
+  pub marks : length state.sealed ≡ ACCOUNTS
   pub within_limit : total_of state ≤ TOTAL_LIMIT
 
--- every account at zero
+-- every account at zero, and none of them sealed
 unfoldable pub empty_ledger : LedgerState
-empty_ledger = record { balances = replicate ACCOUNTS 0 }
+empty_ledger = state_of (replicate ACCOUNTS 0) (replicate ACCOUNTS false)
 
 -- the state with another balance of one account
 abbrev pub with_balance : LedgerState → ℕ → ℕ → LedgerState

@@ -1,10 +1,15 @@
 -- What a change of one balance does to the balances and to their total.
-use Rattle.std.specs.Prelude.{◌≡◌, ◌≢◌, ℕ, ◌+◌, ◌-◌, ◌≤◌, length, refl}
+use Rattle.std.specs.Prelude.{◌≡◌, ◌≢◌, ℕ, ◌+◌, ◌-◌, ◌≤◌, Bool, false, List, length, replicate}
 use Rattle.std.proofs.Common.{◌∙◌, arith}
-use Rattle.std.proofs.lemmas.List.{length-set, get_or-set_same, get_or-set_other, get_or-replicate}
+use Rattle.std.proofs.lemmas.List.{length-set, length-replicate, get_or-set_same, get_or-set_other, get_or-replicate}
+use Rattle.std.proofs.lemmas.List.Folds.{sum_by-replicate}
 use Rattle.std.proofs.lemmas.List.Sums.{sum_by-set, get_or-le-sum_by}
 use Rattle.turn_ledger.specs.declared.limits.TheConstants.{ACCOUNTS, TOTAL_LIMIT}
-use Rattle.turn_ledger.specs.State.{LedgerState, IsAccount, balance_of, total_of, IsLedger, empty_ledger, with_balance, credited, debited}
+use Rattle.turn_ledger.specs.State.{LedgerState, IsAccount, balance_of, total_of, IsLedger, state_of, empty_ledger, with_balance, credited, debited}
+
+-- states with the same balances and the same marks are the same
+pub same_state : (first second : LedgerState) → first.balances ≡ second.balances → first.sealed ≡ second.sealed → first ≡ second
+same_state first second balances sealed i = state_of (balances i) (sealed i)
 
 pub length-with_balance : (state : LedgerState) (account balance : ℕ) → length (with_balance state account balance).balances ≡ length state.balances
 length-with_balance state account balance = length-set state.balances (account - 1) balance
@@ -33,19 +38,25 @@ total_of-debited state account amount size h enough = omega (arith, enough, tota
 pub IsLedger-credited : (state : LedgerState) (account amount : ℕ) → IsLedger state → IsAccount account → total_of state + amount ≤ TOTAL_LIMIT → IsLedger (credited state account amount)
 IsLedger-credited state account amount l h within = record {
   accounts = length-with_balance state account _ ∙ l.accounts;
+  marks = l.marks;
   within_limit = omega (arith, within, total_of-credited state account amount l.accounts h);
 }
 
 pub IsLedger-debited : (state : LedgerState) (account amount : ℕ) → IsLedger state → IsAccount account → amount ≤ balance_of state account → IsLedger (debited state account amount)
 IsLedger-debited state account amount l h enough = record {
   accounts = length-with_balance state account _ ∙ l.accounts;
+  marks = l.marks;
   within_limit = omega (arith, l.within_limit, total_of-debited state account amount l.accounts h enough);
 }
 
 -- the empty ledger
 pub length-empty_ledger : length empty_ledger.balances ≡ ACCOUNTS
 unfolding empty_ledger
-length-empty_ledger = refl
+length-empty_ledger = length-replicate {A = ℕ} ACCOUNTS 0
+
+pub length-sealed-empty_ledger : length empty_ledger.sealed ≡ ACCOUNTS
+unfolding empty_ledger
+length-sealed-empty_ledger = length-replicate ACCOUNTS false
 
 pub balance_of-empty_ledger : (account : ℕ) → IsAccount account → balance_of empty_ledger account ≡ 0
 unfolding empty_ledger
@@ -53,10 +64,16 @@ balance_of-empty_ledger account h = get_or-replicate ACCOUNTS (account - 1) 0 0 
 
 pub total_of-empty_ledger : total_of empty_ledger ≡ 0
 unfolding empty_ledger
-total_of-empty_ledger = refl
+total_of-empty_ledger = sum_by-replicate (λ (n : ℕ). n) ACCOUNTS 0
 
 pub IsLedger-empty_ledger : IsLedger empty_ledger
 IsLedger-empty_ledger = record {
   accounts = length-empty_ledger;
+  marks = length-sealed-empty_ledger;
   within_limit = omega (arith, total_of-empty_ledger);
 }
+
+-- balances that are all zero and marks that are all clear, one for each account
+pub is_empty_ledger : (balances : List ℕ) (sealed : List Bool) → balances ≡ replicate ACCOUNTS 0 → sealed ≡ replicate ACCOUNTS false → state_of balances sealed ≡ empty_ledger
+unfolding empty_ledger
+is_empty_ledger balances sealed zeros clear i = state_of (zeros i) (clear i)

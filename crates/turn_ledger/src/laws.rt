@@ -1,17 +1,20 @@
 //! Laws of the rules, each as the contract of a function that does nothing.
-ghost use Rattle.std.specs.Prelude.{◌≡◌, ◌↔◌, ◌≤◌, ℕ, length};
+ghost use Rattle.std.specs.Prelude.{◌≡◌, ◌↔◌, ◌≤◌, ℕ, List, length};
 ghost use Rattle.turn_ledger.specs.State.{LedgerState, IsAccount, IsLedger};
+ghost use Rattle.turn_ledger.specs.Entry.{posted};
+ghost use Rattle.turn_ledger.specs.Ledger.{ledger_after};
 ghost use Rattle.turn_ledger.specs.Place.{place_bytes};
 ghost use Rattle.turn_ledger.specs.declared.entry.Entry.{Entry};
 ghost use Rattle.turn_ledger.specs.Laws.{AYesMeansAllRules, PostingGivesTheSums, NothingIsLostOrMade, BatchesCompose, AcceptedEntriesArePosted, LaterEntriesSeeTheAccepted};
 
 use crate::{BATCH_LIMIT, TOTAL_LIMIT};
 
-/// The limits in numbers: accounts are numbered 1 to 64, all of them together hold at most 10^18, a batch has at most
-/// 15 entries, and an entry is written in 32 bytes.
+/// The limits in numbers: accounts are numbered 1 to 1,024, each has a balance and a mark, all of them together hold at
+/// most 10^18, a batch has at most 15 entries, and an entry is written in 32 bytes.
 pub fn limits_in_numbers()
-    ensures accounts { (account : ℕ) → IsAccount account ↔ ((1 ≤ account) × (account ≤ 64)) }
-    ensures balances { (state : LedgerState) → IsLedger state → length state.balances ≡ 64 }
+    ensures accounts { (account : ℕ) → IsAccount account ↔ ((1 ≤ account) × (account ≤ 1024)) }
+    ensures balances { (state : LedgerState) → IsLedger state → length state.balances ≡ 1024 }
+    ensures marks { (state : LedgerState) → IsLedger state → length state.sealed ≡ 1024 }
     ensures total { TOTAL_LIMIT ≡ 1000000000000000000 }
     ensures batch { BATCH_LIMIT ≡ 15 }
     ensures place { (entry : Entry) → length (place_bytes entry) ≡ 32 }
@@ -50,4 +53,12 @@ pub fn accepted_entries_are_posted()
 /// Later entries of a list are judged on the state that the accepted ones before them leave.
 pub fn later_entries_see_the_accepted()
     ensures { LaterEntriesSeeTheAccepted }
+{}
+
+/// Entries leave the marks: each account has after an entry, and after batches, the mark that it had.
+pub fn entries_leave_the_marks()
+    ensures entry { (state : LedgerState) (entry : Entry)
+        → (posted state entry).sealed ≡ state.sealed }
+    ensures batches { (state : LedgerState) (batches : List (List Entry))
+        → (ledger_after state batches).sealed ≡ state.sealed }
 {}

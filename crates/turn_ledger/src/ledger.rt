@@ -1,6 +1,6 @@
 //! The ledger.
-ghost use Rattle.std.specs.Prelude.{◌≡◌, ◌<◌, ◌≤◌, ◌↔◌, true, false, length, sum, IfOk, Ok, OnOk, OnErr, SomeIff};
-ghost use Rattle.turn_ledger.specs.State.{IsAccount, IsLedger, balance_of, total_of, empty_ledger};
+ghost use Rattle.std.specs.Prelude.{◌≡◌, ◌<◌, ◌≤◌, ◌↔◌, true, false, length, replicate, sum, IfOk, Ok, OnOk, OnErr, SomeIff};
+ghost use Rattle.turn_ledger.specs.State.{IsAccount, IsLedger, balance_of, mark_of, total_of, state_of, empty_ledger};
 ghost use Rattle.turn_ledger.specs.AccountList.{accounts_of};
 ghost use Rattle.turn_ledger.specs.Entry.{verdict, posted};
 ghost use Rattle.turn_ledger.specs.Screen.{screened};
@@ -8,66 +8,74 @@ ghost use Rattle.turn_ledger.specs.Screen.{screened};
 use crate::accounts::{Accounts, change_balances, is_account, post};
 use crate::scratch::Scratch;
 use crate::{
-    ACCOUNTS, ALL_ACCOUNTS, AccountBalances, BATCH_LIMIT, Entry, EntryRefusal, TOTAL_LIMIT,
-    Verdicts,
+    ALL_ACCOUNTS, AccountBalances, BATCH_LIMIT, Entry, EntryRefusal, TOTAL_LIMIT, Verdicts,
 };
 use std::alloc::{AllocError, Global};
 use std::marker::Model;
 
-/// The balances of all accounts, and their total.
+/// The balances of all accounts with their total, and a mark for each account.
 #[derive(Debug, Drop)]
 pub struct Ledger {
     balances: Vec<u64>,
+    // whether each account is sealed
+    sealed: Vec<bool>,
     total: u64,
 }
 
 impl Model for Ledger {
     ghost use Rattle.std.specs.Prelude.{◌≡◌, sum};
-    ghost use Rattle.turn_ledger.specs.State.{LedgerState, IsLedger};
+    ghost use Rattle.turn_ledger.specs.State.{LedgerState, IsLedger, state_of};
 
     ghost Value = { LedgerState };
 
-    ghost view = { λ ledger. record { balances = ledger.balances.items } };
+    ghost view = { λ ledger. state_of ledger.balances.items ledger.sealed.items };
 
-    ghost invariant = { λ ledger. IsLedger (record { balances = ledger.balances.items }) × (ledger.total ≡ sum ledger.balances.items) };
+    ghost invariant = { λ ledger. IsLedger (state_of ledger.balances.items ledger.sealed.items) × (ledger.total ≡ sum ledger.balances.items) };
 }
 
 impl Ledger {
-    /// The empty ledger: every account at zero. It fails only for want of memory.
-    #[tactic(auto, unfolding(crate::specs::State::empty_ledger))]
+    /// The empty ledger: every account at zero, and none of them sealed. It fails only for want of memory.
     pub fn new(alloc: Global) -> Result<Ledger, AllocError>
         ensures { IfOk result (λ ledger. ledger ≡ empty_ledger) }
     {
         Ok(Ledger {
-            balances: vec![in alloc; 0; ACCOUNTS as usize]?,
+            balances: zeros(alloc, ALL_ACCOUNTS)?,
+            sealed: clear_marks(alloc, ALL_ACCOUNTS)?,
             total: 0,
         })
     }
 
-    /// Takes over the balances of another ledger, and takes no memory.
+    /// Takes over the balances and the marks of another ledger, and takes no memory.
     pub fn copy_from(&mut self, other: &Ledger)
         ensures copied { self.new ≡ other.now }
         ensures ledger { IsLedger self.new }
     {
         self.balances.copy_from_slice(other.balances.as_slice());
+        self.sealed.copy_from_slice(other.sealed.as_slice());
         self.total = other.total;
     }
 
     /// The balances of all accounts, account 1 first.
-    pub fn balances(&self) -> [u64; ALL_ACCOUNTS]
-        ensures value { result ≡ self.now.balances }
+    pub fn balances(&self) -> &[u64; ALL_ACCOUNTS]
+        ensures value { result.now ≡ self.now.balances }
         ensures ledger { IsLedger self.now }
     {
-        let mut balances = [0; ALL_ACCOUNTS];
-        balances.copy_from_slice(self.balances.as_slice());
-        balances
+        whole_array(self.balances.as_slice())
     }
 
-    /// Takes over these balances, account 1 first, and takes no memory. Where they are over the limit together it answers
-    /// false, and the ledger stays as it is.
-    pub fn restore(&mut self, balances: &[u64; ALL_ACCOUNTS]) -> bool
+    /// The marks of all accounts, account 1 first: whether each is sealed.
+    pub fn marks(&self) -> &[bool; ALL_ACCOUNTS]
+        ensures value { result.now ≡ self.now.sealed }
+        ensures ledger { IsLedger self.now }
+    {
+        whole_array(self.sealed.as_slice())
+    }
+
+    /// Takes over these balances and these marks, account 1 first, and takes no memory. Where the balances are over the
+    /// limit together it answers false, and the ledger stays as it is.
+    pub fn restore(&mut self, balances: &[u64; ALL_ACCOUNTS], sealed: &[bool; ALL_ACCOUNTS]) -> bool
         ensures refused { (result ≡ false) ↔ (TOTAL_LIMIT < sum balances.now) }
-        ensures restored { result ≡ true → self.new ≡ record { balances = balances.now } }
+        ensures restored { result ≡ true → self.new ≡ state_of balances.now sealed.now }
         ensures stays { result ≡ false → self.new ≡ self.old }
         ensures ledger { IsLedger self.new }
     {
@@ -77,6 +85,7 @@ impl Ledger {
             return false;
         };
         self.balances.copy_from_slice(balances);
+        self.sealed.copy_from_slice(sealed);
         self.total = total;
         true
     }
@@ -87,6 +96,17 @@ impl Ledger {
     {
         if is_account(account) {
             Some(self.held_by(account))
+        } else {
+            None
+        }
+    }
+
+    /// Whether an account is sealed, or None where there is no account of this number.
+    pub fn is_sealed(&self, account: u32) -> Option<bool>
+        ensures { SomeIff result (IsAccount account) (mark_of self.now account) }
+    {
+        if is_account(account) {
+            Some(self.sealed[account as usize - 1])
         } else {
             None
         }
@@ -133,13 +153,35 @@ impl Ledger {
         ensures verdicts { result ≡ screened self.now entries.now }
         ensures ledger { IsLedger self.now }
     {
-        let mut scratch = Scratch::of(self.balances.as_slice(), self.total);
+        let mut scratch = Scratch::of(self);
         let mut verdicts = Verdicts::none();
         for entry in entries {
             verdicts.push(post(&mut scratch, entry));
         }
         verdicts
     }
+}
+
+// So many zeros.
+fn zeros(alloc: Global, count: usize) -> Result<Vec<u64>, AllocError>
+    ensures { IfOk result (λ balances. balances.items ≡ replicate count 0) }
+{
+    vec![in alloc; 0; count]
+}
+
+// So many marks of accounts that aren't sealed.
+fn clear_marks(alloc: Global, count: usize) -> Result<Vec<bool>, AllocError>
+    ensures { IfOk result (λ marks. marks.items ≡ replicate count false) }
+{
+    vec![in alloc; false; count]
+}
+
+// The slice as an array, all of it.
+fn whole_array<T, const N: usize>(items: &[T]) -> &[T; N]
+    requires { length items.now ≡ N }
+    ensures { result.now ≡ items.now }
+{
+    items.as_array().unwrap()
 }
 
 // What they are together, or None where that is over the limit.

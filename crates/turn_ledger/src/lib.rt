@@ -1,7 +1,8 @@
 //! A ledger of numbered accounts, and the rules of its entries.
 //!
-//! Accounts are numbered from 1 to [`ACCOUNTS`] and each has a balance. What all accounts hold
-//! together never exceeds [`TOTAL_LIMIT`]. An [`Entry`] is a deposit, a withdrawal or a transfer;
+//! Accounts are numbered from 1 to [`ACCOUNTS`], and each has a balance and a mark, which says
+//! whether it is sealed. No entry sets a mark or looks at one. What all accounts hold together
+//! never exceeds [`TOTAL_LIMIT`]. An [`Entry`] is a deposit, a withdrawal or a transfer;
 //! it is checked against the rules in their order, and either refused with the first
 //! [`EntryRefusal`] that holds, which changes nothing, or posted.
 //!
@@ -24,7 +25,7 @@ pub use account_balances::AccountBalances;
 pub use batch::Batch;
 pub use entry::Entry;
 pub use laws::{
-    a_yes_means_all_rules, accepted_entries_are_posted, batches_compose,
+    a_yes_means_all_rules, accepted_entries_are_posted, batches_compose, entries_leave_the_marks,
     later_entries_see_the_accepted, limits_in_numbers, nothing_is_lost_or_made,
     posting_gives_the_sums,
 };

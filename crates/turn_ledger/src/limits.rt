@@ -1,10 +1,10 @@
 //! How many accounts, how much money and how many entries there may be.
 
 /// The number of accounts. They are numbered from 1 to this.
-pub const ACCOUNTS: u32 = 64;
+pub const ACCOUNTS: u32 = 1024;
 
-/// As many, as the length of an array of all balances.
-pub const ALL_ACCOUNTS: usize = 64;
+/// As many, as the length of an array with an item for each account.
+pub const ALL_ACCOUNTS: usize = 1024;
 
 /// The most that all accounts together may hold, in the unit of amounts: 10^18.
 pub const TOTAL_LIMIT: u64 = 1_000_000_000_000_000_000;

@@ -2,8 +2,8 @@
 ghost use Rattle.std.specs.Prelude.{◌≡◌, ◌<◌, [], length, slice_index};
 ghost use Rattle.turn_ledger.specs.Scratch.{changed, IsKept};
 
-use crate::BATCH_LIMIT;
 use crate::accounts::Accounts;
+use crate::{BATCH_LIMIT, Ledger};
 use arrayvec::ArrayVec;
 
 /// The most changes of one batch: an entry changes two balances at most.
@@ -16,26 +16,25 @@ pub(crate) struct Change {
     balance: u64,
 }
 
-/// Balances, and what was written over them. It is as large as the changes of one batch, however
+/// A ledger, and what was written over its balances. It is as large as the changes of one batch, however
 /// many accounts there are.
 #[derive(Drop)]
 pub(crate) struct Scratch<'a> {
-    balances: &'a [u64],
+    ledger: &'a Ledger,
     total: u64,
     changes: ArrayVec<Change, CHANGES>,
-    ghost kept: { IsKept balances.now total changes.items },
+    ghost kept: { IsKept ledger.now total changes.items },
 }
 
 impl<'a> Scratch<'a> {
     /// Nothing written yet.
-    pub(crate) fn of(balances: &'a [u64], total: u64) -> Scratch<'a>
-        requires { IsKept balances.now total [] }
-        ensures balances { result.balances.now ≡ balances.now }
+    pub(crate) fn of(ledger: &'a Ledger) -> Scratch<'a>
+        ensures ledger { result.ledger.now ≡ ledger.now }
         ensures changes { result.changes.items ≡ [] }
     {
         Scratch {
-            balances,
-            total,
+            ledger,
+            total: ledger.total(),
             changes: ArrayVec::new(),
         }
     }
@@ -65,7 +64,11 @@ impl Accounts for Scratch<'_> {
 
     #[inline]
     fn held_by(&self, account: u32) -> u64 {
-        latest(self.balances, self.changes.as_slice(), account as usize - 1)
+        latest(
+            self.ledger.balances(),
+            self.changes.as_slice(),
+            account as usize - 1,
+        )
     }
 
     #[inline]
