@@ -1,7 +1,6 @@
 ghost use Rattle.std.specs.Prelude.{◌≡◌};
 
 use gate_journal::{JournalCause, JournalRefusal};
-use sector_device::DeviceFault;
 use thiserror::Error;
 
 /// Why a device was not opened as a ledger. Want of memory is answered before any device call; of the others the first
@@ -14,7 +13,7 @@ pub enum OpenRefusal {
     /// The first sector doesn't begin with `TLDG`, or it is of this layout and no superblock.
     #[error("the device is not formatted")]
     Unformatted,
-    /// The journal has another layout than 2: this one.
+    /// The journal has another layout than 3: this one.
     #[error("the device has version {0}")]
     Version(u16),
     /// The superblock tells of no slots or of more than 1,000,000, or the device has too few sectors for them.
@@ -42,7 +41,7 @@ pub enum Cause {
     #[error("the slot is open behind a closed one")]
     Tail,
     /// No bank's gate is open, the head of an open one isn't sound, both are open with the same epoch, or the live one's
-    /// balances are over the limit together.
+    /// balances are over the limit together, or behind its marks stands a byte that isn't zero.
     #[error("no bank is live, or the one of this number isn't sound")]
     Bank,
     /// The bytes at this place of the record are those of no entry.
@@ -51,16 +50,6 @@ pub enum Cause {
     /// The entry at this place of the record has no yes on the ledger before it.
     #[error("the entry at place {0} breaks a rule of the ledger")]
     Verdict(u8),
-}
-
-impl From<DeviceFault> for OpenRefusal {
-    ghost use Rattle.journal_recovery.specs.declared.refusals.OpenRefusal.TheVariants.{Device};
-
-    ghost from_gives = { λ _ refusal. refusal ≡ Device };
-
-    fn from(_: DeviceFault) -> Self {
-        OpenRefusal::Device
-    }
 }
 
 impl From<JournalCause> for Cause {
