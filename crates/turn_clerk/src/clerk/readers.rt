@@ -1,7 +1,7 @@
 //! What a clerk tells of itself.
 ghost use Rattle.std.specs.Prelude.{◌≡◌, false, SomeIff};
 ghost use Rattle.sweep_auditor.specs.Run.{IsRun};
-ghost use Rattle.turn_ledger.specs.State.{IsAccount, balance_of};
+ghost use Rattle.turn_ledger.specs.State.{IsAccount, balance_of, mark_of};
 ghost use Rattle.turn_clerk.specs.History.{moves_of};
 ghost use Rattle.turn_clerk.specs.Clerk.{KeepsHistory};
 
@@ -42,6 +42,13 @@ impl<D: Device> Clerk<D> {
         ensures { SomeIff result (IsAccount account) (balance_of self.now.opening.ledger account) }
     {
         self.opening_ledger.balance(account)
+    }
+
+    /// Whether an account was sealed at the opening, or None where there is no account of this number.
+    pub fn opening_sealed(&self, account: u32) -> Option<bool>
+        ensures { SomeIff result (IsAccount account) (mark_of self.now.opening.ledger account) }
+    {
+        self.opening_ledger.is_sealed(account)
     }
 
     /// The sequence number that was the next one at the opening.
