@@ -25,7 +25,7 @@ The script comes on standard input, one command a line, and is read to its end b
   balances                    show the accounts and their total
   crash                       cut the power
 What is refused, as a turn of a station that has no privilege, is told on a line of its own, and the script goes on.
-Stations are numbered from 0, accounts from 1 to 64. Lines that begin with # are comments.
+Stations are numbered from 0, accounts from 1 to 1024. Lines that begin with # are comments.
 
 An example script, which shows that a deposit survives a power loss:
   format 4
