@@ -1,11 +1,13 @@
-//! What tests begin with: entries, a line from its digits, an empty journal in memory, and the bytes of a bank's head. It is
-//! for the crates of tests alone, and has no tests of its own.
+//! What tests begin with: entries, a line from its digits, an empty journal in memory, where its sectors stand, and the bytes
+//! of a bank's head. It is for the crates of tests alone, and has no tests of its own.
 #![tactic(auto)]
 
 mod devices;
 mod entries;
 mod lines;
+mod places;
 
 pub use devices::{formatted, head};
 pub use entries::{deposit, transfer, withdrawal};
 pub use lines::line;
+pub use places::{BankAt, FIRST, second, sectors_needed};
