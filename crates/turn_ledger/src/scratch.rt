@@ -1,6 +1,8 @@
 //! The balances that the screening of a batch changes, beside the ledger that stays as it is.
-ghost use Rattle.std.specs.Prelude.{◌≡◌, ◌<◌, [], length, slice_index};
-ghost use Rattle.turn_ledger.specs.Scratch.{changed, IsKept};
+ghost use Rattle.std.specs.Prelude.{◌≡◌, [], length};
+ghost use Rattle.turn_ledger.specs.State.{IsAccount, balance_of};
+ghost use Rattle.turn_ledger.specs.Scratch.{changed_state, IsKept};
+ghost use Rattle.turn_ledger.specs.declared.limits.TheConstants.{ACCOUNTS};
 
 use crate::accounts::Accounts;
 use crate::{BATCH_LIMIT, Ledger};
@@ -40,13 +42,15 @@ impl<'a> Scratch<'a> {
     }
 }
 
-/// What stands at a place after the changes.
+/// What an account of the ledger holds after the changes.
 #[inline]
-fn latest(balances: &[u64], changes: &[Change], place: usize) -> u64
-    requires { place < length balances.now }
-    ensures { result ≡ slice_index (changed balances.now changes.now) place }
+fn latest(ledger: &Ledger, changes: &[Change], account: u32) -> u64
+    requires account { IsAccount account }
+    requires balances { length ledger.now.balances ≡ ACCOUNTS }
+    ensures { result ≡ balance_of (changed_state ledger.now changes.now) account }
 {
-    let mut balance = balances[place];
+    let place = account as usize - 1;
+    let mut balance = ledger.held_by(account);
     for change in changes {
         if change.place == place {
             balance = change.balance;
@@ -64,11 +68,7 @@ impl Accounts for Scratch<'_> {
 
     #[inline]
     fn held_by(&self, account: u32) -> u64 {
-        latest(
-            self.ledger.balances(),
-            self.changes.as_slice(),
-            account as usize - 1,
-        )
+        latest(self.ledger, self.changes.as_slice(), account)
     }
 
     #[inline]
