@@ -4,6 +4,7 @@
     python3 checks/wrong_bodies CRATE ..          those of these crates
     python3 checks/wrong_bodies CRATE/NAME ..     these alone: a minute, once the libraries below are built
     --built TREE    take the libraries that were built in this tree, and build none
+    --beside LOG    they are being built there by `rt ci`, which writes this: each crate is tried once those below it are proved
     --page          write docs/WRONG_BODIES.md of what became of all of them
     --itself        try the edits beside this program, of which `cases/expected` says what must become
 
@@ -20,6 +21,7 @@ from pathlib import Path
 import page
 from edits import BadEdit, edits_below, read_edit
 from lanes import try_all
+from progress import Progress
 from toolchain import build_libraries
 from trials import Aimed, Outcome, aimed_at, batches
 
@@ -30,6 +32,7 @@ def words_given():
     parser = argparse.ArgumentParser(prog="python3 checks/wrong_bodies", usage=__doc__)
     parser.add_argument("names", nargs="*")
     parser.add_argument("--built", type=Path)
+    parser.add_argument("--beside", type=Path)
     parser.add_argument("--page", action="store_true")
     parser.add_argument("--itself", action="store_true")
     return parser.parse_args()
@@ -55,8 +58,8 @@ def tell(outcome):
         print(f"{one}: {outcome.told} ({outcome.seconds:.0f} s). Alone: {alone}", flush=True)
 
 
-def try_edits(edits, tree):
-    """The outcomes of edits of a tree."""
+def try_edits(edits, tree, progress):
+    """The outcomes of edits of a tree whose libraries are built as far as the progress tells."""
     aimed, outcomes = [], []
 
     def note(outcome):
@@ -68,16 +71,16 @@ def try_edits(edits, tree):
             aimed.append(aimed_at(edit, tree))
         except BadEdit as bad:
             note(Outcome(Aimed(edit, (), ()), False, f"BAD EDIT: {bad}", 0.0))
-    try_all(batches(aimed, tree), tree, note)
+    try_all(batches(aimed, tree), tree, progress, note)
     return outcomes
 
 
-def try_itself(tree):
+def try_itself(tree, progress):
     """Whether what becomes of each case is what is expected of it."""
     cases = [read_edit(path, path.parent.name) for path in sorted(CASES.glob("*/*.edit"))]
     expected = dict(line.split(": ", 1) for line in (CASES / "expected").read_text().splitlines())
     build_unless_built(cases, tree)
-    told = {str(outcome.aimed.edit): outcome for outcome in try_edits(cases, tree or Path.cwd())}
+    told = {str(outcome.aimed.edit): outcome for outcome in try_edits(cases, tree or Path.cwd(), progress)}
     wrong = []
     for name, beginning in expected.items():
         outcome = told.pop(name)
@@ -97,13 +100,14 @@ def build_unless_built(edits, tree):
 def main():
     words = words_given()
     tree = words.built and words.built.resolve()
+    progress = Progress(words.beside and words.beside.resolve())
     os.chdir(Path(__file__).resolve().parent.parent.parent)
     if words.itself:
-        sys.exit(0 if try_itself(tree) else 1)
+        sys.exit(0 if try_itself(tree, progress) else 1)
     start = time.monotonic()
     edits = wanted(edits_below("crates"), words.names)
     build_unless_built(edits, tree)
-    outcomes = try_edits(edits, tree or Path.cwd())
+    outcomes = try_edits(edits, tree or Path.cwd(), progress)
     refused = [outcome for outcome in outcomes if outcome.is_refused]
     whole = sorted(str(outcome.aimed.edit) for outcome in outcomes if outcome.by_whole_crate)
     if whole:

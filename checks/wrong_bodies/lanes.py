@@ -3,6 +3,7 @@ import os
 import subprocess
 import tempfile
 import threading
+import time
 from collections import defaultdict
 from concurrent.futures import ThreadPoolExecutor
 from contextlib import contextmanager
@@ -13,6 +14,9 @@ from trials import Trial
 
 # What a check takes at most, in bytes.
 MEMORY_OF_A_CHECK = 2_000_000_000
+
+# How long to wait, in seconds, before looking again whether a library is built.
+PAUSE = 2
 
 
 def lanes():
@@ -40,29 +44,38 @@ def room_for_checks():
 
 class Queue:
     """Batches by crate. Whoever takes one gets its own crate's next, whose work it has kept, or one of the crate that has
-    most left, the crates that stand on most first."""
+    most left, the crates that stand on most first, among those whose libraries are built."""
 
-    def __init__(self, batches, tree):
-        self.left, self.lock, self.tree = defaultdict(list), threading.Lock(), tree
+    def __init__(self, batches, tree, progress):
+        self.left, self.lock, self.tree, self.progress = defaultdict(list), threading.Lock(), tree, progress
         for batch in batches:
             self.left[batch.crate].append(batch)
 
     def take(self, crate):
-        """The next batch, best of this crate, or None at the end."""
-        with self.lock:
-            if not self.left.get(crate):
-                crate = max(self.left, key=lambda it: (len(self.left[it]), len(below(self.tree, it))), default=None)
-            if crate is None:
-                return None
-            batch = self.left[crate].pop(0)
-            if not self.left[crate]:
-                del self.left[crate]
-            return batch
+        """The next batch, best of this crate, or None at the end. It waits until there is one whose libraries are built."""
+        while self.left:
+            with self.lock:
+                if batch := self.ready(crate):
+                    return batch
+            time.sleep(PAUSE)
+        return None
+
+    def ready(self, crate):
+        """A batch that can be tried now, taken away, or None."""
+        if not self.left.get(crate):
+            built = [it for it in self.left if self.progress.has_built(below(self.tree, it))]
+            crate = max(built, key=lambda it: (len(self.left[it]), len(below(self.tree, it))), default=None)
+        if crate is None:
+            return None
+        batch = self.left[crate].pop(0)
+        if not self.left[crate]:
+            del self.left[crate]
+        return batch
 
 
-def try_all(batches, tree, tell):
+def try_all(batches, tree, progress, tell):
     """Tries all batches, and tells each outcome as it comes."""
-    queue, telling = Queue(batches, tree), threading.Lock()
+    queue, telling = Queue(batches, tree, progress), threading.Lock()
     with room_for_checks() as (room, group):
 
         def lane(number):
