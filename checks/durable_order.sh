@@ -20,7 +20,7 @@ work=$(mktemp -d "${BENCH_FOLDER:-/var/tmp}/durable_order.XXXXXX")
 trap 'rm -rf "$work"' EXIT
 
 turns=200
-sectors=$((4 * turns + 7))
+sectors=$((4 * turns + 39))
 writing=write,writev,pwrite64,pwritev,pwritev2,ftruncate,fallocate,copy_file_range,sendfile,splice
 syncing=fsync,fdatasync,sync_file_range,msync,sync,syncfs
 opening=open,openat,openat2,creat,close,flock,fcntl,read,readv,pread64,preadv,$writing,$syncing

@@ -20,9 +20,9 @@ example() {
     echo "$name: prints examples/$name.out"
 }
 
-example first_day --device "$work/ledger" --sectors 23
-example second_day --device "$work/ledger" --sectors 23
-bash examples/damage.sh "$work/ledger" $((4 * 512))
+example first_day --device "$work/ledger" --sectors 55
+example second_day --device "$work/ledger" --sectors 55
+bash examples/damage.sh "$work/ledger" $((20 * 512))
 example damaged_file --device "$work/ledger"
 example full_bank
 example healing

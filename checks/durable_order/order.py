@@ -35,6 +35,10 @@ class Step:
         return is_whole and call.result == length and call.data[at:].startswith(self.begin)
 
 
+# A snapshot has sixteen sectors of balances and one of marks; before it stand a bank's gate and its head.
+SNAPSHOT = 17
+FRONT = 2 + SNAPSHOT
+
 OPEN = b"\xa5" + bytes(SECTOR - 1)
 CLOSED = bytes(SECTOR)
 SYNC = Step("fdatasync")
@@ -46,19 +50,20 @@ def checkpoint(front, slots, epoch, base):
     if epoch > 1:
         yield from (Step("pwrite64", front, CLOSED), SYNC)
     yield Step("pwrite64", front + 1, b"TLBK" + bytes(4) + epoch.to_bytes(8) + base.to_bytes(8))
-    yield Step("pwrite64", front + 2)
+    for sector in range(SNAPSHOT):
+        yield Step("pwrite64", front + 2 + sector)
     for slot in range(slots):
-        yield Step("pwrite64", front + 4 + 2 * slot, CLOSED)
+        yield Step("pwrite64", front + FRONT + 2 * slot + 1, CLOSED)
     yield from (SYNC, Step("pwrite64", front, OPEN), SYNC)
 
 
 def steps(slots, sequence):
     """The calls that make the record of this sequence durable, where each bank has so many slots."""
     epoch, slot = divmod(sequence, slots)
-    front = 1 + epoch % 2 * (3 + 2 * slots)
+    front = 1 + epoch % 2 * (FRONT + 2 * slots)
     if epoch > 0 and slot == 0:
         yield from checkpoint(front, slots, epoch, sequence)
-    body = front + 3 + 2 * slot
+    body = front + FRONT + 2 * slot
     yield from (Step("pwrite64", body, b"TLB1"), SYNC, Step("pwrite64", body + 1, OPEN), SYNC)
 
 

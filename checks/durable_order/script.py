@@ -13,8 +13,8 @@ def lines(turns):
     for number in range(turns):
         station = SWEEP[number % 4]
         if number % 4 != 3:
-            yield f"post {station} deposit {number % 64 + 1} {number + 1}"
-        yield f"post {station} withdraw 64 1000000"
+            yield f"post {station} deposit {number % 1024 + 1} {number + 1}"
+        yield f"post {station} withdraw 1024 1000000"
         yield f"turn {station}"
 
 

@@ -82,7 +82,7 @@ def main():
     program, path = sys.argv[1], pathlib.Path(sys.argv[2])
     count, seed = int(sys.argv[3]), int(sys.argv[4])
     print(f"seed {seed}: {count} rounds on one file, each of {TURNS} turns with 6 entries, ended at a random moment")
-    run(program, path, f"format {SLOTS}\n".encode(), "--sectors", str(4 * SLOTS + 7))
+    run(program, path, f"format {SLOTS}\n".encode(), "--sectors", str(4 * SLOTS + 39))
     try:
         outcomes, outside = all_rounds(program, path, count, random.Random(seed))
         require_refused(program, path)

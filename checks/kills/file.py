@@ -4,6 +4,9 @@ import dataclasses
 SECTOR = 512
 PLACE = 32
 
+# The sectors of a bank before its slots.
+FRONT = 19
+
 
 @dataclasses.dataclass
 class Bank:
@@ -21,7 +24,7 @@ def slots_of(image):
 
 def bank_of(image, number):
     """The first bank, or the second one."""
-    at = SECTOR * (1 + number * (3 + 2 * slots_of(image)))
+    at = SECTOR * (1 + number * (FRONT + 2 * slots_of(image)))
     epoch, base = (int.from_bytes(image[at + SECTOR + place:at + SECTOR + place + 8]) for place in (8, 16))
     return Bank(at, image[at] == 0xA5, epoch, base)
 
@@ -36,7 +39,7 @@ def banks(image):
 
 def body_at(bank, sequence):
     """Where the body begins that has this sequence in the bank."""
-    return bank.at + SECTOR * (3 + 2 * (sequence - bank.base))
+    return bank.at + SECTOR * (FRONT + 2 * (sequence - bank.base))
 
 
 def under_way(path, sequence):

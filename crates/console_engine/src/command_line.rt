@@ -12,7 +12,7 @@ use std::alloc::Global;
 
 const HELP: &str = "\
 The script comes on standard input, one command a line, and is read to its end before its first line runs:
-  format K                    make the device an empty journal of two banks with K slots each, which takes 4K + 7 sectors;
+  format K                    make the device an empty journal of two banks with K slots each, which takes 4K + 39 sectors;
                               what is there is erased
   open J XBITS UPBITS         recover the ledger, with a line of J stations
   post S deposit A M          keep an entry for station S: M units to account A

@@ -11,8 +11,8 @@ fn each_account_that_holds_something_is_listed(rt: HostRuntime) -> Result<(), Fa
     prints(
         &rt,
         rt.alloc(),
-        "format 1\nopen 2 00 10\npost 0 deposit 1 1\npost 0 deposit 2 5\npost 0 withdraw 2 5\npost 0 deposit 64 3\nturn 0\nbalances\n",
-        "formatted 1\nopened 2 next 0 total 0\nheld 0 1\nheld 0 2\nheld 0 3\nheld 0 4\nturn 0 station 0 Bottom posted 0\nentry 0 ok\nentry 1 ok\nentry 2 ok\nentry 3 ok\naccount 1 1\naccount 64 3\ntotal 4\n",
+        "format 1\nopen 2 00 10\npost 0 deposit 1 1\npost 0 deposit 2 5\npost 0 withdraw 2 5\npost 0 deposit 1024 3\nturn 0\nbalances\n",
+        "formatted 1\nopened 2 next 0 total 0\nheld 0 1\nheld 0 2\nheld 0 3\nheld 0 4\nturn 0 station 0 Bottom posted 0\nentry 0 ok\nentry 1 ok\nentry 2 ok\nentry 3 ok\naccount 1 1\naccount 1024 3\ntotal 4\n",
     )
 }
 

@@ -79,8 +79,8 @@ fn refusals_before_an_office_is_open(rt: HostRuntime) -> Result<(), Fail> {
     prints(
         &rt,
         rt.alloc(),
-        "turn 0\npost 9 deposit 0 0\nbits\nbalances\ncrash\nformat 1000001\nformat 15\nopen 1 0 1\nopen 65 0 1\nopen 3 00 100\nopen 3 000 10\nopen 2 00 10\nformat 14\n",
-        "refused NoOffice\nrefused NoOffice\nrefused NoOffice\nrefused NoOffice\ncrashed\nrefused TooManySlots\nrefused TooSmall\nrefused Stations\nrefused Stations\nrefused Length\nrefused Length\nrefused Unformatted\nformatted 14\n",
+        "turn 0\npost 9 deposit 0 0\nbits\nbalances\ncrash\nformat 1000001\nformat 7\nopen 1 0 1\nopen 65 0 1\nopen 3 00 100\nopen 3 000 10\nopen 2 00 10\nformat 6\n",
+        "refused NoOffice\nrefused NoOffice\nrefused NoOffice\nrefused NoOffice\ncrashed\nrefused TooManySlots\nrefused TooSmall\nrefused Stations\nrefused Stations\nrefused Length\nrefused Length\nrefused Unformatted\nformatted 6\n",
     )
 }
 
@@ -130,7 +130,7 @@ fn each_verdict_is_printed(rt: HostRuntime) -> Result<(), Fail> {
     prints(
         &rt,
         rt.alloc(),
-        "format 1\nopen 2 00 10\npost 0 deposit 1 0\npost 0 deposit 65 1\npost 0 transfer 1 1 5\npost 0 withdraw 1 1\npost 0 deposit 1 1000000000000000001\npost 0 deposit 64 5\nturn 0\n",
+        "format 1\nopen 2 00 10\npost 0 deposit 1 0\npost 0 deposit 1025 1\npost 0 transfer 1 1 5\npost 0 withdraw 1 1\npost 0 deposit 1 1000000000000000001\npost 0 deposit 1024 5\nturn 0\n",
         "formatted 1\nopened 2 next 0 total 0\nheld 0 1\nheld 0 2\nheld 0 3\nheld 0 4\nheld 0 5\nheld 0 6\nturn 0 station 0 Bottom posted 0\nentry 0 ZeroAmount\nentry 1 NoAccount\nentry 2 SameAccount\nentry 3 Short\nentry 4 OverLimit\nentry 5 ok\n",
     )
 }
@@ -189,8 +189,8 @@ fn the_program_tells_how_it_ended(rt: HostRuntime) {
         ("format x", (1, "", "line 1: bad number\n")),
         ("open 2 0x 10", (1, "", "line 1: bad bits\n")),
         (
-            "format 14\nformat 15",
-            (0, "formatted 14\nrefused TooSmall\n", ""),
+            "format 6\nformat 7",
+            (0, "formatted 6\nrefused TooSmall\n", ""),
         ),
     ];
     for (script, ends) in table {
@@ -200,7 +200,7 @@ fn the_program_tells_how_it_ended(rt: HostRuntime) {
 
 #[test]
 fn the_program_has_a_device_of_so_many_sectors(rt: HostRuntime) {
-    let words = ["console", "--sectors", "23"];
+    let words = ["console", "--sectors", "55"];
     let ends = (0, "formatted 4\nrefused TooSmall\n", "");
     program_ends(&rt, rt.alloc(), &words, "format 4\nformat 5", ends);
     let words = ["console", "--sectors=1"];

@@ -91,7 +91,7 @@ fn help_tells_what_a_script_may_say(rt: HostRuntime) {
         "and is read to its end before its first line runs:\n",
         "  post S withdraw A M         the same: M units from account A\n",
         "  day M                       the stations take M turns, 1 to 100000, each",
-        "which takes 4K + 7 sectors;\n                              what is there is erased\n",
+        "which takes 4K + 39 sectors;\n                              what is there is erased\n",
         "How many sectors of 512 bytes the device has, 1 to 4000039 [default: 64]",
     ] {
         assert!(rt; has(writer.as_slice(), text), "{text}");

@@ -8,6 +8,7 @@ use sector_device::MemoryDevice;
 use std::alloc::Global;
 use std::process::Abort;
 use std::test::Fail;
+use test_scenes::sectors_needed;
 use turn_clerk::Line;
 
 /// A memory device that notes its calls.
@@ -39,7 +40,7 @@ pub fn zeros(alloc: Global, sectors: u64) -> Result<MemoryDevice, Fail> {
 /// An empty journal with so many slots in each bank.
 pub fn formatted(rt: &impl Abort, alloc: Global, slots: u64) -> Result<MemoryDevice, Fail> {
     assert!(rt; 1 <= slots && slots < 100);
-    let mut device = zeros(alloc, 4 * slots + 7)?;
+    let mut device = zeros(alloc, sectors_needed(slots))?;
     if format(&mut device, slots).is_err() {
         format(&mut device, slots)?;
     }

@@ -14,14 +14,14 @@ fn bytes_at(rt: &impl Abort, device: &MemoryDevice, at: u64) -> Sector {
 
 #[test]
 fn a_device_is_made(rt: HostRuntime) -> Result<(), Fail> {
-    let device = match MemoryDevice::new(rt.alloc(), 23) {
+    let device = match MemoryDevice::new(rt.alloc(), 55) {
         Ok(device) => device,
         Err(_) => {
             told(&rt, "MemoryDevice::new");
-            MemoryDevice::new(rt.alloc(), 23)?
+            MemoryDevice::new(rt.alloc(), 55)?
         }
     };
-    assert!(rt; device.sectors() == 23);
+    assert!(rt; device.sectors() == 55);
     Ok(())
 }
 
@@ -83,14 +83,14 @@ fn sectors_are_written_and_synced(rt: HostRuntime) -> Result<(), Fail> {
 // Of a device that failed in formatting nothing is known, and it is formatted again.
 #[test]
 fn a_device_is_formatted(rt: HostRuntime) -> Result<(), Fail> {
-    let mut device = zeros(rt.alloc(), 23)?;
+    let mut device = zeros(rt.alloc(), 55)?;
     if let Err(refusal) = format(&mut device, 4) {
         assert!(rt; refusal == FormatRefusal::Device);
         told(&rt, "format");
         format(&mut device, 4)?;
     }
     let mut superblock = [0; SECTOR];
-    superblock[..6].copy_from_slice(&[0x54, 0x4c, 0x44, 0x47, 0, 2]);
+    superblock[..6].copy_from_slice(&[0x54, 0x4c, 0x44, 0x47, 0, 3]);
     superblock[15] = 4;
     assert!(rt; bytes_at(&rt, &device, 0) == superblock);
     Ok(())

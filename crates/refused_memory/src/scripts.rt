@@ -8,7 +8,7 @@ use std::sync::Wait;
 use std::test::Fail;
 use std::thread::Threads;
 
-const WORDS: [&str; 5] = ["console", "--sectors", "23", "--device", "office.ledger"];
+const WORDS: [&str; 5] = ["console", "--sectors", "55", "--device", "office.ledger"];
 
 // How many sectors the words ask for, where they ask for this file, or why they are refused.
 fn asked(alloc: Global) -> Result<u64, ErrorKind> {
