@@ -7,7 +7,7 @@ use turn_clerk::{Clerk, Entry, Line};
 #[test]
 fn an_acknowledged_posting_outlives_a_power_failure(rt: HostRuntime) -> Result<(), Fail> {
     let alloc = rt.alloc();
-    let mut device = MemoryDevice::new(alloc, 23)?;
+    let mut device = MemoryDevice::new(alloc, 55)?;
     format(&mut device, 4)?;
     let line = Line::from_bits(2, &[false, false], &[true, false])?;
     let mut clerk = Clerk::open(alloc, device, line).map_err(|(_, refusal)| refusal)?;

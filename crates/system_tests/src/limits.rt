@@ -6,7 +6,7 @@ use sector_device::{Device, DeviceFault, MemoryDevice, SECTOR, Sector};
 use std::alloc::Global;
 use std::process::Abort;
 use std::test::Fail;
-use test_scenes::{deposit, formatted, line, transfer};
+use test_scenes::{FIRST, deposit, formatted, line, transfer};
 use turn_clerk::Clerk;
 
 // Two stations, the bottom one privileged, over this journal.
@@ -64,10 +64,10 @@ fn a_clerk_takes_300_turns(rt: HostRuntime) -> Result<(), Fail> {
     Ok(())
 }
 
-// Takes a turn with 14 deposits of 7, and a transfer of them all to account 64.
+// Takes a turn with 14 deposits of 7, and a transfer of them all to account 1,024.
 fn take_15_entries(rt: &impl Abort, clerk: &mut Clerk<MemoryDevice>) -> Result<(), Fail> {
     let mut entries = [deposit(1, 7); 15];
-    entries[14] = transfer(1, 64, 98);
+    entries[14] = transfer(1, 1024, 98);
     let turn = clerk.turn(0, &entries)?;
     assert!(rt; (turn.entries.len(), turn.verdicts.accepted()) == (15, 15));
     assert!(rt; turn.posted == Some(0));
@@ -78,17 +78,20 @@ fn take_15_entries(rt: &impl Abort, clerk: &mut Clerk<MemoryDevice>) -> Result<(
 fn a_turn_takes_15_accepted_entries(rt: HostRuntime) -> Result<(), Fail> {
     let mut clerk = two_stations(&rt, rt.alloc(), formatted(rt.alloc(), 1)?)?;
     take_15_entries(&rt, &mut clerk)?;
-    assert!(rt; clerk.ledger().balance(64) == Some(98));
+    assert!(rt; clerk.ledger().balance(1024) == Some(98));
     let ledger = found_on(&rt, rt.alloc(), clerk.into_device()).ledger;
-    assert!(rt; (ledger.balance(1), ledger.balance(64)) == (Some(0), Some(98)));
+    assert!(rt; (ledger.balance(1), ledger.balance(1024)) == (Some(0), Some(98)));
     Ok(())
 }
 
-// A device of so many sectors, of which all but the first six are zero. It can't be written.
+// How many sectors there are up to the gate of the first slot.
+const FRONT: usize = 22;
+
+// A device of so many sectors, of which all but the front are zero. It can't be written.
 #[derive(Drop)]
 struct Sparse {
     sectors: u64,
-    front: [Sector; 6],
+    front: [Sector; FRONT],
     failures: u64,
 }
 
@@ -100,7 +103,7 @@ impl Device for Sparse {
     }
 
     fn read(&mut self, at: u64, into: &mut Sector) -> Result<(), DeviceFault> {
-        *into = if at < 6 {
+        *into = if at < FRONT as u64 {
             self.front[at as usize]
         } else {
             [0; SECTOR]
@@ -122,14 +125,15 @@ impl Device for Sparse {
 
 // A journal with 1,000,000 slots in each bank and one record, and behind it as many sectors again that are not used.
 fn a_million_slots() -> Sparse {
-    let mut front = [[0; SECTOR]; 6];
-    front[0][..6].copy_from_slice(&[0x54, 0x4c, 0x44, 0x47, 0, 2]);
+    let body = FIRST.body(0) as usize;
+    let mut front = [[0; SECTOR]; FRONT];
+    front[0][..6].copy_from_slice(&[0x54, 0x4c, 0x44, 0x47, 0, 3]);
     front[0][8..16].copy_from_slice(&1_000_000u64.to_be_bytes());
-    front[1][0] = 0xa5;
-    front[2][..4].copy_from_slice(&[0x54, 0x4c, 0x42, 0x4b]);
-    front[4][..8].copy_from_slice(&[0x54, 0x4c, 0x42, 0x31, 0, 0, 0, 1]);
-    front[4][32..64].copy_from_slice(&deposit(1, 500).write());
-    front[5][0] = 0xa5;
+    front[FIRST.gate as usize][0] = 0xa5;
+    front[FIRST.head() as usize][..4].copy_from_slice(&[0x54, 0x4c, 0x42, 0x4b]);
+    front[body][..8].copy_from_slice(&[0x54, 0x4c, 0x42, 0x31, 0, 0, 0, 1]);
+    front[body][32..64].copy_from_slice(&deposit(1, 500).write());
+    front[FIRST.slot_gate(0) as usize][0] = 0xa5;
     Sparse {
         sectors: 8_000_000,
         front,

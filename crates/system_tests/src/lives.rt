@@ -5,7 +5,7 @@ use sector_device::{MemoryDevice, Sector};
 use std::alloc::{AllocError, Global};
 use std::process::Abort;
 use std::test::Fail;
-use test_scenes::{deposit, formatted, line};
+use test_scenes::{FIRST, deposit, formatted, line};
 use turn_clerk::{Clerk, TurnRefusal};
 
 // A life: the bits that it starts from, and the two stations in the order of their turns, with what each deposits. No
@@ -67,8 +67,11 @@ fn lose_power(
     left: Sector,
 ) -> Result<MemoryDevice, Fail> {
     assert!(rt; records < 6);
-    let body = 4 + 2 * records;
-    Ok(crashed(alloc, device, &[(body, left), (body + 1, left)])?)
+    let slot = [
+        (FIRST.body(records), left),
+        (FIRST.slot_gate(records), left),
+    ];
+    Ok(crashed(alloc, device, &slot)?)
 }
 
 // The turns of a life, one that is acknowledged and one in which a call fails, of a clerk that finds what was before.

@@ -6,7 +6,7 @@ use sector_device::{Device, MemoryDevice, Sector};
 use std::alloc::Global;
 use std::process::Abort;
 use std::test::Fail;
-use test_scenes::{deposit, formatted};
+use test_scenes::{FIRST, deposit, formatted};
 
 // A record of station 0 with one deposit of 500 to account 1.
 fn deposit_of_500(rt: &impl Abort) -> Record {
@@ -67,7 +67,7 @@ fn a_gate_that_was_not_synced_may_be_there_or_not(rt: HostRuntime) -> Result<(),
     for (gate, expected) in [(torn_open(), (Some(500), 1)), (ZERO, (Some(0), 0))] {
         let (answer, device) = append_on(&rt, alloc, Op::Sync, 2)?;
         assert!(rt; answer == Some(Err(AppendRefusal::Device)));
-        assert!(rt; recovered_with(&rt, alloc, device, &[(5, gate)])? == expected);
+        assert!(rt; recovered_with(&rt, alloc, device, &[(FIRST.slot_gate(0), gate)])? == expected);
     }
     Ok(())
 }
@@ -77,7 +77,7 @@ fn an_acknowledged_record_is_out_of_reach_of_a_power_loss(rt: HostRuntime) -> Re
     let alloc = rt.alloc();
     let (answer, device) = append_on(&rt, alloc, Op::Any, 1000)?;
     assert!(rt; answer == Some(Ok(0)));
-    let left = [(4, ZERO), (5, ZERO), (0, TORN)];
+    let left = [(FIRST.body(0), ZERO), (FIRST.slot_gate(0), ZERO), (0, TORN)];
     assert!(rt; recovered_with(&rt, alloc, device, &left)? == (Some(500), 1));
     Ok(())
 }
@@ -92,7 +92,8 @@ fn append_and_lose_power(
     gate: Sector,
 ) -> Result<bool, Fail> {
     let (answer, device) = append_on(rt, alloc, Op::Any, at)?;
-    let found = recovered_with(rt, alloc, device, &[(4, body), (5, gate)])?;
+    let left = [(FIRST.body(0), body), (FIRST.slot_gate(0), gate)];
+    let found = recovered_with(rt, alloc, device, &left)?;
     let Some(Ok(sequence)) = answer else {
         assert!(rt; found == (Some(0), 0) || found == (Some(500), 1));
         return Ok(false);
@@ -150,10 +151,10 @@ fn whichever_call_of_recovery_fails_the_device_comes_back_unchanged(
     rt: HostRuntime,
 ) -> Result<(), Fail> {
     let mut failed = 0u32;
-    for at in 0..20 {
+    for at in 0..40 {
         failed = failed.saturating_add(u32::from(fails_to_recover(&rt, rt.alloc(), at)?));
     }
-    // A sync, the superblock, the banks' gates, a head, 4 gates and a body, the snapshot, and the record once more.
-    assert!(rt; failed == 12);
+    // A sync, the superblock, the banks' gates, a head, 4 gates and a body, 17 of the snapshot, and the record once more.
+    assert!(rt; failed == 28);
     Ok(())
 }

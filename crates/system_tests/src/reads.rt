@@ -8,7 +8,7 @@ use sector_device::{Device, DeviceFault, MemoryDevice, Sector};
 use std::alloc::Global;
 use std::process::Abort;
 use std::test::Fail;
-use test_scenes::{formatted, head};
+use test_scenes::{FIRST, formatted, head, second};
 
 // A device that notes the sectors that are read.
 #[derive(Drop)]
@@ -40,8 +40,7 @@ impl Device for NotedReads {
     ghost sound = { λ n honest. memory_sound n.inner };
 }
 
-// What opening reads of a device with two slots in each bank, of which the second one, from sector 8 on, has this gate and
-// this head.
+// What opening reads of a device with two slots in each bank, of which the second one has this gate and this head.
 fn reads_beside(
     rt: &impl Abort,
     alloc: Global,
@@ -49,9 +48,10 @@ fn reads_beside(
     head: &Sector,
 ) -> Result<Vec<u64>, Fail> {
     let mut inner = formatted(alloc, 2)?;
-    assert!(rt; inner.sectors() == 15);
-    inner.write(8, gate)?;
-    inner.write(9, head)?;
+    let other = second(2);
+    assert!(rt; other.head() < inner.sectors());
+    inner.write(other.gate, gate)?;
+    inner.write(other.head(), head)?;
     let reads = Vec::new(alloc);
     match Journal::open(NotedReads { inner, reads }) {
         Ok(journal) => Ok(journal.into_device().reads),
@@ -63,11 +63,28 @@ fn reads_beside(
 fn opening_reads_nothing_of_the_other_bank_but_its_gate_and_head(
     rt: HostRuntime,
 ) -> Result<(), Fail> {
-    let newer = head(1, 0);
+    let (newer, other) = (head(1, 0), second(2));
+    let first = [
+        0,
+        FIRST.gate,
+        other.gate,
+        FIRST.head(),
+        FIRST.slot_gate(0),
+        FIRST.slot_gate(1),
+    ];
+    let both = [
+        0,
+        FIRST.gate,
+        other.gate,
+        FIRST.head(),
+        other.head(),
+        other.slot_gate(0),
+        other.slot_gate(1),
+    ];
     let table: [(Sector, Sector, &[u64]); 3] = [
-        (TORN, TORN, &[0, 1, 8, 2, 5, 7]),
-        (ZERO, newer, &[0, 1, 8, 2, 5, 7]),
-        (torn_open(), newer, &[0, 1, 8, 2, 9, 12, 14]),
+        (TORN, TORN, &first),
+        (ZERO, newer, &first),
+        (torn_open(), newer, &both),
     ];
     for (gate, head, expected) in table {
         assert!(rt; reads_beside(&rt, rt.alloc(), &gate, &head)?.as_slice() == expected);

@@ -3,6 +3,7 @@ use file_device::FileRefusal;
 use four_state::LineRefusal;
 use gate_journal::{
     AppendRefusal, CheckpointRefusal, FormatRefusal, JournalCause, JournalRefusal, ReadRefusal,
+    SnapshotRefusal,
 };
 use journal_recovery::{Cause, OpenRefusal};
 use office_day::{CloseRefusal, DayRefusal};
@@ -106,6 +107,17 @@ fn refusals_of_formatting_appending_and_reading_have_texts(rt: HostRuntime) -> R
         &[
             (ReadRefusal::Changed, "the record is no longer there"),
             (ReadRefusal::Device, "the device failed"),
+        ],
+    )?;
+    read_as(
+        &rt,
+        rt.alloc(),
+        &[
+            (
+                SnapshotRefusal::Marks,
+                "the marks have a byte that isn't zero",
+            ),
+            (SnapshotRefusal::Device, "the device failed"),
         ],
     )
 }

@@ -1,5 +1,5 @@
 //! What is shown to a programmer.
-use gate_journal::{Journal, Record, Snapshot};
+use gate_journal::{ACCOUNTS, Journal, Record, Snapshot};
 use sector_device::{Device, MemoryDevice, SECTOR};
 use std::alloc::Global;
 use std::process::Abort;
@@ -14,7 +14,8 @@ fn after_a_checkpoint(rt: &impl Abort, alloc: Global) -> Result<Journal<MemoryDe
     let record = Record::new(0, 1, [0; 480]).ok_or("a record")?;
     journal.append(&record)?;
     journal.append(&record)?;
-    journal.checkpoint(&Snapshot { balances: [0; 64] })?;
+    let (balances, sealed) = ([0; ACCOUNTS], [false; ACCOUNTS]);
+    journal.checkpoint(&Snapshot { balances, sealed })?;
     journal.append(&record)?;
     Ok(journal)
 }

@@ -4,7 +4,7 @@ use sector_device::MemoryDevice;
 use std::alloc::Global;
 use std::process::Abort;
 use std::test::Fail;
-use test_scenes::{deposit, formatted, line};
+use test_scenes::{FIRST, deposit, formatted, line};
 use turn_clerk::{Clerk, Line, Turn, TurnRefusal};
 
 // The device failed in the first turn, with a deposit of 500: it is in flight, all else is as before, and whoever asks is
@@ -52,7 +52,7 @@ fn a_turn_whose_gate_was_not_synced_stands_or_not(rt: HostRuntime) -> Result<(),
     for (gate, expected) in [(torn_open(), (Some(500), 1)), (ZERO, (Some(0), 0))] {
         let (answer, device) = deposited(&rt, alloc, Op::Sync, 2)?;
         assert!(rt; answer == Err(TurnRefusal::Device));
-        assert!(rt; recovered_with(&rt, alloc, device, &[(5, gate)])? == expected);
+        assert!(rt; recovered_with(&rt, alloc, device, &[(FIRST.slot_gate(0), gate)])? == expected);
     }
     Ok(())
 }
@@ -62,7 +62,7 @@ fn an_acknowledged_turn_is_out_of_reach_of_a_power_loss(rt: HostRuntime) -> Resu
     let alloc = rt.alloc();
     let (answer, device) = deposited(&rt, alloc, Op::Any, 1000)?;
     assert!(rt; answer?.posted == Some(0));
-    let left = [(4, ZERO), (5, ZERO), (0, TORN)];
+    let left = [(FIRST.body(0), ZERO), (FIRST.slot_gate(0), ZERO), (0, TORN)];
     assert!(rt; recovered_with(&rt, alloc, device, &left)? == (Some(500), 1));
     Ok(())
 }

@@ -9,7 +9,7 @@ use std::alloc::Global;
 use std::process::Abort;
 use std::sync::Wait;
 use std::test::Fail;
-use test_scenes::{deposit, formatted, line};
+use test_scenes::{deposit, formatted, line, sectors_needed};
 
 // What becomes of the work after its turn.
 #[derive(Clone, Copy, PartialEq, Eq)]
@@ -112,7 +112,7 @@ fn a_work_that_loses_a_seat_hands_the_device_back(rt: HostRuntime) -> Result<(),
 
 #[test]
 fn a_device_without_a_journal_is_not_lent(rt: HostRuntime) -> Result<(), Fail> {
-    let device = MemoryDevice::new(rt.alloc(), 23)?;
+    let device = MemoryDevice::new(rt.alloc(), sectors_needed(4))?;
     let line = line([0, 0], [1, 0])?;
     match lent(&rt, rt.alloc(), device, line, Ends::Well) {
         Ok(_) => panic!(rt; "opened"),
