@@ -13,14 +13,9 @@ use sector_device::{MemoryDevice, SECTOR, Sector};
 use std::alloc::Global;
 use std::process::Abort;
 use std::test::Fail;
-use test_scenes::{deposit, transfer};
+use test_scenes::{FIRST, deposit, second, sectors_needed, transfer};
 
 const IMAGES: u32 = 100_000;
-
-// Layout 2, on 23 sectors: the gates of the two banks with 1 slot each, and with 4.
-const SECTORS: u64 = 23;
-
-const GATES: [usize; 3] = [1, 6, 12];
 
 // What a byte among the first of a sector may become: a byte of a head, a count, a kind.
 const FIELDS: [u8; 6] = [0, 1, 2, 3, 4, 0xff];
@@ -118,7 +113,7 @@ fn put_number(bytes: &mut Sector, (from, to): (usize, usize), number: u64) {
 
 const KINDS: [u64; 5] = [1, 1, 2, 3, 4];
 
-const ACCOUNTS: [u64; 6] = [0, 1, 1, 2, 64, 65];
+const ACCOUNTS: [u64; 6] = [0, 1, 1, 2, 1024, 1025];
 
 const AMOUNTS: [u64; 7] = [
     0,
@@ -200,9 +195,10 @@ fn sector_at(image: &[Sector], at: usize) -> Sector {
     image.get(at).copied().unwrap_or([0; SECTOR])
 }
 
+// The gate of the first bank, or of the second one where each has 1 slot, or 4.
 fn some_gate(random: &mut Pcg32) -> usize {
-    let place = below(random, GATES.len());
-    GATES.get(place).copied().unwrap_or(0)
+    let gates = [FIRST.gate, second(1).gate, second(4).gate];
+    one_of(random, &gates) as usize
 }
 
 // A sound head of a bank, behind an open gate.
@@ -301,10 +297,10 @@ fn make_several(random: &mut Pcg32, image: &mut [Sector]) {
     }
 }
 
-// With this many slots a bank, on 23 sectors, after three turns with a deposit and a transfer of some of it: with 1 slot
-// behind two checkpoints, with 4 without any.
+// With this many slots a bank, on the sectors that 4 of them need, after three turns with a deposit and a transfer of some
+// of it: with 1 slot behind two checkpoints, with 4 without any.
 fn after_three_turns(rt: &impl Abort, alloc: Global, slots: u64) -> Result<MemoryDevice, Fail> {
-    let mut device = MemoryDevice::new(alloc, SECTORS)?;
+    let mut device = MemoryDevice::new(alloc, sectors_needed(4))?;
     assert!(rt; 1 <= slots && slots <= 4);
     format(&mut device, slots)?;
     let mut clerk = opened(rt, alloc, device);

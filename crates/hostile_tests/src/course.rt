@@ -15,13 +15,16 @@ const BALANCES: [u64; 6] = [0, 1, 3, 7, 15, 31];
 // The bits of the two stations' line after 0 to 3 moves of a legitimate run from zeros; then it comes round.
 const LINES: [[u8; 2]; 4] = [[0, 0], [1, 0], [1, 1], [0, 1]];
 
-// The calls of a whole course, by the order of calls that the format states. The opening syncs once, and reads the
-// superblock, both banks' gates, the head, two slots' gates and the snapshot. Each turn writes and syncs a body, and then
-// a gate. A checkpoint reads the other bank's gate, writes its head, its snapshot and two slots' gates, syncs, and writes
-// and syncs its gate. The second one finds that gate open, and writes and syncs it closed first.
-pub const READS: u64 = 7 + 1 + 1;
+// The sectors of a snapshot: sixteen of balances, and one of marks.
+pub const SNAPSHOT: u64 = 16 + 1;
 
-pub const WRITES: u64 = 5 * 2 + 5 + 6;
+// The calls of a whole course, by the order of calls that the format states. The opening syncs once, and reads the
+// superblock, both banks' gates, the head, two slots' gates and the snapshot, which has 17 sectors. Each turn writes and
+// syncs a body, and then a gate. A checkpoint reads the other bank's gate, writes its head, its snapshot and two slots'
+// gates, syncs, and writes and syncs its gate. The second one finds that gate open, and writes and syncs it closed first.
+pub const READS: u64 = 6 + SNAPSHOT + 1 + 1;
+
+pub const WRITES: u64 = 5 * 2 + (4 + SNAPSHOT) + (5 + SNAPSHOT);
 
 pub const SYNCS: u64 = 1 + 5 * 2 + 2 + 3;
 

@@ -1,5 +1,5 @@
 //! Days of station threads on devices that fail, and what clients were told. Each test holds whatever thread runs when.
-use crate::course::{Found, two_stations};
+use crate::course::{Found, SNAPSHOT, two_stations};
 use crate::power::{at_stake, outcomes_of, picks, recovered};
 use fault_injector::{Fuse, OneFault, Op};
 use office_day::{
@@ -21,16 +21,16 @@ const TRIES: u64 = 100_000_000;
 // head, one slot's gate and the snapshot. Each of two turns that post writes and syncs a body and a gate; before the
 // second one a checkpoint reads the other bank's gate, writes its head, its snapshot and one slot's gate, syncs, and
 // writes and syncs its gate.
-const READS: u64 = 6 + 1;
+const READS: u64 = 5 + SNAPSHOT + 1;
 
-const WRITES: u64 = 2 * 2 + 4;
+const WRITES: u64 = 2 * 2 + 3 + SNAPSHOT;
 
 const SYNCS: u64 = 1 + 2 * 2 + 2;
 
 const CALLS: u64 = READS + WRITES + SYNCS;
 
 // How many outcomes of a power loss there are for all places of a fault.
-const OUTCOMES: u32 = 118;
+const OUTCOMES: u32 = 4230;
 
 // What clients were told: the sums of the deposits posted and of those undecided, and how many batches stand at least.
 #[derive(Clone, Copy)]

@@ -6,28 +6,12 @@ use sector_device::{Device, MemoryDevice, Picks, SECTOR, Sector};
 use std::alloc::{AllocError, Global};
 use std::process::Abort;
 use std::test::Fail;
-use test_scenes::{deposit, formatted};
-
-// Layout 2: the sectors of the first bank, and with 4 slots a bank the gate of the second one.
-
-const GATE: usize = 1;
-
-const HEAD: usize = 2;
-
-const SNAPSHOT: usize = 3;
-
-const BODY: usize = 4;
-
-const SLOT_GATE: usize = 5;
-
-const SECOND_GATE: usize = 12;
-
-const SECTORS: usize = 23;
+use test_scenes::{FIRST, deposit, formatted, second};
 
 // How many images are refused with a byte as 00, 01, a5 and ff, by the words of the format. A byte that has to be zero is
 // refused with three of them, and so is one that has to be 01 or a5; one that has to be another with all four.
 
-// The magic 4; the version 00 02; zeros in 2 and 496 bytes; and of the number of slots seven zeros, and last a 04, which
+// The magic 4; the version 00 03; zeros in 2 and 496 bytes; and of the number of slots seven zeros, and last a 04, which
 // may be 01, or else a 01, which may be that alone.
 const SUPERBLOCK_REFUSED: u32 = 4 * 4 + (3 + 4) + 3 * 2 + (3 * 7 + 3) + 3 * 496;
 
@@ -40,15 +24,18 @@ const SAME_EPOCH: u32 = 1;
 // The head of an open bank that isn't live: its base is not looked at.
 const OTHER_HEAD_REFUSED: u32 = 4 * 4 + 3 * 4 + SAME_EPOCH + 3 * 488;
 
-// Of each account the highest byte: a5 and ff are more than all accounts may hold.
-const SNAPSHOT_REFUSED: u32 = 2 * 64;
+// Of each of a sector's accounts the highest byte: a5 and ff are more than all accounts may hold.
+const BALANCES_REFUSED: u32 = 2 * 64;
+
+// The zeros in 384 bytes behind the marks.
+const MARKS_REFUSED: u32 = 3 * 384;
 
 // The magic; a station, 00 and then at most 3f; the count 00 01; each byte of the sequence; 16 zeros; and the places
-// behind the first. In that one the kind 01, 3 zeros, no account to take from, the account 00 00 00 01, which with 01
-// alone is one, 4 zeros, and an amount whose highest byte is 00 or 01. Its reference may be anything.
+// behind the first. In that one the kind 01, 3 zeros, no account to take from, an account from 00 00 00 01 to 00 00 04 00,
+// 4 zeros, and an amount whose highest byte is 00 or 01. Its reference may be anything.
 const BODY_REFUSED: u32 = 4 * 4 + (3 + 2) + (3 + 3) + 3 * 8 + 3 * 16 + PLACE_REFUSED + 3 * 32 * 14;
 
-const PLACE_REFUSED: u32 = 3 + 3 * 3 + 3 * 4 + 3 * 4 + 3 * 4 + 2;
+const PLACE_REFUSED: u32 = 3 + 3 * 3 + 3 * 4 + (3 * 2 + 2 + 1) + 3 * 4 + 2;
 
 // The amount 5 is 0 with its lowest byte as 00; the amount 500 isn't.
 const NO_AMOUNT: u32 = 1;
@@ -58,47 +45,54 @@ const CLOSED: u32 = 3;
 
 const OPENED: u32 = 1;
 
+// How many images of each sector are refused, from this sector on up to that of the next row.
+type Row = (u64, u32);
+
 // With 4 slots a bank, after one deposit: bank 0 is live, and slot 0 has its record. Without its gate that slot is closed.
-const REFUSED_AFTER_ONE_DEPOSIT: [u32; 23] = [
-    SUPERBLOCK_REFUSED,
-    CLOSED,
-    LIVE_HEAD_REFUSED,
-    SNAPSHOT_REFUSED,
-    BODY_REFUSED,
-    0,
-    0,
-    OPENED,
-    0,
-    OPENED,
-    0,
-    OPENED,
-    OPENED,
-    0,
-    0,
-    0,
-    0,
-    0,
-    0,
-    0,
-    0,
-    0,
-    0,
-];
+fn refused_after_one_deposit() -> [Row; 14] {
+    let other = second(4);
+    [
+        (0, SUPERBLOCK_REFUSED),
+        (FIRST.gate, CLOSED),
+        (FIRST.head(), LIVE_HEAD_REFUSED),
+        (FIRST.balances(), BALANCES_REFUSED),
+        (FIRST.marks(), MARKS_REFUSED),
+        (FIRST.body(0), BODY_REFUSED),
+        (FIRST.slot_gate(0), 0),
+        (FIRST.slot_gate(1), OPENED),
+        (FIRST.body(2), 0),
+        (FIRST.slot_gate(2), OPENED),
+        (FIRST.body(3), 0),
+        (FIRST.slot_gate(3), OPENED),
+        (other.gate, OPENED),
+        (other.head(), 0),
+    ]
+}
 
 // With 1 slot a bank, behind a checkpoint: bank 1 is live. Without its gate bank 0 is, whose own is open.
-const REFUSED_BEHIND_A_CHECKPOINT: [u32; 11] = [
-    SUPERBLOCK_REFUSED,
-    0,
-    OTHER_HEAD_REFUSED,
-    0,
-    0,
-    0,
-    0,
-    LIVE_HEAD_REFUSED + SAME_EPOCH,
-    SNAPSHOT_REFUSED,
-    BODY_REFUSED + NO_AMOUNT,
-    0,
-];
+fn refused_behind_a_checkpoint() -> [Row; 10] {
+    let live = second(1);
+    [
+        (0, SUPERBLOCK_REFUSED),
+        (FIRST.gate, 0),
+        (FIRST.head(), OTHER_HEAD_REFUSED),
+        (FIRST.balances(), 0),
+        (live.gate, 0),
+        (live.head(), LIVE_HEAD_REFUSED + SAME_EPOCH),
+        (live.balances(), BALANCES_REFUSED),
+        (live.marks(), MARKS_REFUSED),
+        (live.body(0), BODY_REFUSED + NO_AMOUNT),
+        (live.slot_gate(0), 0),
+    ]
+}
+
+// How many images of this sector are refused.
+fn refused_at(table: &[Row], at: usize) -> u32 {
+    match table.iter().rev().find(|(first, _)| *first <= at as u64) {
+        Some((_, count)) => *count,
+        None => 0,
+    }
+}
 
 // With 4 slots a bank, after one deposit of 500.
 pub fn after_one_deposit(rt: &impl Abort, alloc: Global) -> Result<MemoryDevice, Fail> {
@@ -107,9 +101,13 @@ pub fn after_one_deposit(rt: &impl Abort, alloc: Global) -> Result<MemoryDevice,
     Ok(clerk.into_device())
 }
 
-// With 1 slot a bank, after two deposits of 5, of which the second made a checkpoint.
+// With 1 slot a bank and a mark on account 2, after two deposits of 5, of which the second made a checkpoint.
 pub fn behind_a_checkpoint(rt: &impl Abort, alloc: Global) -> Result<MemoryDevice, Fail> {
-    let mut clerk = opened(rt, alloc, formatted(alloc, 1)?);
+    let mut device = formatted(alloc, 1)?;
+    let mut marks = [0; SECTOR];
+    marks[0] = 0x02;
+    put(rt, &mut device, FIRST.marks() as usize, &marks)?;
+    let mut clerk = opened(rt, alloc, device);
     clerk.turn(0, &[deposit(1, 5)])?;
     clerk.turn(1, &[deposit(1, 5)])?;
     Ok(clerk.into_device())
@@ -159,7 +157,8 @@ pub fn found(alloc: Global, device: MemoryDevice) -> (MemoryDevice, Result<Plain
     match recover(alloc, device) {
         Ok(found) => {
             let plain = Plain {
-                balances: found.ledger.balances(),
+                balances: *found.ledger.balances(),
+                sealed: *found.ledger.marks(),
                 next: found.journal.next(),
             };
             (found.journal.into_device(), Ok(plain))
@@ -190,7 +189,7 @@ pub fn holds(rt: &impl Abort, device: &mut MemoryDevice, image: &[Sector]) -> Re
     Ok(())
 }
 
-// Which values each byte of a sector takes.
+// How many values a byte takes: each of them, or the four that are counted.
 #[derive(Clone, Copy, PartialEq, Eq)]
 enum Values {
     All,
@@ -198,6 +197,15 @@ enum Values {
 }
 
 const FOUR: [u8; 4] = [0x00, 0x01, 0xa5, 0xff];
+
+// Which values each byte of a sector takes: of one that is all zero four, of any other one all.
+fn values_of(sector: &Sector) -> Values {
+    if *sector == [0; SECTOR] {
+        Values::Four
+    } else {
+        Values::All
+    }
+}
 
 // Puts a value at one place, and compares what recovery finds with what the plain program tells: the device, and whether
 // it is refused. The device comes back as it was: with one of the four values all of it is looked at, with another the
@@ -255,11 +263,11 @@ fn replace_sector(
     mut device: MemoryDevice,
     image: &mut [Sector],
     at: usize,
-    values: Values,
 ) -> Result<(MemoryDevice, u32), Fail> {
     let mut refused = 0u32;
     assert!(rt; at < image.len());
     let sound = image[at];
+    let values = values_of(&sound);
     for place in 0..SECTOR {
         let (after, count) = replace_byte(rt, alloc, device, image, (at, place), values)?;
         device = after;
@@ -271,25 +279,17 @@ fn replace_sector(
     Ok((settled(alloc, device), refused))
 }
 
-// Replaces each byte of each sector, those of balances that are all zero by four values alone, and compares how many
-// images are refused.
+// Replaces each byte of each sector, and compares how many images are refused.
 fn replace_each(
     rt: &impl Abort,
     alloc: Global,
     mut device: MemoryDevice,
-    zeros: &[usize],
-    expected: &[u32],
+    expected: &[Row],
 ) -> Result<(), Fail> {
     let mut image = image_of(rt, alloc, &mut device)?;
-    assert!(rt; image.len() == expected.len());
-    for (at, count) in expected.iter().enumerate() {
-        let values = if zeros.contains(&at) {
-            Values::Four
-        } else {
-            Values::All
-        };
-        let (after, refused) = replace_sector(rt, alloc, device, image.as_mut_slice(), at, values)?;
-        assert!(rt; refused == *count, "sector {at}");
+    for at in 0..image.len() {
+        let (after, refused) = replace_sector(rt, alloc, device, image.as_mut_slice(), at)?;
+        assert!(rt; refused == refused_at(expected, at), "sector {at}");
         device = after;
     }
     Ok(())
@@ -298,19 +298,13 @@ fn replace_each(
 #[test]
 fn each_byte_after_one_deposit_is_replaced(rt: HostRuntime) -> Result<(), Fail> {
     let device = after_one_deposit(&rt, rt.alloc())?;
-    replace_each(
-        &rt,
-        rt.alloc(),
-        device,
-        &[3, 14],
-        &REFUSED_AFTER_ONE_DEPOSIT,
-    )
+    replace_each(&rt, rt.alloc(), device, &refused_after_one_deposit())
 }
 
 #[test]
 fn each_byte_behind_a_checkpoint_is_replaced(rt: HostRuntime) -> Result<(), Fail> {
     let device = behind_a_checkpoint(&rt, rt.alloc())?;
-    replace_each(&rt, rt.alloc(), device, &[3], &REFUSED_BEHIND_A_CHECKPOINT)
+    replace_each(&rt, rt.alloc(), device, &refused_behind_a_checkpoint())
 }
 
 // The first sectors of an image, on a device of its own.
@@ -327,11 +321,16 @@ fn cut(
     Ok(device)
 }
 
-// What account 1 alone holding this much is, and the sequence of the next record.
+// What account 1 alone holding this much and no account marked is, and the sequence of the next record.
 fn holding(amount: u64, next: u64) -> Plain {
     let mut balances = [0; ACCOUNTS];
     balances[0] = amount;
-    Plain { balances, next }
+    let sealed = [false; ACCOUNTS];
+    Plain {
+        balances,
+        sealed,
+        next,
+    }
 }
 
 // Of the first sectors of an image both recovery and the plain program answer this.
@@ -353,22 +352,24 @@ fn is_cut_to(
 fn images_that_are_cut_short_are_refused(rt: HostRuntime) -> Result<(), Fail> {
     let mut device = after_one_deposit(&rt, rt.alloc())?;
     let image = image_of(&rt, rt.alloc(), &mut device)?;
-    for sectors in 0..=SECTORS {
-        let expected = match sectors {
-            0 => Err(OpenRefusal::Unformatted),
-            SECTORS => Ok(holding(500, 1)),
-            _ => Err(OpenRefusal::Size),
+    for sectors in 0..=image.len() {
+        let expected = if sectors == 0 {
+            Err(OpenRefusal::Unformatted)
+        } else if sectors < image.len() {
+            Err(OpenRefusal::Size)
+        } else {
+            Ok(holding(500, 1))
         };
         is_cut_to(&rt, rt.alloc(), image.as_slice(), sectors, expected)?;
     }
     Ok(())
 }
 
-// A change of an image: a byte, or each byte of a sector.
+// A change of an image: a byte of a sector, or each of them.
 #[derive(Clone, Copy, Debug)]
 enum Damage {
-    Byte(usize, usize, u8),
-    Whole(usize, u8),
+    Byte(u64, usize, u8),
+    Whole(u64, u8),
 }
 
 // The image with this change.
@@ -381,12 +382,12 @@ fn with_damage(
     let mut changed = image.to_vec(alloc)?;
     match damage {
         Damage::Byte(at, place, byte) => {
-            assert!(rt; at < changed.len() && place < SECTOR);
-            changed[at][place] = byte;
+            assert!(rt; at < changed.len() as u64 && place < SECTOR);
+            changed[at as usize][place] = byte;
         }
         Damage::Whole(at, byte) => {
-            assert!(rt; at < changed.len());
-            changed[at] = [byte; SECTOR];
+            assert!(rt; at < changed.len() as u64);
+            changed[at as usize] = [byte; SECTOR];
         }
     }
     Ok(changed)
@@ -402,28 +403,43 @@ fn is_told(
 ) -> Result<(), Fail> {
     let changed = with_damage(rt, alloc, image, damage)?;
     assert!(rt; told(changed.as_slice()) == expected, "{damage:?}");
-    let device = cut(rt, alloc, changed.as_slice(), SECTORS)?;
+    let device = cut(rt, alloc, changed.as_slice(), changed.len())?;
     let (mut device, answer) = found(alloc, device);
     assert!(rt; answer == expected, "{damage:?}");
     holds(rt, &mut device, changed.as_slice())
 }
 
 // What is changed, and which damage that is.
-const DAMAGES: [(Damage, u64, Cause); 5] = [
-    (Damage::Byte(GATE, 0, 0x00), 0, Cause::Bank),
-    (Damage::Byte(HEAD, 4, 0x01), 0, Cause::Bank),
-    (Damage::Whole(SNAPSHOT, 0xff), 0, Cause::Bank),
-    (Damage::Byte(BODY, 8, 0xff), 0, Cause::Sequence),
-    (Damage::Byte(SECOND_GATE, 0, 0xa5), 1, Cause::Bank),
-];
+fn damages() -> [(Damage, u64, Cause); 7] {
+    [
+        (Damage::Byte(FIRST.gate, 0, 0x00), 0, Cause::Bank),
+        (Damage::Byte(FIRST.head(), 4, 0x01), 0, Cause::Bank),
+        (Damage::Whole(FIRST.balances(), 0xff), 0, Cause::Bank),
+        (Damage::Byte(FIRST.marks(), 128, 0x01), 0, Cause::Bank),
+        (Damage::Byte(FIRST.marks(), 511, 0x80), 0, Cause::Bank),
+        (Damage::Byte(FIRST.body(0), 8, 0xff), 0, Cause::Sequence),
+        (Damage::Byte(second(4).gate, 0, 0xa5), 1, Cause::Bank),
+    ]
+}
+
+// A mark on the last account, and the gate of the record closed, and what is then told.
+fn harmless() -> [(Damage, Plain); 2] {
+    let mut marked = holding(500, 1);
+    marked.sealed[1023] = true;
+    [
+        (Damage::Byte(FIRST.marks(), 127, 0x80), marked),
+        (Damage::Byte(FIRST.slot_gate(0), 0, 0x00), holding(0, 0)),
+    ]
+}
 
 #[test]
 fn worked_damage_is_told(rt: HostRuntime) -> Result<(), Fail> {
     let mut device = after_one_deposit(&rt, rt.alloc())?;
     let image = image_of(&rt, rt.alloc(), &mut device)?;
-    let closed = Damage::Byte(SLOT_GATE, 0, 0x00);
-    is_told(&rt, rt.alloc(), image.as_slice(), closed, Ok(holding(0, 0)))?;
-    for (damage, slot, cause) in DAMAGES {
+    for (damage, expected) in harmless() {
+        is_told(&rt, rt.alloc(), image.as_slice(), damage, Ok(expected))?;
+    }
+    for (damage, slot, cause) in damages() {
         let expected = Err(OpenRefusal::Damaged { slot, cause });
         is_told(&rt, rt.alloc(), image.as_slice(), damage, expected)?;
     }

@@ -18,7 +18,7 @@ enum By {
 
 // How many outcomes of a power loss there are for all stops: the one without a pending sector, and four for each one
 // that is pending, or for the two lowest and the two highest.
-const OUTCOMES: u32 = 757;
+const OUTCOMES: u32 = 8965;
 
 // What a run met, by the replies behind those that were acknowledged: the first of them tells that the device failed, and
 // each other one that the clerk is faulted.
