@@ -5,12 +5,12 @@ Each accepted entry changes the balances by amounts of its batch's number, so th
 and a batch of which a part is missing leaves those of no prefix.
 """
 SWEEP = ((0, "Bottom"), (1, "Raise"), (2, "Top"), (1, "Lower"))
-ACCOUNTS = range(1, 65)
+ACCOUNTS = range(1, 1025)
 
 
 def accounts_of(number):
     """Three accounts, different ones, of a batch."""
-    return 1 + number % 20, 21 + number * 7 % 20, 41 + number * 11 % 24
+    return 1 + number % 341, 342 + number * 7 % 341, 683 + number * 11 % 342
 
 
 def entries(number):

@@ -5,6 +5,7 @@ use journal_recovery::{OpenRefusal, recover};
 use sector_device::{Device, MemoryDevice, SECTOR, Sector};
 use std::process::Abort;
 use std::test::Fail;
+use test_scenes::sectors_needed;
 use turn_ledger::Ledger;
 
 fn bytes_at(rt: &impl Abort, device: &MemoryDevice, at: u64) -> Sector {
@@ -83,7 +84,7 @@ fn sectors_are_written_and_synced(rt: HostRuntime) -> Result<(), Fail> {
 // Of a device that failed in formatting nothing is known, and it is formatted again.
 #[test]
 fn a_device_is_formatted(rt: HostRuntime) -> Result<(), Fail> {
-    let mut device = zeros(rt.alloc(), 55)?;
+    let mut device = zeros(rt.alloc(), sectors_needed(4))?;
     if let Err(refusal) = format(&mut device, 4) {
         assert!(rt; refusal == FormatRefusal::Device);
         told(&rt, "format");

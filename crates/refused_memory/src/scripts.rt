@@ -7,6 +7,7 @@ use std::process::Abort;
 use std::sync::Wait;
 use std::test::Fail;
 use std::thread::Threads;
+use test_scenes::sectors_needed;
 
 const WORDS: [&str; 5] = ["console", "--sectors", "55", "--device", "office.ledger"];
 
@@ -26,7 +27,7 @@ fn words_are_read(rt: HostRuntime) {
         told(&rt, "options");
         answer = asked(rt.alloc());
     }
-    assert!(rt; answer == Ok(23));
+    assert!(rt; answer == Ok(55));
 }
 
 const SCRIPT: &[u8] =
@@ -49,7 +50,7 @@ fn run<R: Abort + Threads + Wait + Sync>(
     alloc: Global,
 ) -> Result<(Vec<u8>, Result<(), ScriptFault>), Fail> {
     let mut output = room(alloc)?;
-    let device = zeros(alloc, 23)?;
+    let device = zeros(alloc, sectors_needed(4))?;
     let mut reader = SCRIPT;
     let end = run_script(rt, alloc, &mut reader, &mut output, device);
     Ok((output, end))
