@@ -13,7 +13,7 @@ program=crates/turn_console/out/turn_console
 for count in 50000 100000; do
     script="$work/turns_$count"
     python3 bench/console/script.py turns "$count" > "$script"
-    python3 bench/console/measure.py "$program" $((4 * count + 7)) "$script" \
+    python3 bench/console/measure.py "$program" $((4 * count + 39)) "$script" \
         $((2 * count + 3)) 5 "total $count"
 done
 for count in 500000 1000000; do

@@ -1,7 +1,8 @@
 #!/usr/bin/env bash
 # Posts per second, and screened batches of 15 entries per second, of the ledger and of the same
 # ledger in plain Rust (rustc -O, standard library alone): the best of several runs that take turns,
-# on the same entries. Both print how many entries had a yes and the total, which must agree.
+# on the same entries, spread over 64 accounts and over all 1,024. Both print how many entries had a
+# yes and the total, which must agree.
 set -euo pipefail
 cd "$(dirname "$0")/.."
 work=$(mktemp -d)
@@ -15,13 +16,12 @@ mkdir "$work/crates/ledger_bench/src"
 cp bench/ledger/main.rt.txt "$work/crates/ledger_bench/src/main.rt"
 grep '^turn_ledger:' crates.txt > "$work/crates.txt"
 echo 'ledger_bench: turn_ledger' >> "$work/crates.txt"
-(cd "$work/crates/ledger_bench" && rt run > "$work/build.log" 2>&1) || { tail "$work/build.log"; exit 1; }
+(cd "$work/crates/ledger_bench" && rt run -- 64 > "$work/build.log" 2>&1) || { tail "$work/build.log"; exit 1; }
 rustc -O --edition 2021 -o "$work/plain" bench/baseline/ledger.rs
 
-for _ in 1 2 3 4 5 6 7; do
-    "$work/plain" | sed 's/^/plain /'
-    "$work/crates/ledger_bench/out/ledger_bench" | sed 's/^/proved /'
-done | awk '
+# The ratios of the best runs, by lines of the plain and of the proved program.
+ratios() {
+    awk '
     { key = $1 " " $2; answer[$2] = answer[$2] ? answer[$2] : $3 " " $4 }
     answer[$2] != $3 " " $4 { print "the answers differ: " $0; failed = 1; exit 1 }
     !(key in best) || $5 < best[key] { best[key] = $5 }
@@ -33,3 +33,12 @@ done | awk '
                 count[what] * 1000 / best["proved " what], count[what] * 1000 / best["plain " what],
                 best["plain " what] / best["proved " what]
     }'
+}
+
+for accounts in 64 1024; do
+    echo "entries spread over $accounts accounts:"
+    for _ in 1 2 3 4 5 6 7; do
+        "$work/plain" "$accounts" | sed 's/^/plain /'
+        "$work/crates/ledger_bench/out/ledger_bench" "$accounts" | sed 's/^/proved /'
+    done | ratios
+done

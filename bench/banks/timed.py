@@ -7,6 +7,8 @@ import subprocess
 import sys
 import time
 
+import image
+
 TURNS = 10_000
 SWEEP = (0, 1, 2, 1)
 
@@ -25,18 +27,18 @@ class Spent:
 
 
 def script():
-    """So many turns of a line of three stations, each with one deposit."""
+    """So many turns of a line of three stations, each with one deposit, to one account after another."""
     lines = ["open 3 000 100"]
     for number in range(TURNS):
         station = SWEEP[number % 4]
-        lines += [f"post {station} deposit {number % 64 + 1} 1", f"turn {station}"]
+        lines += [f"post {station} deposit {number % image.ACCOUNTS + 1} 1", f"turn {station}"]
     return "".join(line + "\n" for line in lines)
 
 
 def formatted(program, path, slots):
     """Makes a file with an empty journal."""
     path.unlink(missing_ok=True)
-    words = [program, "--device", path, "--sectors", str(7 + 4 * slots)]
+    words = [program, "--device", path, "--sectors", str(image.sectors_needed(slots))]
     subprocess.run(words, input=f"format {slots}\n".encode(), stdout=subprocess.DEVNULL, check=True)
 
 

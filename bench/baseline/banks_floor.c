@@ -11,6 +11,11 @@
 
 #define SECTOR 512
 
+/* The sectors of a snapshot, sixteen of balances and one of marks; and of a bank before its slots: its gate, its head, and
+   its snapshot. */
+#define SNAPSHOT 17
+#define FRONT (2 + SNAPSHOT)
+
 static int file;
 static const char closed[SECTOR];
 static char gate[SECTOR], head[SECTOR], snapshot[SECTOR], body[SECTOR];
@@ -43,9 +48,11 @@ static void checkpoint(off_t front, long slots) {
         write_durably(closed, front);
     }
     write_sector(head, front + 1);
-    write_sector(snapshot, front + 2);
+    for (long part = 0; part < SNAPSHOT; part++) {
+        write_sector(snapshot, front + 2 + part);
+    }
     for (long slot = 0; slot < slots; slot++) {
-        write_sector(closed, front + 4 + 2 * slot);
+        write_sector(closed, front + FRONT + 2 * slot + 1);
     }
     sync_file();
     write_durably(gate, front);
@@ -64,12 +71,12 @@ int main(int count, char **words) {
     file = open(words[1], O_RDWR);
     require(file >= 0, words[1]);
     for (long turn = 0; turn < turns; turn++) {
-        off_t front = 1 + turn / slots % 2 * (3 + 2 * slots), slot = turn % slots;
+        off_t front = 1 + turn / slots % 2 * (FRONT + 2 * slots), slot = turn % slots;
         if (turn > 0 && slot == 0) {
             checkpoint(front, slots);
         }
-        write_durably(body, front + 3 + 2 * slot);
-        write_durably(gate, front + 4 + 2 * slot);
+        write_durably(body, front + FRONT + 2 * slot);
+        write_durably(gate, front + FRONT + 2 * slot + 1);
         require(write(1, "turn \n", 6) == 6, "write");
     }
     return 0;

@@ -1,4 +1,5 @@
-//! Posts and screened batches of the ledger of the console in plain Rust.
+//! Posts and screened batches of the ledger of the console in plain Rust. Word: how many accounts the entries are spread
+//! over, from 1 to 1,024.
 #![allow(dead_code)]
 
 #[path = "console/entry.rs"]
@@ -8,6 +9,7 @@ mod ledger;
 
 use entry::Entry;
 use ledger::{Ledger, BATCH_LIMIT};
+use std::env;
 use std::time::Instant;
 
 const ENTRIES: usize = 4096;
@@ -20,14 +22,14 @@ fn next(seed: u64) -> u64 {
         .wrapping_add(1_442_695_040_888_963_407)
 }
 
-/// An account from 1 to 64.
-fn account(word: u64) -> u32 {
-    (word % 64) as u32 + 1
+/// One of so many accounts.
+fn account(word: u64, accounts: u32) -> u32 {
+    (word % u64::from(accounts)) as u32 + 1
 }
 
-fn entry_of(word: u64) -> Entry {
-    let from = account(word >> 20);
-    let to = account(word >> 30);
+fn entry_of(word: u64, accounts: u32) -> Entry {
+    let from = account(word >> 20, accounts);
+    let to = account(word >> 30, accounts);
     let amount = (word >> 40) % 1000;
     let reference = word;
     match (word >> 56) % 3 {
@@ -38,11 +40,12 @@ fn entry_of(word: u64) -> Entry {
 }
 
 fn main() {
+    let accounts = env::args().nth(1).expect("a word").parse().expect("a number");
     let mut seed = 1;
     let mut entries = Vec::with_capacity(ENTRIES);
     for _ in 0..ENTRIES {
         seed = next(seed);
-        entries.push(entry_of(seed));
+        entries.push(entry_of(seed, accounts));
     }
     let mut ledger = Ledger::new();
 

@@ -67,7 +67,7 @@ def measure(stopwatch, program, folder, cores, name, lines, load, runs):
         sink.writelines(lines)
     results = []
     for _ in range(runs):
-        command = [stopwatch, program, "--sectors", str(4 * slots + 7)]
+        command = [stopwatch, program, "--sectors", str(4 * slots + 39)]
         results.append(run(command, script, script + ".answers"))
         looked_at(script + ".answers", turns, posted, days)
     seconds = [seconds for seconds, _ in results]

@@ -3,6 +3,7 @@ import os
 import subprocess
 
 import scripts
+from image import sectors_needed
 from runs import Work, require_same
 from table import Aim
 
@@ -18,7 +19,7 @@ def formatted(program, path):
     """Makes a file with the program, and an empty journal in it."""
     def prepare():
         path.unlink(missing_ok=True)
-        words = [program, "--device", path, "--sectors", str(4 * BATCHES + 7)]
+        words = [program, "--device", path, "--sectors", str(sectors_needed(BATCHES))]
         subprocess.run(words, input=f"format {BATCHES}\n".encode(), stdout=subprocess.DEVNULL, check=True)
     return prepare
 
@@ -28,7 +29,7 @@ def zeros(path):
     keeps a file in pieces as large as it was written in, and a write of one sector takes longer in a large piece.
     """
     def prepare():
-        length = 512 * (4 * BATCHES + 7)
+        length = 512 * sectors_needed(BATCHES)
         with open(path, "wb", buffering=0) as file:
             for at in range(0, length, PIECE):
                 file.write(bytes(min(PIECE, length - at)))

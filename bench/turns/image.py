@@ -3,14 +3,27 @@ import random
 import struct
 
 SECTOR = 512
+ACCOUNTS = 1_024
 PLACES = 15
 PAYLOADS = 64
 OPEN = b"\xa5" + bytes(SECTOR - 1)
 
+# The sectors of a bank before its slots: its gate, its head, sixteen of balances, and one of marks.
+FRONT = 19
+
+
+def bank_sectors(slots):
+    return FRONT + 2 * slots
+
+
+def sectors_needed(slots):
+    """How many sectors the superblock and two banks of so many slots take."""
+    return 1 + 2 * bank_sectors(slots)
+
 
 def live_bytes(slots):
     """How many bytes the superblock and the first bank take."""
-    return SECTOR * (1 + 3 + 2 * slots)
+    return SECTOR * (1 + bank_sectors(slots))
 
 
 def place(kind, source, target, amount, reference):
@@ -21,7 +34,7 @@ def payload(words):
     """Fifteen entries that take only what some of them brought, and what they change in each account."""
     places, changes = [], {}
     for reference in range(0, PLACES, 3):
-        account, other = words.sample(range(1, 65), 2)
+        account, other = words.sample(range(1, ACCOUNTS + 1), 2)
         brought = words.randint(3, 999)
         moved, taken = words.randint(1, brought - 2), 1
         places.append(place(1, 0, account, brought, reference))
@@ -34,7 +47,7 @@ def payload(words):
 
 def balances(payloads, batches):
     """What each account holds after so many batches, which take the payloads in turns."""
-    held = dict.fromkeys(range(1, 65), 0)
+    held = dict.fromkeys(range(1, ACCOUNTS + 1), 0)
     for number, (_, changes) in enumerate(payloads):
         times = len(range(number, batches, len(payloads)))
         for account, change in changes.items():
@@ -43,9 +56,9 @@ def balances(payloads, batches):
 
 
 def front(epoch, base, held):
-    """A bank's gate, open, its head, and its snapshot of what each account holds."""
+    """A bank's gate, open, its head, and its snapshot of what each account holds, none of them sealed."""
     head = struct.pack(">4s4xQQ", b"TLBK", epoch, base)
-    return OPEN + head.ljust(SECTOR, b"\0") + struct.pack(">64Q", *held.values())
+    return OPEN + head.ljust(SECTOR, b"\0") + struct.pack(f">{ACCOUNTS}Q", *held.values()) + bytes(SECTOR)
 
 
 def rows(payloads, first, count):
@@ -63,7 +76,7 @@ def write(path, slots):
     words = random.Random(1)
     payloads = [payload(words) for _ in range(PAYLOADS)]
     with open(path, "wb") as file:
-        file.write(struct.pack(">4sHHQ", b"TLDG", 2, 0, slots).ljust(SECTOR, b"\0"))
+        file.write(struct.pack(">4sHHQ", b"TLDG", 3, 0, slots).ljust(SECTOR, b"\0"))
         for epoch, base in ((2, slots), (1, 0)):
             file.write(front(epoch, base, balances(payloads, base)))
             file.writelines(rows(payloads, base, slots))

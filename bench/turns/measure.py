@@ -24,8 +24,9 @@ def main():
     folder, rounds = pathlib.Path(sys.argv[1]), int(sys.argv[2])
     runs, ratios, memory = Runs(folder, rounds), Ratios(), Memory()
     replaced = same.require_same(folder)
-    in_memory.measure(runs, 15, ratios, memory)
-    in_memory.measure(runs, 1, ratios, memory)
+    for entries in in_memory.TURNS:
+        for accounts in in_memory.SPREADS:
+            in_memory.measure(runs, entries, accounts, ratios, memory)
     durable.measure(runs, ratios, memory)
     opening.measure(runs, ratios, memory)
     memory_runs, durable_runs = in_memory.TIMES * rounds, durable.TIMES * rounds

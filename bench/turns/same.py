@@ -5,12 +5,13 @@ import random
 import subprocess
 import sys
 
+from image import ACCOUNTS, sectors_needed
 from spoiled import epoch_of, spoil
 
 SCRIPTS = 300
 
 # What journals of 10, 3 and 1 slots in each bank take, and too little for any.
-SECTORS = (47, 47, 47, 47, 47, 19, 11, 1)
+SECTORS = (*[sectors_needed(10)] * 5, sectors_needed(3), sectors_needed(1), 1)
 
 # Slots of the journals that scripts begin with: mostly so few that a full bank is replaced again and again.
 SLOTS = (1, 1, 2, 2, 3, 3, 4, 10)
@@ -21,7 +22,8 @@ WRONG = (
 
 def entry(words):
     """An entry's words: mostly one that is accepted."""
-    account, other = words.randint(0, 65), words.choice((0, 1, 2, 65))
+    account = words.choice((words.randint(0, 65), words.randint(0, ACCOUNTS + 1)))
+    other = words.choice((0, 1, 2, ACCOUNTS, ACCOUNTS + 1))
     amount = words.choice((0, 1, 7, 300, 999_999_999_999_999_900))
     return words.choice((
         f"deposit {account} {amount}", f"deposit {account} 00{amount}", f"withdraw {other} {amount}",

@@ -4,9 +4,9 @@ import random
 SWEEP = (0, 1, 2, 1)
 
 
-def entry(words):
+def entry(words, accounts):
     """One entry's words: a deposit, a withdrawal or a transfer, which the rules may refuse."""
-    account, other, amount = words.randint(1, 64), words.randint(1, 64), words.randint(1, 999)
+    account, other, amount = words.randint(1, accounts), words.randint(1, accounts), words.randint(1, 999)
     kind = words.randrange(3)
     if kind == 0:
         return f"deposit {account} {amount}"
@@ -15,23 +15,25 @@ def entry(words):
     return f"transfer {account} {other} {amount}"
 
 
-def turns(count, entries):
-    """So many turns, each with a deposit, which is always accepted, and other entries up to this number."""
+def turns(count, entries, accounts=64):
+    """So many turns, each with a deposit, which is always accepted, and other entries up to this number, spread over so
+    many accounts.
+    """
     words = random.Random(1)
     yield "open 3 000 100"
     for number in range(count):
         station = SWEEP[number % 4]
-        yield f"post {station} deposit {words.randint(1, 64)} {words.randint(500, 999)}"
+        yield f"post {station} deposit {words.randint(1, accounts)} {words.randint(500, 999)}"
         for _ in range(entries - 1):
-            yield f"post {station} {entry(words)}"
+            yield f"post {station} {entry(words, accounts)}"
         yield f"turn {station}"
     yield "balances"
 
 
-def in_memory(count, entries):
+def in_memory(count, entries, accounts):
     """The same on a device in memory, which is formatted first."""
     yield f"format {count}"
-    yield from turns(count, entries)
+    yield from turns(count, entries, accounts)
 
 
 def write(path, lines):

@@ -6,10 +6,13 @@ from drawing import line, picture, rectangle, text
 
 SECTOR, PLACE = 512, 32
 SLOTS = 3
-SECTORS = 7 + 4 * SLOTS
+# the sectors of a bank before its slots: its gate, its head, sixteen of balances, and one of marks
+FRONT = 19
+SECTORS = 1 + 2 * (FRONT + 2 * SLOTS)
 # the sectors that are drawn: the superblock, and the slots of the first bank
-DRAWN = [0, *range(4, 4 + 2 * SLOTS)]
-BODY = 8
+DRAWN = [0, *range(1 + FRONT, 1 + FRONT + 2 * SLOTS)]
+# the body of the last slot
+BODY = 1 + FRONT + 2 * (SLOTS - 1)
 BOX, GAP, LEFT, TOP, ROW = 26, 5, 143, 78, 46
 
 

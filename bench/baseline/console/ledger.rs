@@ -2,7 +2,7 @@
 
 use crate::entry::{Entry, EntryRefusal, Verdict};
 
-pub const ACCOUNTS: u32 = 64;
+pub const ACCOUNTS: u32 = 1024;
 pub const BATCH_LIMIT: usize = 15;
 const TOTAL_LIMIT: u64 = 1_000_000_000_000_000_000;
 
@@ -61,32 +61,47 @@ fn take<A: Accounts>(accounts: &mut A, from: u32, amount: u64) -> Verdict {
     Ok(())
 }
 
+/// All accounts at one moment, account 1 first.
+pub struct Snapshot {
+    /// What each account holds.
+    pub balances: Vec<u64>,
+    /// Whether each account is sealed.
+    pub sealed: Vec<bool>,
+}
+
+impl Snapshot {
+    /// Every account at zero, and none of them sealed.
+    pub fn empty() -> Snapshot {
+        Snapshot { balances: vec![0; ACCOUNTS as usize], sealed: vec![false; ACCOUNTS as usize] }
+    }
+}
+
 pub struct Ledger {
-    balances: Vec<u64>,
+    accounts: Snapshot,
     total: u64,
 }
 
 impl Ledger {
     pub fn new() -> Ledger {
-        Ledger { balances: vec![0; ACCOUNTS as usize], total: 0 }
+        Ledger { accounts: Snapshot::empty(), total: 0 }
     }
 
-    /// Takes these balances in place of its own, unless they are over the limit together.
-    pub fn restore(&mut self, balances: Vec<u64>) -> bool {
+    /// Takes these accounts in place of its own, unless their balances are over the limit together.
+    pub fn restore(&mut self, accounts: Snapshot) -> bool {
         let mut total = 0;
-        for &balance in &balances {
+        for &balance in &accounts.balances {
             if balance > TOTAL_LIMIT - total {
                 return false;
             }
             total += balance;
         }
-        *self = Ledger { balances, total };
+        *self = Ledger { accounts, total };
         true
     }
 
-    /// What each account holds, account 1 first.
-    pub fn balances(&self) -> &[u64] {
-        &self.balances
+    /// The accounts as they are.
+    pub fn accounts(&self) -> &Snapshot {
+        &self.accounts
     }
 
     pub fn total(&self) -> u64 {
@@ -95,7 +110,7 @@ impl Ledger {
 
     /// The accounts that hold something, in ascending order, with what they hold.
     pub fn holding(&self) -> impl Iterator<Item = (u32, u64)> + '_ {
-        (1..).zip(self.balances.iter().copied()).filter(|&(_, balance)| balance > 0)
+        (1..).zip(self.accounts.balances.iter().copied()).filter(|&(_, balance)| balance > 0)
     }
 
     pub fn post(&mut self, entry: &Entry) -> Verdict {
@@ -116,7 +131,7 @@ impl Ledger {
 
 impl Accounts for Ledger {
     fn held_by(&self, account: u32) -> u64 {
-        self.balances[account as usize - 1]
+        self.accounts.balances[account as usize - 1]
     }
 
     fn held_by_all(&self) -> u64 {
@@ -124,12 +139,12 @@ impl Accounts for Ledger {
     }
 
     fn credit(&mut self, account: u32, amount: u64) {
-        self.balances[account as usize - 1] += amount;
+        self.accounts.balances[account as usize - 1] += amount;
         self.total += amount;
     }
 
     fn debit(&mut self, account: u32, amount: u64) {
-        self.balances[account as usize - 1] -= amount;
+        self.accounts.balances[account as usize - 1] -= amount;
         self.total -= amount;
     }
 }
@@ -157,7 +172,7 @@ struct Scratch<'a> {
 impl Scratch<'_> {
     fn over(ledger: &Ledger) -> Scratch<'_> {
         Scratch {
-            balances: &ledger.balances,
+            balances: &ledger.accounts.balances,
             total: ledger.total,
             changes: [(0, 0); 2 * BATCH_LIMIT],
             count: 0,

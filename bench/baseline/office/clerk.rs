@@ -96,7 +96,7 @@ impl<D: Device> Clerk<D> {
         let record = Record::of(station, accepted(entries, verdicts.as_slice()));
         let posted = match record.is_empty() {
             true => None,
-            false => Some(self.journal.append(&mut self.device, &record, self.ledger.balances())?),
+            false => Some(self.journal.append(&mut self.device, &record, self.ledger.accounts())?),
         };
         for entry in accepted(entries, verdicts.as_slice()) {
             self.ledger.post(entry).expect("an accepted entry");
