@@ -198,9 +198,10 @@ enum Values {
 
 const FOUR: [u8; 4] = [0x00, 0x01, 0xa5, 0xff];
 
-// Which values each byte of a sector takes: of one that is all zero four, of any other one all.
-fn values_of(sector: &Sector) -> Values {
-    if *sector == [0; SECTOR] {
+// Which values the byte at a place of a sector takes: of one that is all zero four, but for its first byte, which is
+// that of a gate, and of any other one all.
+fn values_at(sector: &Sector, place: usize) -> Values {
+    if place > 0 && *sector == [0; SECTOR] {
         Values::Four
     } else {
         Values::All
@@ -267,8 +268,8 @@ fn replace_sector(
     let mut refused = 0u32;
     assert!(rt; at < image.len());
     let sound = image[at];
-    let values = values_of(&sound);
     for place in 0..SECTOR {
+        let values = values_at(&sound, place);
         let (after, count) = replace_byte(rt, alloc, device, image, (at, place), values)?;
         device = after;
         refused = refused.saturating_add(count);
