@@ -20,7 +20,7 @@ from pathlib import Path
 
 import page
 from edits import BadEdit, edits_below, read_edit
-from lanes import try_all
+from lanes import lanes, try_all
 from progress import Progress
 from toolchain import build_libraries
 from trials import Aimed, Outcome, aimed_at, batches
@@ -58,8 +58,8 @@ def tell(outcome):
         print(f"{one}: {outcome.told} ({outcome.seconds:.0f} s). Alone: {alone}", flush=True)
 
 
-def try_edits(edits, tree, progress):
-    """The outcomes of edits of a tree whose libraries are built as far as the progress tells."""
+def try_edits(edits, tree, progress, count):
+    """The outcomes of edits of a tree whose libraries are built as far as the progress tells, so many tried at once."""
     aimed, outcomes = [], []
 
     def note(outcome):
@@ -71,7 +71,7 @@ def try_edits(edits, tree, progress):
             aimed.append(aimed_at(edit, tree))
         except BadEdit as bad:
             note(Outcome(Aimed(edit, (), ()), False, f"BAD EDIT: {bad}", 0.0))
-    try_all(batches(aimed, tree), tree, progress, note)
+    try_all(batches(aimed, tree), tree, progress, count, note)
     return outcomes
 
 
@@ -80,7 +80,7 @@ def try_itself(tree, progress):
     cases = [read_edit(path, path.parent.name) for path in sorted(CASES.glob("*/*.edit"))]
     expected = dict(line.split(": ", 1) for line in (CASES / "expected").read_text().splitlines())
     build_unless_built(cases, tree)
-    told = {str(outcome.aimed.edit): outcome for outcome in try_edits(cases, tree or Path.cwd(), progress)}
+    told = {str(outcome.aimed.edit): outcome for outcome in try_edits(cases, tree or Path.cwd(), progress, 1)}
     wrong = []
     for name, beginning in expected.items():
         outcome = told.pop(name)
@@ -107,7 +107,7 @@ def main():
     start = time.monotonic()
     edits = wanted(edits_below("crates"), words.names)
     build_unless_built(edits, tree)
-    outcomes = try_edits(edits, tree or Path.cwd(), progress)
+    outcomes = try_edits(edits, tree or Path.cwd(), progress, lanes())
     refused = [outcome for outcome in outcomes if outcome.is_refused]
     whole = sorted(str(outcome.aimed.edit) for outcome in outcomes if outcome.by_whole_crate)
     if whole:

@@ -73,8 +73,8 @@ class Queue:
         return batch
 
 
-def try_all(batches, tree, progress, tell):
-    """Tries all batches, and tells each outcome as it comes."""
+def try_all(batches, tree, progress, count, tell):
+    """Tries all batches, so many at once, and tells each outcome as it comes."""
     queue, telling = Queue(batches, tree, progress), threading.Lock()
     with room_for_checks() as (room, group):
 
@@ -88,7 +88,6 @@ def try_all(batches, tree, progress, tell):
                         tell(outcome)
                 batch = queue.take(batch.crate)
 
-        count = lanes()
         with ThreadPoolExecutor(count) as pool:
             for done in [pool.submit(lane, number) for number in range(count)]:
                 done.result()
