@@ -12,7 +12,7 @@ use denote.Enum.Bare.{same_true, true_same}
 use Rattle.turn_ledger.specs.InPlace.{filled}
 use Rattle.turn_ledger.specs.declared.limits.TheConstants.{BATCH_LIMIT}
 use Rattle.turn_ledger.specs.declared.entry.Entry.{Entry}
-use Rattle.turn_ledger.specs.declared.entry.Entry.TheVariants.{Deposit, Withdraw, Transfer}
+use Rattle.turn_ledger.specs.declared.entry.Entry.TheVariants.{Deposit, Withdraw, Transfer, Seal}
 use Rattle.turn_ledger.specs.declared.refusal.EntryRefusal.{EntryRefusal}
 use Rattle.turn_ledger.specs.declared.batch.TheConstants as batch
 use Rattle.turn_ledger.specs.declared.verdicts.TheConstants as verdicts
@@ -46,6 +46,15 @@ Entry-decides (Transfer from to amount reference) (Withdraw from' amount' refere
 Entry-decides (Transfer from to amount reference) (Transfer from' to' amount' reference') =
     Decides-like (entry_eq.ghosts.eq (Transfer from to amount reference) (Transfer from' to' amount' reference')) (λ p i. Transfer (p.0 i) (p.1.0 i) (p.1.1.0 i) (p.1.1.1 i)) (λ same. (cc, (cc, (cc, cc))))
     (four from from' to to' amount amount' reference reference')
+Entry-decides (Deposit to amount reference) (Seal account' reference') = (λ yes. absurd (cc), λ same. absurd (cc))
+Entry-decides (Withdraw from amount reference) (Seal account' reference') = (λ yes. absurd (cc), λ same. absurd (cc))
+Entry-decides (Transfer from to amount reference) (Seal account' reference') = (λ yes. absurd (cc), λ same. absurd (cc))
+Entry-decides (Seal account reference) (Deposit to' amount' reference') = (λ yes. absurd (cc), λ same. absurd (cc))
+Entry-decides (Seal account reference) (Withdraw from' amount' reference') = (λ yes. absurd (cc), λ same. absurd (cc))
+Entry-decides (Seal account reference) (Transfer from' to' amount' reference') = (λ yes. absurd (cc), λ same. absurd (cc))
+Entry-decides (Seal account reference) (Seal account' reference') =
+    Decides-like (entry_eq.ghosts.eq (Seal account reference) (Seal account' reference')) (λ p i. Seal (p.0 i) (p.1 i)) (λ same. (cc, cc))
+    (Decides-and (account == account') (reference == reference') (Decides-eqb account account') (Decides-eqb reference reference'))
 
 Refusal-decides : (a b : EntryRefusal) → Decides (refusal_eq.ghosts.eq a b) (a ≡ b)
 Refusal-decides a b = (same_true refusal.the_type tt a b, true_same refusal.the_type a b)

@@ -1,9 +1,9 @@
 -- The laws of the rules, as statements that public functions carry.
-use Rattle.std.specs.Prelude.{◌≡◌, ℕ, ◌+◌, List, [], ◌∷◌, ◌++◌, sum_by, ◌↔◌, Ok}
+use Rattle.std.specs.Prelude.{◌≡◌, ℕ, ◌+◌, true, List, [], ◌∷◌, ◌++◌, sum_by, ◌↔◌, Ok}
 use Rattle.turn_ledger.specs.declared.entry.Entry.{Entry}
 use Rattle.turn_ledger.specs.Entry.{verdict}
 use Rattle.turn_ledger.specs.EntryLaws.{Passes}
-use Rattle.turn_ledger.specs.State.{LedgerState, IsAccount, IsLedger, balance_of}
+use Rattle.turn_ledger.specs.State.{LedgerState, IsAccount, IsLedger, balance_of, mark_of}
 use Rattle.turn_ledger.specs.Screen.{screened, accepted, AreAccepted, posted_in_order}
 use Rattle.turn_ledger.specs.Ledger.{into, out_of, entries_of, ledger_after}
 
@@ -21,6 +21,13 @@ NothingIsLostOrMade =
     (state : LedgerState) (batches : List (List Entry)) (account : ℕ) → IsLedger state → AreAccepted state (entries_of batches) → IsAccount account
     → balance_of (ledger_after state batches) account + sum_by (out_of account) (entries_of batches)
     ≡ balance_of state account + sum_by (into account) (entries_of batches)
+
+-- A sealed account keeps its balance and stays sealed, whatever is accepted.
+abbrev pub ASealedAccountStaysAsItIs : Type 0
+ASealedAccountStaysAsItIs =
+    (state : LedgerState) (batches : List (List Entry)) (account : ℕ) → IsLedger state → AreAccepted state (entries_of batches) → IsAccount account
+    → mark_of state account ≡ true
+    → (balance_of (ledger_after state batches) account ≡ balance_of state account) × (mark_of (ledger_after state batches) account ≡ true)
 
 -- The ledger after more batches is that after the later ones, from that after the earlier ones.
 abbrev pub BatchesCompose : Type 0

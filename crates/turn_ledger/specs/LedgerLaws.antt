@@ -1,5 +1,5 @@
 -- Posting entries one after another gives each account's sum, and ledgers after batches compose.
-use Rattle.std.specs.Prelude.{◌≡◌, ◌≢◌, ℕ, ◌+◌, ◌-◌, ◌≤◌, ◌<◌, ◌==◌, if◌then◌else◌, List, [], ◌∷◌, ◌++◌, map, length, sum_by, Ok, refl}
+use Rattle.std.specs.Prelude.{◌≡◌, ◌≢◌, ℕ, ◌+◌, ◌-◌, ◌≤◌, ◌<◌, ◌==◌, Bool, false, if◌then◌else◌, List, [], ◌∷◌, ◌++◌, map, length, sum_by, Ok, refl}
 use Rattle.std.specs.List.{range_with_len}
 use Rattle.std.proofs.Common.{◌∙◌, ap, sym, subst, arith, get_or, ⊎_elim, add-zero}
 use Rattle.std.proofs.lemmas.Bool.{cases_eq, eq-eqb, ne_eqb}
@@ -9,13 +9,14 @@ use Rattle.std.proofs.lemmas.List.FromFn.{length-map-range_with_len, get_or-map-
 use Rattle.std.proofs.lemmas.List.Sums.{sum_by-cons}
 use Rattle.turn_ledger.specs.declared.limits.TheConstants.{ACCOUNTS}
 use Rattle.turn_ledger.specs.declared.entry.Entry.{Entry}
-use Rattle.turn_ledger.specs.declared.entry.Entry.TheVariants.{Deposit, Withdraw, Transfer}
+use Rattle.turn_ledger.specs.declared.entry.Entry.TheVariants.{Deposit, Withdraw, Transfer, Seal}
 use Rattle.turn_ledger.specs.State.{LedgerState, IsAccount, balance_of, IsLedger, credited, debited}
 use Rattle.turn_ledger.specs.StateLaws.{same_state, length-with_balance, balance_of-with_balance_same, balance_of-with_balance_other}
 use Rattle.turn_ledger.specs.Entry.{verdict, posted}
 use Rattle.turn_ledger.specs.EntryLaws.{passes-from_yes, length-posted, IsLedger-posted}
+use Rattle.turn_ledger.specs.MarkLaws.{length-sealed-posted_in_order, mark_of-posted_in_order}
 use Rattle.turn_ledger.specs.Screen.{AreAccepted, posted_in_order}
-use Rattle.turn_ledger.specs.Ledger.{into, out_of, entries_of, balance_after, ledger_after}
+use Rattle.turn_ledger.specs.Ledger.{into, out_of, sealed_after, entries_of, balance_after, ledger_after}
 
 -- an amount where the accounts are one, and nothing where they aren't
 if_same : (account other amount : ℕ) → account ≡ other → (if account == other then amount else 0) ≡ amount
@@ -58,6 +59,7 @@ balance_of-posted state (Transfer from to amount reference) account l ok k =
     let p = passes-from_yes state (Transfer from to amount reference) ok in
     let size : length (debited state from amount).balances ≡ ACCOUNTS = length-with_balance state from _ ∙ l.accounts in
     omega (arith, balance_of-debited state from amount account l.accounts p.1 k p.4, balance_of-credited (debited state from amount) to amount account size p.2 k)
+balance_of-posted state (Seal sealed reference) account l ok k = refl
 
 -- entries posted in turn
 pub length-posted_in_order : (state : LedgerState) (entries : List Entry) → length (posted_in_order state entries).balances ≡ length state.balances
@@ -108,16 +110,15 @@ balances_agree state entries k d l a h =
     ∙ omega (arith, sums)
     ∙ sym (get_or-map-range_with_len (balance_after state entries) 1 (length state.balances) k (k + 1) d within (omega arith))
 
--- entries leave the marks
-pub sealed-posted : (state : LedgerState) (entry : Entry) → (posted state entry).sealed ≡ state.sealed
-unfolding posted
-sealed-posted state (Deposit to amount reference) = refl
-sealed-posted state (Withdraw from amount reference) = refl
-sealed-posted state (Transfer from to amount reference) = refl
-
-pub sealed-posted_in_order : (state : LedgerState) (entries : List Entry) → (posted_in_order state entries).sealed ≡ state.sealed
-sealed-posted_in_order state [] = refl
-sealed-posted_in_order state (entry ∷ entries) = sealed-posted_in_order (posted state entry) entries ∙ sealed-posted state entry
+marks_agree : (state : LedgerState) (entries : List Entry) (k : ℕ) (d : Bool) → IsLedger state → AreAccepted state entries → k < length (posted_in_order state entries).sealed → get_or (posted_in_order state entries).sealed k d ≡ get_or (map (sealed_after state entries) (range_with_len 1 (length state.sealed))) k d
+marks_agree state entries k d l a h =
+    let within : k < length state.sealed = subst (λ (n : ℕ). k < n) (length-sealed-posted_in_order state entries) h in
+    let account : IsAccount (k + 1) = (omega arith, omega (arith, l.marks)) in
+    let place : k + 1 - 1 ≡ k = omega arith in
+    get_or_default (posted_in_order state entries).sealed k d false h
+    ∙ ap (λ (n : ℕ). get_or (posted_in_order state entries).sealed n false) (sym place)
+    ∙ mark_of-posted_in_order state entries (k + 1) l a account
+    ∙ sym (get_or-map-range_with_len (sealed_after state entries) 1 (length state.sealed) k (k + 1) d within (omega arith))
 
 pub posted_in_order-is-ledger_after : (state : LedgerState) (batches : List (List Entry)) → IsLedger state → AreAccepted state (entries_of batches) → posted_in_order state (entries_of batches) ≡ ledger_after state batches
 unfolding ledger_after
@@ -126,15 +127,13 @@ posted_in_order-is-ledger_after state batches l a =
     (same_lists _ _
     (length-posted_in_order state (entries_of batches) ∙ sym (length-map-range_with_len (balance_after state (entries_of batches)) 1 (length state.balances)))
     (λ k d h. balances_agree state (entries_of batches) k d l a h))
-    (sealed-posted_in_order state (entries_of batches))
+    (same_lists _ _
+    (length-sealed-posted_in_order state (entries_of batches) ∙ sym (length-map-range_with_len (sealed_after state (entries_of batches)) 1 (length state.sealed)))
+    (λ k d h. marks_agree state (entries_of batches) k d l a h))
 
 -- a ledger after batches is a ledger
 pub IsLedger-ledger_after : (state : LedgerState) (batches : List (List Entry)) → IsLedger state → AreAccepted state (entries_of batches) → IsLedger (ledger_after state batches)
 IsLedger-ledger_after state batches l a = subst IsLedger (posted_in_order-is-ledger_after state batches l a) (IsLedger-posted_in_order state (entries_of batches) l a)
-
-pub sealed-ledger_after : (state : LedgerState) (batches : List (List Entry)) → (ledger_after state batches).sealed ≡ state.sealed
-unfolding ledger_after
-sealed-ledger_after state batches = refl
 
 -- one batch
 pub entries_of-one : (batch : List Entry) → entries_of (batch ∷ []) ≡ batch

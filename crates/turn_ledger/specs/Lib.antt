@@ -9,6 +9,7 @@ pub mod ScratchState
 pub mod StateLaws
 pub mod EntryLaws
 pub mod LedgerLaws
+pub mod MarkLaws
 pub mod ScreenLaws
 pub mod Laws
 pub mod PlaceLaws

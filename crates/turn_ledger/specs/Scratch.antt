@@ -1,15 +1,28 @@
--- A state with some balances written over, as the screening of a batch keeps it.
-use Rattle.std.specs.Prelude.{◌≡◌, ℕ, List, fold, slice_set}
+-- A state with some balances written over and some marks set, as the screening of a batch keeps it.
+use Rattle.std.specs.Prelude.{◌≡◌, ℕ, Bool, true, List, fold, slice_set}
 use Rattle.turn_ledger.specs.declared.scratch.Change.{Change}
-use Rattle.turn_ledger.specs.State.{LedgerState, IsLedger, total_of}
+use Rattle.turn_ledger.specs.declared.scratch.Change.TheVariants.{Balance, Mark}
+use Rattle.turn_ledger.specs.State.{LedgerState, IsLedger, total_of, state_of}
 
--- the balances after the changes, in order
+-- what one change makes of the balances, and of the marks
+abbrev pub with_change : List ℕ → Change → List ℕ
+with_change balances (Balance place balance) = slice_set balances place balance
+with_change balances (Mark place) = balances
+
+abbrev pub with_mark : List Bool → Change → List Bool
+with_mark sealed (Balance place balance) = sealed
+with_mark sealed (Mark place) = slice_set sealed place true
+
+-- the balances after the changes, in order, and the marks
 abbrev pub changed : List ℕ → List Change → List ℕ
-changed balances changes = fold (λ (before : List ℕ) change. slice_set before change.place change.balance) balances changes
+changed balances changes = fold with_change balances changes
 
--- the state with the changes written over its balances
+abbrev pub marked : List Bool → List Change → List Bool
+marked sealed changes = fold with_mark sealed changes
+
+-- the state after the changes
 abbrev pub changed_state : LedgerState → List Change → LedgerState
-changed_state state changes = record state { balances = changed state.balances changes }
+changed_state state changes = state_of (changed state.balances changes) (marked state.sealed changes)
 
 -- the changed state is one of a ledger, and its total is kept
 pub record IsKept (state : LedgerState) (total : ℕ) (changes : List Change) : Type 0 where

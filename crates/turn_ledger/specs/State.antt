@@ -1,5 +1,5 @@
 -- What a ledger holds.
-use Rattle.std.specs.Prelude.{◌≡◌, ℕ, ◌-◌, ◌+◌, ◌≤◌, Bool, false, ◌&&◌, nat_le, List, length, sum, replicate, slice_index, slice_index_or, slice_set}
+use Rattle.std.specs.Prelude.{◌≡◌, ℕ, ◌-◌, ◌+◌, ◌≤◌, Bool, true, false, ◌&&◌, nat_le, List, length, sum, replicate, slice_index, slice_index_or, slice_set}
 use Rattle.turn_ledger.specs.declared.limits.TheConstants.{ACCOUNTS, TOTAL_LIMIT}
 
 -- the balance of each account, account 1 first, and the mark of each: whether it is sealed
@@ -43,6 +43,10 @@ empty_ledger = state_of (replicate ACCOUNTS 0) (replicate ACCOUNTS false)
 -- the state with another balance of one account
 abbrev pub with_balance : LedgerState → ℕ → ℕ → LedgerState
 with_balance state account balance = record state { balances = slice_set state.balances (account - 1) balance }
+
+-- the state with that account sealed
+abbrev pub sealed_at : LedgerState → ℕ → LedgerState
+sealed_at state account = record state { sealed = slice_set state.sealed (account - 1) true }
 
 -- an amount added to what an account holds
 abbrev pub credited : LedgerState → ℕ → ℕ → LedgerState

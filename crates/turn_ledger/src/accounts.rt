@@ -1,8 +1,8 @@
 //! Posting an entry, wherever the balances stand.
-ghost use Rattle.std.specs.Prelude.{◌≡◌, ℕ, ◌+◌, ◌≤◌, ◌<◌, Ok, OnOk, OnErr};
+ghost use Rattle.std.specs.Prelude.{◌≡◌, ℕ, ◌+◌, ◌≤◌, ◌<◌, true, Ok, OnOk, OnErr};
 ghost use Rattle.std.specs.List.{list_all};
-ghost use Rattle.turn_ledger.specs.State.{LedgerState, IsAccount, IsLedger, is_account as is_account_number, balance_of, total_of, credited, debited};
-ghost use Rattle.turn_ledger.specs.Entry.{amount_of, accounts_of, is_to_itself as is_transfer_to_itself, own_checks, state_checks, first_refusal, verdict, posted};
+ghost use Rattle.turn_ledger.specs.State.{LedgerState, IsAccount, IsLedger, is_account as is_account_number, balance_of, total_of, credited, debited, mark_of, sealed_at};
+ghost use Rattle.turn_ledger.specs.Entry.{is_zero_amount, is_of_sealed, accounts_of, is_to_itself as is_transfer_to_itself, own_checks, state_checks, first_refusal, verdict, posted};
 
 use crate::{ACCOUNTS, Entry, EntryRefusal, TOTAL_LIMIT};
 
@@ -24,6 +24,18 @@ pub(crate) trait Accounts {
     fn held_by_all(&self) -> u64
         ensures value { result ≡ total_of (state self.now) }
         ensures ledger { IsLedger (state self.now) };
+
+    /// Whether an account is sealed.
+    fn is_marked(&self, account: u32) -> bool
+        requires { IsAccount account }
+        ensures { result ≡ mark_of (state self.now) account };
+
+    /// Marks an account as sealed.
+    fn mark(&mut self, account: u32)
+        requires account { IsAccount account }
+        requires room { 0 < room self.old }
+        ensures state { state self.new ≡ sealed_at (state self.old) account }
+        ensures room { room self.old ≤ room self.new + 1 };
 
     /// Adds an amount from outside to what an account holds.
     fn credit(&mut self, account: u32, amount: u64)
@@ -51,13 +63,14 @@ pub(crate) fn is_account(number: u32) -> bool
 }
 
 #[inline]
-fn amount(entry: &Entry) -> u64
-    ensures { result ≡ amount_of entry.now }
+fn is_of_nothing(entry: &Entry) -> bool
+    ensures { result ≡ is_zero_amount entry.now }
 {
     match *entry {
         Entry::Deposit { amount, .. }
         | Entry::Withdraw { amount, .. }
-        | Entry::Transfer { amount, .. } => amount,
+        | Entry::Transfer { amount, .. } => amount == 0,
+        Entry::Seal { .. } => false,
     }
 }
 
@@ -69,6 +82,7 @@ fn names_only_accounts(entry: &Entry) -> bool
         Entry::Deposit { to, .. } => is_account(to),
         Entry::Withdraw { from, .. } => is_account(from),
         Entry::Transfer { from, to, .. } => is_account(from) && is_account(to),
+        Entry::Seal { account, .. } => is_account(account),
     }
 }
 
@@ -77,7 +91,7 @@ fn is_to_itself(entry: &Entry) -> bool
     ensures { result ≡ is_transfer_to_itself entry.now }
 {
     match *entry {
-        Entry::Deposit { .. } | Entry::Withdraw { .. } => false,
+        Entry::Deposit { .. } | Entry::Withdraw { .. } | Entry::Seal { .. } => false,
         Entry::Transfer { from, to, .. } => from == to,
     }
 }
@@ -87,7 +101,7 @@ fn is_to_itself(entry: &Entry) -> bool
 fn check_alone(entry: &Entry) -> Result<(), EntryRefusal>
     ensures { result ≡ first_refusal (own_checks entry.now) }
 {
-    if amount(entry) == 0 {
+    if is_of_nothing(entry) {
         return Err(EntryRefusal::ZeroAmount);
     }
     if !names_only_accounts(entry) {
@@ -118,8 +132,26 @@ fn check_on<A: Accounts>(accounts: &A, entry: &Entry) -> Result<(), EntryRefusal
                 return Err(EntryRefusal::Short);
             }
         }
+        Entry::Seal { .. } => {}
+    }
+    if names_sealed(accounts, entry) {
+        return Err(EntryRefusal::Sealed);
     }
     Ok(())
+}
+
+/// Whether an entry that names accounts alone names a sealed one.
+#[inline]
+fn names_sealed<A: Accounts>(accounts: &A, entry: &Entry) -> bool
+    requires { list_all is_account_number (accounts_of entry.now) ≡ true }
+    ensures { result ≡ is_of_sealed (A.state accounts.now) entry.now }
+{
+    match *entry {
+        Entry::Deposit { to, .. } => accounts.is_marked(to),
+        Entry::Withdraw { from, .. } => accounts.is_marked(from),
+        Entry::Transfer { from, to, .. } => accounts.is_marked(from) || accounts.is_marked(to),
+        Entry::Seal { account, .. } => accounts.is_marked(account),
+    }
 }
 
 /// Posts an entry that has a yes.
@@ -143,6 +175,7 @@ pub(crate) fn change_balances<A: Accounts>(accounts: &mut A, entry: &Entry)
             accounts.debit(from, amount);
             accounts.credit(to, amount);
         }
+        Entry::Seal { account, .. } => accounts.mark(account),
     }
 }
 

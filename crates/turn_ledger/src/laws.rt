@@ -1,11 +1,9 @@
 //! Laws of the rules, each as the contract of a function that does nothing.
 ghost use Rattle.std.specs.Prelude.{◌≡◌, ◌↔◌, ◌≤◌, ℕ, List, length};
 ghost use Rattle.turn_ledger.specs.State.{LedgerState, IsAccount, IsLedger};
-ghost use Rattle.turn_ledger.specs.Entry.{posted};
-ghost use Rattle.turn_ledger.specs.Ledger.{ledger_after};
 ghost use Rattle.turn_ledger.specs.Place.{place_bytes};
 ghost use Rattle.turn_ledger.specs.declared.entry.Entry.{Entry};
-ghost use Rattle.turn_ledger.specs.Laws.{AYesMeansAllRules, PostingGivesTheSums, NothingIsLostOrMade, BatchesCompose, AcceptedEntriesArePosted, LaterEntriesSeeTheAccepted};
+ghost use Rattle.turn_ledger.specs.Laws.{AYesMeansAllRules, PostingGivesTheSums, NothingIsLostOrMade, ASealedAccountStaysAsItIs, BatchesCompose, AcceptedEntriesArePosted, LaterEntriesSeeTheAccepted};
 
 use crate::{BATCH_LIMIT, TOTAL_LIMIT};
 
@@ -20,15 +18,16 @@ pub fn limits_in_numbers()
     ensures place { (entry : Entry) → length (place_bytes entry) ≡ 32 }
 {}
 
-/// An entry has a yes exactly where it keeps all rules: its amount isn't zero, the accounts that it
-/// names are accounts, a transfer names two, its source holds enough, and the total stays within its
-/// limit.
+/// An entry has a yes exactly where it keeps all rules: its amount isn't zero (a seal has none), the accounts that it
+/// names are accounts, a transfer names two, its source holds enough, the total stays within its limit, and no account
+/// that it names is sealed.
 pub fn a_yes_means_all_rules()
     ensures { AYesMeansAllRules }
 {}
 
 /// Entries that have a yes each, in order, posted one after another, leave the ledger after their
-/// batches: each account has what it held and what came in, less what went out.
+/// batches: each account has what it held and what came in, less what went out, and is sealed where it
+/// was or where an entry seals it.
 pub fn posting_gives_the_sums()
     ensures { PostingGivesTheSums }
 {}
@@ -55,10 +54,7 @@ pub fn later_entries_see_the_accepted()
     ensures { LaterEntriesSeeTheAccepted }
 {}
 
-/// Entries leave the marks: each account has after an entry, and after batches, the mark that it had.
-pub fn entries_leave_the_marks()
-    ensures entry { (state : LedgerState) (entry : Entry)
-        → (posted state entry).sealed ≡ state.sealed }
-    ensures batches { (state : LedgerState) (batches : List (List Entry))
-        → (ledger_after state batches).sealed ≡ state.sealed }
+/// An account that is sealed keeps its balance and stays sealed through any accepted batches.
+pub fn a_sealed_account_stays_as_it_is()
+    ensures { ASealedAccountStaysAsItIs }
 {}

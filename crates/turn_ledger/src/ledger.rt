@@ -211,6 +211,14 @@ impl Accounts for Ledger {
         self.total
     }
 
+    fn is_marked(&self, account: u32) -> bool {
+        self.sealed[account as usize - 1]
+    }
+
+    fn mark(&mut self, account: u32) {
+        self.sealed[account as usize - 1] = true;
+    }
+
     fn credit(&mut self, account: u32, amount: u64) {
         self.balances[account as usize - 1] += amount;
         self.total += amount;

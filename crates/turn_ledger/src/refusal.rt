@@ -20,4 +20,7 @@ pub enum EntryRefusal {
     /// A deposit would bring the total over [`crate::TOTAL_LIMIT`].
     #[error("the total of all accounts would pass its limit")]
     OverLimit,
+    /// An account that the entry names is sealed.
+    #[error("the account is sealed")]
+    Sealed,
 }

@@ -2,7 +2,7 @@
 use Rattle.std.proofs.Common.{◌∙◌, ap, sym, arith}
 use Rattle.turn_ledger.specs.State.{LedgerState, total_of, credited}
 use Rattle.turn_ledger.specs.StateLaws.{total_of-debited}
-use Rattle.turn_ledger.specs.EntryLaws.{passes_as, posted-deposit, posted-withdraw, posted-transfer}
+use Rattle.turn_ledger.specs.EntryLaws.{passes_as, posted-deposit, posted-withdraw, posted-transfer, posted-seal}
 use Rattle.turn_ledger.proofs.accounts.change_balances.Goals as goal
 
 pub credit-requires-clause-account : goal.credit-requires-clause-account
@@ -47,3 +47,9 @@ returns-in-Transfer-clause-state g c =
     c.credit-in-Transfer.ensures.state
     ∙ ap (λ (state : LedgerState). credited state c.in-Transfer.to c.in-Transfer.amount) c.debit-in-Transfer.ensures.state
     ∙ sym (posted-transfer _ _ _ _ _ _ c.in-Transfer.is)
+
+pub mark-requires-clause-account : goal.mark-requires-clause-account
+mark-requires-clause-account g c = (passes_as _ _ _ c.in-Seal.is c.requires.accepted).0
+
+pub returns-in-Seal-clause-state : goal.returns-in-Seal-clause-state
+returns-in-Seal-clause-state g c = c.mark.ensures.state ∙ sym (posted-seal _ _ _ _ c.in-Seal.is)
