@@ -181,10 +181,10 @@ pub post_words : (rest more after : List Word) (s kind name : Word) → rest ≡
 post_words rest more after s kind name e f is = cc
 
 pub post_unknown : (rest more after : List Word) (s kind : Word) → rest ≡ s ∷ more → more ≡ kind ∷ after
-    → bytes_eq kind (codes "deposit") ≡ false → bytes_eq kind (codes "withdraw") ≡ false → bytes_eq kind (codes "transfer") ≡ false
+    → bytes_eq kind (codes "deposit") ≡ false → bytes_eq kind (codes "withdraw") ≡ false → bytes_eq kind (codes "transfer") ≡ false → bytes_eq kind (codes "seal") ≡ false
     → line_fault (codes "post" ∷ rest) ≡ Some UnknownCommand
 unfolding line_fault first_wrong takes
-post_unknown rest more after s kind e f d w t = rw (e, f, d, w, t) refl
+post_unknown rest more after s kind e f d w t l = rw (e, f, d, w, t, l) refl
 
 -- ---- what is known of a line by other words
 

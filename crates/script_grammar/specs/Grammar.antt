@@ -8,7 +8,7 @@ use Rattle.script_grammar.specs.declared.commands.Command.{Command}
 use Rattle.script_grammar.specs.declared.commands.Command.TheVariants.{Format, Open, Post, Turn, Bits, Balances, Crash, Day}
 use Rattle.script_grammar.specs.declared.faults.LineFault.{LineFault}
 use Rattle.script_grammar.specs.declared.faults.LineFault.TheVariants.{UnknownCommand, WrongNumberOfWords, BadNumber, BadBits}
-use Rattle.turn_ledger.specs.declared.entry.Entry.TheVariants.{Deposit, Withdraw, Transfer}
+use Rattle.turn_ledger.specs.declared.entry.Entry.TheVariants.{Deposit, Withdraw, Transfer, Seal}
 
 -- what stands at one place of a line: a name, a number above zero, a number, a number below 2^32, bits, or a number
 -- from 1 to 100,000
@@ -36,6 +36,9 @@ withdraw_form = Name (codes "post") ∷ Number ∷ Name (codes "withdraw") ∷ A
 abbrev pub transfer_form : List Field
 transfer_form = Name (codes "post") ∷ Number ∷ Name (codes "transfer") ∷ Account ∷ Account ∷ Number ∷ []
 
+abbrev pub seal_form : List Field
+seal_form = Name (codes "post") ∷ Number ∷ Name (codes "seal") ∷ Account ∷ []
+
 abbrev pub turn_form : List Field
 turn_form = Name (codes "turn") ∷ Number ∷ []
 
@@ -54,7 +57,7 @@ day_form = Name (codes "day") ∷ Moves ∷ []
 -- the forms of lines
 abbrev pub forms : List (List Field)
 forms =
-    format_form ∷ open_form ∷ deposit_form ∷ withdraw_form ∷ transfer_form
+    format_form ∷ open_form ∷ deposit_form ∷ withdraw_form ∷ transfer_form ∷ seal_form
     ∷ turn_form ∷ bits_form ∷ balances_form ∷ crash_form ∷ day_form ∷ []
 
 -- whether the word may stand at the place
@@ -134,6 +137,8 @@ Spells words line (Post station (Withdraw from amount reference)) =
     Fills words withdraw_form (NumberIs station ∷ NumberIs from ∷ NumberIs amount ∷ []) × (reference ≡ line)
 Spells words line (Post station (Transfer from to amount reference)) =
     Fills words transfer_form (NumberIs station ∷ NumberIs from ∷ NumberIs to ∷ NumberIs amount ∷ []) × (reference ≡ line)
+Spells words line (Post station (Seal account reference)) =
+    Fills words seal_form (NumberIs station ∷ NumberIs account ∷ []) × (reference ≡ line)
 Spells words line (Turn station) = Fills words turn_form (NumberIs station ∷ [])
 Spells words line Bits = Fills words bits_form []
 Spells words line Balances = Fills words balances_form []

@@ -127,6 +127,7 @@ fn read_post(mut words: Words<'_>, reference: u64) -> Result<Command, LineFault>
         "deposit" => read_deposit(station, words, reference),
         "withdraw" => read_withdraw(station, words, reference),
         "transfer" => read_transfer(station, words, reference),
+        "seal" => read_seal(station, words, reference),
         _ => Err(LineFault::UnknownCommand),
     }
 }
@@ -183,6 +184,19 @@ fn read_transfer(station: &[u8], words: Words<'_>, reference: u64) -> Result<Com
             from: account(from)?,
             to: account(to)?,
             amount: number(amount)?,
+            reference,
+        },
+    })
+}
+
+fn read_seal(station: &[u8], words: Words<'_>, reference: u64) -> Result<Command, LineFault>
+    ensures { IsRead (codes "post" ∷ station.now ∷ codes "seal" ∷ words.entry) reference result }
+{
+    let sealed = one_word(words)?;
+    Ok(Command::Post {
+        station: number(station)?,
+        entry: Entry::Seal {
+            account: account(sealed)?,
             reference,
         },
     })
