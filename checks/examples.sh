@@ -28,3 +28,4 @@ example full_bank
 example healing
 example two_stations
 example three_stations
+example sealed

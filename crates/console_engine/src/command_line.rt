@@ -18,6 +18,7 @@ The script comes on standard input, one command a line, and is read to its end b
   post S deposit A M          keep an entry for station S: M units to account A
   post S withdraw A M         the same: M units from account A
   post S transfer A B M       the same: M units from account A to account B
+  post S seal A               the same: account A keeps what it holds for good, and no later entry may name it
   turn S                      station S takes its turn with what it holds
   day M                       the stations take M turns, 1 to 100000, each in a thread of its own, and each entry
                               that is held is answered

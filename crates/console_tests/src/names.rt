@@ -117,6 +117,7 @@ fn every_rule_and_verdict_has_its_name(rt: HostRuntime) -> Result<(), Fail> {
         (EntryRefusal::SameAccount, "SameAccount"),
         (EntryRefusal::Short, "Short"),
         (EntryRefusal::OverLimit, "OverLimit"),
+        (EntryRefusal::Sealed, "Sealed"),
     ];
     for (refusal, wanted) in verdicts {
         let name = format!(in rt.alloc(); "{refusal:?}")?;

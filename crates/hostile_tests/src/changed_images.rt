@@ -111,7 +111,7 @@ fn put_number(bytes: &mut Sector, (from, to): (usize, usize), number: u64) {
     }
 }
 
-const KINDS: [u64; 5] = [1, 1, 2, 3, 4];
+const KINDS: [u64; 6] = [1, 1, 2, 3, 4, 5];
 
 const ACCOUNTS: [u64; 6] = [0, 1, 1, 2, 1024, 1025];
 
@@ -125,14 +125,24 @@ const AMOUNTS: [u64; 7] = [
     1_000_000_000_000_000_001,
 ];
 
-// The accounts of an entry of this kind, or nearly: of a deposit none to take from, of a withdrawal none to give to.
+// The accounts of an entry of this kind, or nearly: of a deposit none to take from, of a withdrawal and a seal none to give
+// to.
 fn some_sides(random: &mut Pcg32, kind: u64) -> (u64, u64) {
     let from = one_of(random, &ACCOUNTS);
     let to = one_of(random, &ACCOUNTS);
     match kind {
         1 => (0, to),
-        2 => (from, 0),
+        2 | 4 => (from, 0),
         _ => (from, to),
+    }
+}
+
+// The amount of an entry of this kind, or nearly: a seal has none.
+fn some_amount(random: &mut Pcg32, kind: u64) -> u64 {
+    if kind == 4 {
+        one_of(random, &[0, 0, 1])
+    } else {
+        one_of(random, &AMOUNTS)
     }
 }
 
@@ -149,7 +159,8 @@ fn put_entry(random: &mut Pcg32, bytes: &mut Sector, at: usize) {
     put_part(bytes, at, (0, 1), kind);
     put_part(bytes, at, (4, 8), from);
     put_part(bytes, at, (8, 12), to);
-    put_part(bytes, at, (16, 24), one_of(random, &AMOUNTS));
+    let amount = some_amount(random, kind);
+    put_part(bytes, at, (16, 24), amount);
 }
 
 // A body that is a record of this sequence, or nearly.

@@ -30,6 +30,9 @@ const BALANCES_REFUSED: u32 = 2 * 64;
 // The zeros in 384 bytes behind the marks.
 const MARKS_REFUSED: u32 = 3 * 384;
 
+// The deposit's account, 1, is sealed by the lowest bit of the first byte, which 01, a5 and ff have.
+const SEALED: u32 = 3;
+
 // The magic; a station, 00 and then at most 3f; the count 00 01; each byte of the sequence; 16 zeros; and the places
 // behind the first. In that one the kind 01, 3 zeros, no account to take from, an account from 00 00 00 01 to 00 00 04 00,
 // 4 zeros, and an amount whose highest byte is 00 or 01. Its reference may be anything.
@@ -56,7 +59,7 @@ fn refused_after_one_deposit() -> [Row; 14] {
         (FIRST.gate, CLOSED),
         (FIRST.head(), LIVE_HEAD_REFUSED),
         (FIRST.balances(), BALANCES_REFUSED),
-        (FIRST.marks(), MARKS_REFUSED),
+        (FIRST.marks(), MARKS_REFUSED + SEALED),
         (FIRST.body(0), BODY_REFUSED),
         (FIRST.slot_gate(0), 0),
         (FIRST.slot_gate(1), OPENED),
@@ -80,7 +83,7 @@ fn refused_behind_a_checkpoint() -> [Row; 10] {
         (live.gate, 0),
         (live.head(), LIVE_HEAD_REFUSED + SAME_EPOCH),
         (live.balances(), BALANCES_REFUSED),
-        (live.marks(), MARKS_REFUSED),
+        (live.marks(), MARKS_REFUSED + SEALED),
         (live.body(0), BODY_REFUSED + NO_AMOUNT),
         (live.slot_gate(0), 0),
     ]

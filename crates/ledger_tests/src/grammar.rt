@@ -52,7 +52,7 @@ fn an_opening_has_its_bits_in_order(rt: HostRuntime) {
 #[test]
 fn each_kind_of_entry_is_read(rt: HostRuntime) {
     let (amount, reference) = (500, 7);
-    let table: [(&[u8], Entry); 3] = [
+    let table: [(&[u8], Entry); 4] = [
         (
             b"post 2 deposit 4294967295 500",
             Entry::Deposit {
@@ -75,6 +75,13 @@ fn each_kind_of_entry_is_read(rt: HostRuntime) {
                 from: 1,
                 to: 3,
                 amount,
+                reference,
+            },
+        ),
+        (
+            b"post 2 seal 01024",
+            Entry::Seal {
+                account: 1024,
                 reference,
             },
         ),
@@ -106,17 +113,17 @@ fn are_faulty(rt: &impl Abort, lines: &[u8], wanted: LineFault) {
 fn line_faults_come_in_their_order(rt: HostRuntime) {
     are_faulty(
         &rt,
-        b"frob\nFormat 4\ndays 8\n\xff\n\tcrash\npost 0 seal 1\npost x frob",
+        b"frob\nFormat 4\ndays 8\n\xff\n\tcrash\npost 0 sealed 1\npost x frob",
         UnknownCommand,
     );
     are_faulty(
         &rt,
-        b"format\nformat 1 2\ncrash now\npost\npost 0\npost x deposit 1\npost 0 transfer 1 2\nopen 2 00\nday\nday 1 2",
+        b"format\nformat 1 2\ncrash now\npost\npost 0\npost x deposit 1\npost 0 transfer 1 2\npost x seal\npost 0 seal 1 2\nopen 2 00\nday\nday 1 2",
         WrongNumberOfWords,
     );
     are_faulty(
         &rt,
-        b"format 0\nformat 18446744073709551616\nformat +1\nformat -1\nformat 1x\nformat 1\xff\nturn 1\r\r\npost 0 deposit 4294967296 1\npost 0 deposit 1 18446744073709551616\nopen x 2 2\nday 0\nday 100001\nday x",
+        b"format 0\nformat 18446744073709551616\nformat +1\nformat -1\nformat 1x\nformat 1\xff\nturn 1\r\r\npost 0 deposit 4294967296 1\npost 0 deposit 1 18446744073709551616\npost x seal 1\npost 0 seal 4294967296\nopen x 2 2\nday 0\nday 100001\nday x",
         BadNumber,
     );
     are_faulty(&rt, b"open 2 02 10\nopen 2 00 1\xff", BadBits);

@@ -31,6 +31,13 @@ fn transfer(from: u32, to: u32, amount: u64) -> Entry {
     }
 }
 
+fn seal(account: u32) -> Entry {
+    Entry::Seal {
+        account,
+        reference: 6,
+    }
+}
+
 // Accounts 1 and 2 hold something, 3 nothing, and there are no others but 1 to 1,024.
 fn holds_60_and_40(rt: &impl Abort, ledger: &Ledger) {
     for (account, balance) in [
@@ -136,6 +143,12 @@ fn the_bytes_of_an_entry(rt: HostRuntime) {
         0, 0, 3,
     ];
     assert!(rt; bytes == expected);
+    let bytes = seal(1).write();
+    let expected = [
+        4, 0, 0, 0, 0, 0, 0, 1, 0, 0, 0, 0, 0, 0, 0, 0, 0, 0, 0, 0, 0, 0, 0, 0, 0, 0, 0, 0, 0, 0,
+        0, 6,
+    ];
+    assert!(rt; bytes == expected);
 }
 
 #[test]
@@ -144,6 +157,7 @@ fn what_is_written_is_read_again(rt: HostRuntime) {
         deposit(1, 500),
         withdraw(u32::MAX, u64::MAX),
         transfer(65, 65, 0),
+        seal(u32::MAX),
     ];
     for entry in entries {
         assert!(rt; Entry::read(&entry.write()) == Some(entry));
@@ -218,12 +232,16 @@ fn three_are_sealed(rt: &impl Abort, ledger: &Ledger) {
 }
 
 #[test]
-fn entries_leave_the_marks(rt: HostRuntime) -> Result<(), Fail> {
-    let mut marks = [false; ALL_ACCOUNTS];
-    (marks[0], marks[64], marks[1023]) = (true, true, true);
+fn seals_and_copies_keep_the_marks(rt: HostRuntime) -> Result<(), Fail> {
     let mut ledger = Ledger::new(rt.alloc())?;
-    assert!(rt; ledger.restore(&[0; ALL_ACCOUNTS], &marks));
-    for entry in [deposit(1, 100), transfer(1, 65, 40), withdraw(65, 10)] {
+    let table = [
+        deposit(1, 100),
+        transfer(1, 65, 40),
+        seal(1),
+        seal(65),
+        seal(1024),
+    ];
+    for entry in table {
         assert!(rt; ledger.post(&entry) == Ok(()), "{entry:?}");
     }
     three_are_sealed(&rt, &ledger);
@@ -231,7 +249,72 @@ fn entries_leave_the_marks(rt: HostRuntime) -> Result<(), Fail> {
     let mut copy = Ledger::new(rt.alloc())?;
     copy.copy_from(&ledger);
     three_are_sealed(&rt, &copy);
-    assert!(rt; (copy.balance(1), copy.balance(65), copy.total()) == (Some(60), Some(30), 90));
+    assert!(rt; (copy.balance(1), copy.balance(65), copy.total()) == (Some(60), Some(40), 100));
+    Ok(())
+}
+
+// A ledger in which accounts 1 and 1,024 are sealed, of which account 1 holds 10, and account 2 holds all else that there
+// may be.
+fn with_two_sealed(rt: &impl Abort, alloc: Global) -> Result<Ledger, Fail> {
+    let (mut balances, mut marks) = ([0; ALL_ACCOUNTS], [false; ALL_ACCOUNTS]);
+    (balances[0], balances[1]) = (10, TOTAL_LIMIT - 10);
+    (marks[0], marks[1023]) = (true, true);
+    let mut ledger = Ledger::new(alloc)?;
+    assert!(rt; ledger.restore(&balances, &marks));
+    Ok(ledger)
+}
+
+#[test]
+fn no_entry_names_a_sealed_account(rt: HostRuntime) -> Result<(), Fail> {
+    let mut ledger = with_two_sealed(&rt, rt.alloc())?;
+    let sealed = Err(EntryRefusal::Sealed);
+    let table = [
+        (deposit(1, 0), Err(EntryRefusal::ZeroAmount)),
+        (deposit(1, 1), Err(EntryRefusal::OverLimit)),
+        (withdraw(1, 11), Err(EntryRefusal::Short)),
+        (withdraw(1, 10), sealed),
+        (withdraw(1024, 0), Err(EntryRefusal::ZeroAmount)),
+        (transfer(1, 1, 1), Err(EntryRefusal::SameAccount)),
+        (transfer(1, 2, 11), Err(EntryRefusal::Short)),
+        (transfer(1, 2, 1), sealed),
+        (transfer(2, 1024, 1), sealed),
+        (transfer(1024, 1025, 1), Err(EntryRefusal::NoAccount)),
+        (transfer(1, 1024, 1), sealed),
+        (seal(1), sealed),
+        (seal(1024), sealed),
+        (seal(0), Err(EntryRefusal::NoAccount)),
+        (seal(1025), Err(EntryRefusal::NoAccount)),
+        (withdraw(2, 1), Ok(())),
+        (deposit(1024, 1), sealed),
+        (deposit(3, 1), Ok(())),
+        (seal(3), Ok(())),
+    ];
+    for (entry, verdict) in table {
+        let said = (ledger.screen(&[entry]).get(0), ledger.post(&entry));
+        assert!(rt; said == (Some(verdict), verdict), "{entry:?}");
+    }
+    let held = (ledger.balance(1), ledger.balance(3), ledger.total());
+    assert!(rt; held == (Some(10), Some(1), TOTAL_LIMIT));
+    Ok(())
+}
+
+#[test]
+fn a_seal_is_seen_by_the_entries_after_it(rt: HostRuntime) -> Result<(), Fail> {
+    let ledger = Ledger::new(rt.alloc())?;
+    let sealed = Some(Err(EntryRefusal::Sealed));
+    let verdicts = ledger.screen(&[
+        deposit(1, 10),
+        seal(1),
+        deposit(1, 5),
+        withdraw(1, 20),
+        seal(1),
+        deposit(2, 3),
+    ]);
+    let before = (verdicts.get(0), verdicts.get(1), verdicts.get(2));
+    assert!(rt; before == (Some(Ok(())), Some(Ok(())), sealed));
+    let after = (verdicts.get(3), verdicts.get(4), verdicts.get(5));
+    assert!(rt; after == (Some(Err(EntryRefusal::Short)), sealed, Some(Ok(()))));
+    assert!(rt; (ledger.is_sealed(1), ledger.total()) == (Some(false), 0));
     Ok(())
 }
 
@@ -239,7 +322,8 @@ fn entries_leave_the_marks(rt: HostRuntime) -> Result<(), Fail> {
 fn bytes_of_no_entry(rt: HostRuntime) {
     let table = [
         (0, 0, "no kind"),
-        (0, 4, "another kind"),
+        (0, 5, "another kind"),
+        (0, 4, "an account and an amount of a seal"),
         (1, 1, "a byte after the kind"),
         (5, 1, "a source of a deposit"),
         (15, 1, "a byte before the amount"),
@@ -248,6 +332,11 @@ fn bytes_of_no_entry(rt: HostRuntime) {
         let mut bytes = deposit(1, 500).write();
         bytes[place] = byte;
         assert!(rt; Entry::read(&bytes) == None, "{what}");
+    }
+    for place in [1, 3, 8, 11, 12, 15, 16, 23] {
+        let mut bytes = seal(1).write();
+        bytes[place] = 1;
+        assert!(rt; Entry::read(&bytes) == None, "a seal with a byte {place}");
     }
 }
 
@@ -315,6 +404,7 @@ fn entries_in_words(rt: HostRuntime) -> Result<(), Fail> {
             transfer(1, 2, 40),
             "transfer of 40 from account 1 to account 2 (reference 5)",
         ),
+        (seal(7), "seal of account 7 (reference 6)"),
     ];
     for (entry, wanted) in table {
         let words = format!(in rt.alloc(); "{entry}")?;
@@ -325,7 +415,7 @@ fn entries_in_words(rt: HostRuntime) -> Result<(), Fail> {
 
 #[test]
 fn refusals_in_words(rt: HostRuntime) -> Result<(), Fail> {
-    let words = format!(in rt.alloc(); "{}", EntryRefusal::Short)?;
-    assert!(rt; words.as_str() == "the account holds too little");
+    let words = format!(in rt.alloc(); "{}", EntryRefusal::Sealed)?;
+    assert!(rt; words.as_str() == "the account is sealed");
     Ok(())
 }

@@ -22,6 +22,8 @@ mod reads;
 #[cfg(test)]
 mod refusals;
 #[cfg(test)]
+mod seals;
+#[cfg(test)]
 mod shown;
 #[cfg(test)]
 mod turns;

@@ -192,6 +192,7 @@ fn refusals_of_turns_and_entries_have_texts(rt: HostRuntime) -> Result<(), Fail>
                 EntryRefusal::OverLimit,
                 "the total of all accounts would pass its limit",
             ),
+            (EntryRefusal::Sealed, "the account is sealed"),
         ],
     )
 }

@@ -36,3 +36,13 @@ pub fn transfer(from: u32, to: u32, amount: u64) -> Entry
         reference: 3,
     }
 }
+
+/// A seal of an account, with the reference 4.
+pub fn seal(account: u32) -> Entry
+    ensures { result ≡ Entry.Seal account 4 }
+{
+    Entry::Seal {
+        account,
+        reference: 4,
+    }
+}

@@ -8,6 +8,6 @@ mod lines;
 mod places;
 
 pub use devices::{formatted, head};
-pub use entries::{deposit, transfer, withdrawal};
+pub use entries::{deposit, seal, transfer, withdrawal};
 pub use lines::line;
 pub use places::{BankAt, FIRST, second, sectors_needed};
