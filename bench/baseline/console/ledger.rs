@@ -10,6 +10,8 @@ const TOTAL_LIMIT: u64 = 1_000_000_000_000_000_000;
 trait Accounts {
     fn held_by(&self, account: u32) -> u64;
     fn held_by_all(&self) -> u64;
+    fn is_sealed(&self, account: u32) -> bool;
+    fn seal(&mut self, account: u32);
     fn credit(&mut self, account: u32, amount: u64);
     fn debit(&mut self, account: u32, amount: u64);
 }
@@ -19,43 +21,58 @@ fn is_account(number: u32) -> bool {
 }
 
 fn post<A: Accounts>(accounts: &mut A, entry: &Entry) -> Verdict {
-    let (Entry::Deposit { amount, .. } | Entry::Withdraw { amount, .. } | Entry::Transfer { amount, .. }) = *entry;
-    if amount == 0 {
-        return Err(EntryRefusal::ZeroAmount);
-    }
     match *entry {
-        Entry::Deposit { to, .. } => {
+        Entry::Deposit { amount: 0, .. } | Entry::Withdraw { amount: 0, .. } | Entry::Transfer { amount: 0, .. } => {
+            return Err(EntryRefusal::ZeroAmount);
+        }
+        Entry::Deposit { to, amount, .. } => {
             if !is_account(to) {
                 return Err(EntryRefusal::NoAccount);
             }
             if amount > TOTAL_LIMIT - accounts.held_by_all() {
                 return Err(EntryRefusal::OverLimit);
             }
+            if accounts.is_sealed(to) {
+                return Err(EntryRefusal::Sealed);
+            }
             accounts.credit(to, amount);
         }
-        Entry::Withdraw { from, .. } => {
+        Entry::Withdraw { from, amount, .. } => {
             if !is_account(from) {
                 return Err(EntryRefusal::NoAccount);
             }
-            take(accounts, from, amount)?;
+            take(accounts, from, from, amount)?;
         }
-        Entry::Transfer { from, to, .. } => {
+        Entry::Transfer { from, to, amount, .. } => {
             if !is_account(from) || !is_account(to) {
                 return Err(EntryRefusal::NoAccount);
             }
             if from == to {
                 return Err(EntryRefusal::SameAccount);
             }
-            take(accounts, from, amount)?;
+            take(accounts, from, to, amount)?;
             accounts.credit(to, amount);
+        }
+        Entry::Seal { account, .. } => {
+            if !is_account(account) {
+                return Err(EntryRefusal::NoAccount);
+            }
+            if accounts.is_sealed(account) {
+                return Err(EntryRefusal::Sealed);
+            }
+            accounts.seal(account);
         }
     }
     Ok(())
 }
 
-fn take<A: Accounts>(accounts: &mut A, from: u32, amount: u64) -> Verdict {
+/// Takes an amount away from an account that may go to another one.
+fn take<A: Accounts>(accounts: &mut A, from: u32, to: u32, amount: u64) -> Verdict {
     if accounts.held_by(from) < amount {
         return Err(EntryRefusal::Short);
+    }
+    if accounts.is_sealed(from) || accounts.is_sealed(to) {
+        return Err(EntryRefusal::Sealed);
     }
     accounts.debit(from, amount);
     Ok(())
@@ -138,6 +155,14 @@ impl Accounts for Ledger {
         self.total
     }
 
+    fn is_sealed(&self, account: u32) -> bool {
+        self.accounts.sealed[account as usize - 1]
+    }
+
+    fn seal(&mut self, account: u32) {
+        self.accounts.sealed[account as usize - 1] = true;
+    }
+
     fn credit(&mut self, account: u32, amount: u64) {
         self.accounts.balances[account as usize - 1] += amount;
         self.total += amount;
@@ -161,21 +186,25 @@ impl Verdicts {
     }
 }
 
-/// Balances written over those of a ledger, as many as one batch may change.
+/// What is changed of a ledger, as much as one batch may: balances written over, and the places of marks set.
 struct Scratch<'a> {
-    balances: &'a [u64],
+    accounts: &'a Snapshot,
     total: u64,
     changes: [(usize, u64); 2 * BATCH_LIMIT],
     count: usize,
+    seals: [usize; BATCH_LIMIT],
+    sealed: usize,
 }
 
 impl Scratch<'_> {
     fn over(ledger: &Ledger) -> Scratch<'_> {
         Scratch {
-            balances: &ledger.accounts.balances,
+            accounts: &ledger.accounts,
             total: ledger.total,
             changes: [(0, 0); 2 * BATCH_LIMIT],
             count: 0,
+            seals: [0; BATCH_LIMIT],
+            sealed: 0,
         }
     }
 
@@ -188,17 +217,27 @@ impl Scratch<'_> {
 impl Accounts for Scratch<'_> {
     fn held_by(&self, account: u32) -> u64 {
         let place = account as usize - 1;
-        let mut balance = self.balances[place];
+        let mut latest = self.accounts.balances[place];
         for change in &self.changes[..self.count] {
             if change.0 == place {
-                balance = change.1;
+                latest = change.1;
             }
         }
-        balance
+        latest
     }
 
     fn held_by_all(&self) -> u64 {
         self.total
+    }
+
+    fn is_sealed(&self, account: u32) -> bool {
+        let place = account as usize - 1;
+        self.accounts.sealed[place] || self.seals[..self.sealed].contains(&place)
+    }
+
+    fn seal(&mut self, account: u32) {
+        self.seals[self.sealed] = account as usize - 1;
+        self.sealed += 1;
     }
 
     fn credit(&mut self, account: u32, amount: u64) {

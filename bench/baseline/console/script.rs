@@ -82,6 +82,12 @@ fn read_post<'a>(words: &mut impl Iterator<Item = &'a [u8]>, reference: u64) -> 
             let entry = Entry::Transfer { from, to, amount: number(amount)?, reference };
             Ok(Command::Post { station, entry })
         }
+        b"seal" => {
+            let [account] = exactly(words)?;
+            let station = number(station)?;
+            let entry = Entry::Seal { account: self::account(account)?, reference };
+            Ok(Command::Post { station, entry })
+        }
         _ => Err(LineFault::UnknownCommand),
     }
 }

@@ -1,30 +1,49 @@
 -- Balances that are written over one after another, and marks that are set.
-use Rattle.std.proofs.Common.{◌≡◌, ℕ, ◌+◌, ◌<◌, Bool, List, [], ◌∷◌, length, take, get_or, refl, ap, ◌∙◌}
-use Rattle.std.specs.Prelude.{fold}
-use Rattle.std.proofs.lemmas.List.{length-set, take_more}
+use Rattle.std.proofs.Common.{◌≡◌, ℕ, ◌+◌, ◌<◌, Bool, true, false, List, [], ◌∷◌, length, take, get_or, set, refl, ap, sym, subst, ◌∙◌}
+use Rattle.std.specs.Prelude.{◌≢◌, slice_index, slice_index_or, slice_set}
+use Rattle.std.proofs.lemmas.List.{length-set, take_more, get_or-set_same, get_or-set_other}
 use Rattle.std.proofs.lemmas.Grind.{fold-append}
 use Rattle.turn_ledger.specs.declared.scratch.Change.{Change}
-use Rattle.turn_ledger.specs.declared.scratch.Change.TheVariants.{Balance, Mark}
-use Rattle.turn_ledger.specs.Scratch.{changed, marked, with_change, with_mark}
-
--- a fold over one item more
-pub fold_more : {A B : Type 0} (step : B → A → B) (from : B) (items : List A) (i : ℕ) (d : A) → i < length items → fold step from (take (i + 1) items) ≡ step (fold step from (take i items)) (get_or items i d)
-fold_more {A} step from items i d h =
-    ap (λ (front : List A). fold step from front) (take_more items i d h)
-    ∙ fold-append step from (take i items) (get_or items i d ∷ [])
-
-length-with_change : (balances : List ℕ) (change : Change) → length (with_change balances change) ≡ length balances
-length-with_change balances (Balance place balance) = length-set balances place balance
-length-with_change balances (Mark place) = refl
-
-length-with_mark : (sealed : List Bool) (change : Change) → length (with_mark sealed change) ≡ length sealed
-length-with_mark sealed (Balance place balance) = refl
-length-with_mark sealed (Mark place) = length-set sealed place _
+use Rattle.turn_ledger.specs.Scratch.{changed, marked}
 
 pub length-changed : (balances : List ℕ) (changes : List Change) → length (changed balances changes) ≡ length balances
 length-changed balances [] = refl
-length-changed balances (change ∷ changes) = length-changed (with_change balances change) changes ∙ length-with_change balances change
+length-changed balances (change ∷ changes) = length-changed (slice_set balances change.place change.balance) changes ∙ length-set balances change.place change.balance
 
-pub length-marked : (sealed : List Bool) (changes : List Change) → length (marked sealed changes) ≡ length sealed
+-- one more change
+changed_more : (balances : List ℕ) (changes : List Change) (i : ℕ) (d : Change) → i < length changes → changed balances (take (i + 1) changes) ≡ set (changed balances (take i changes)) (get_or changes i d).place (get_or changes i d).balance
+changed_more balances changes i d h =
+    ap (λ (front : List Change). changed balances front) (take_more changes i d h)
+    ∙ fold-append (λ (before : List ℕ) (change : Change). slice_set before change.place change.balance) balances (take i changes) (get_or changes i d ∷ [])
+
+pub changed_more_same : (balances : List ℕ) (changes : List Change) (i place : ℕ) (d : Change) → i < length changes → place < length balances → (get_or changes i d).place ≡ place → (get_or changes i d).balance ≡ slice_index (changed balances (take (i + 1) changes)) place
+changed_more_same balances changes i place d h within same =
+    sym (ap (λ (after : List ℕ). slice_index after place) (changed_more balances changes i d h)
+    ∙ ap (λ (at : ℕ). slice_index (set (changed balances (take i changes)) at (get_or changes i d).balance) place) same
+    ∙ get_or-set_same (changed balances (take i changes)) place _ 0 (subst (λ (n : ℕ). place < n) (sym (length-changed balances (take i changes))) within))
+
+pub changed_more_other : (balances : List ℕ) (changes : List Change) (i place : ℕ) (d : Change) → i < length changes → (get_or changes i d).place ≢ place → slice_index (changed balances (take i changes)) place ≡ slice_index (changed balances (take (i + 1) changes)) place
+changed_more_other balances changes i place d h differ =
+    sym (ap (λ (after : List ℕ). slice_index after place) (changed_more balances changes i d h)
+    ∙ get_or-set_other (changed balances (take i changes)) _ place _ 0 (λ e. differ (sym e)))
+
+pub length-marked : (sealed : List Bool) (places : List ℕ) → length (marked sealed places) ≡ length sealed
 length-marked sealed [] = refl
-length-marked sealed (change ∷ changes) = length-marked (with_mark sealed change) changes ∙ length-with_mark sealed change
+length-marked sealed (place ∷ places) = length-marked (slice_set sealed place true) places ∙ length-set sealed place true
+
+-- one more mark
+marked_more : (sealed : List Bool) (places : List ℕ) (i : ℕ) (d : ℕ) → i < length places → marked sealed (take (i + 1) places) ≡ set (marked sealed (take i places)) (get_or places i d) true
+marked_more sealed places i d h =
+    ap (λ (front : List ℕ). marked sealed front) (take_more places i d h)
+    ∙ fold-append (λ (before : List Bool) (place : ℕ). slice_set before place true) sealed (take i places) (get_or places i d ∷ [])
+
+pub marked_more_same : (sealed : List Bool) (places : List ℕ) (i place : ℕ) (d : ℕ) → i < length places → place < length sealed → get_or places i d ≡ place → true ≡ slice_index_or (marked sealed (take (i + 1) places)) place false
+marked_more_same sealed places i place d h within same =
+    sym (ap (λ (after : List Bool). slice_index_or after place false) (marked_more sealed places i d h)
+    ∙ ap (λ (at : ℕ). slice_index_or (set (marked sealed (take i places)) at true) place false) same
+    ∙ get_or-set_same (marked sealed (take i places)) place true false (subst (λ (n : ℕ). place < n) (sym (length-marked sealed (take i places))) within))
+
+pub marked_more_other : (sealed : List Bool) (places : List ℕ) (i place : ℕ) (d : ℕ) → i < length places → get_or places i d ≢ place → slice_index_or (marked sealed (take i places)) place false ≡ slice_index_or (marked sealed (take (i + 1) places)) place false
+marked_more_other sealed places i place d h differ =
+    sym (ap (λ (after : List Bool). slice_index_or after place false) (marked_more sealed places i d h)
+    ∙ get_or-set_other (marked sealed (take i places)) _ place true false (λ e. differ (sym e)))

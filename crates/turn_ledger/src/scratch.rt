@@ -1,40 +1,33 @@
 //! What the screening of a batch changes, beside the ledger that stays as it is.
-ghost use Rattle.std.specs.Prelude.{◌≡◌, ◌<◌, ℕ, Bool, false, List, [], length, slice_index, slice_index_or};
-ghost use Rattle.turn_ledger.specs.State.{IsAccount, balance_of, mark_of};
-ghost use Rattle.turn_ledger.specs.Scratch.{changed_state, with_change, with_mark, IsKept};
+ghost use Rattle.std.specs.Prelude.{◌≡◌, ◌-◌, false, [], length, slice_index, slice_index_or};
+ghost use Rattle.turn_ledger.specs.State.{IsAccount};
+ghost use Rattle.turn_ledger.specs.Scratch.{changed, marked, IsKept};
 ghost use Rattle.turn_ledger.specs.declared.limits.TheConstants.{ACCOUNTS};
 
 use crate::accounts::Accounts;
 use crate::{BATCH_LIMIT, Ledger};
 use arrayvec::ArrayVec;
 
-/// The most changes of one batch: an entry changes two balances at most.
+/// The most changes of one batch: an entry changes two balances at most, or sets a mark.
 const CHANGES: usize = 2 * BATCH_LIMIT;
 
-/// A balance written over that at a place, or a mark set there, where account 1 has place 0.
-#[derive(Clone, Copy)]
-pub(crate) enum Change {
-    Balance { place: usize, balance: u64 },
-    Mark { place: usize },
+/// A balance written over that at a place, where account 1 has place 0.
+#[derive(Clone, Copy, Default)]
+pub(crate) struct Change {
+    place: usize,
+    balance: u64,
 }
 
-/// What stands at a place of the list that no change has taken.
-impl Default for Change {
-    ghost is_default = { λ _. Unit {0} };
-
-    fn default() -> Change {
-        Change::Mark { place: 0 }
-    }
-}
-
-/// A ledger, what was written over its balances, and the marks that were set. It is as large as the changes of one batch, however
-/// many accounts there are.
+/// A ledger, what was written over its balances, and the places of the marks that were set. It is as large as
+/// the changes of one batch, however many accounts there are.
 #[derive(Drop)]
 pub(crate) struct Scratch<'a> {
     ledger: &'a Ledger,
     total: u64,
     changes: ArrayVec<Change, CHANGES>,
-    ghost kept: { IsKept ledger.now total changes.items },
+    // a list of its own, since most batches seal nothing, and then no entry has to look for a mark
+    seals: ArrayVec<usize, CHANGES>,
+    ghost kept: { IsKept ledger.now total changes.items seals.items },
 }
 
 impl<'a> Scratch<'a> {
@@ -42,11 +35,13 @@ impl<'a> Scratch<'a> {
     pub(crate) fn of(ledger: &'a Ledger) -> Scratch<'a>
         ensures ledger { result.ledger.now ≡ ledger.now }
         ensures changes { result.changes.items ≡ [] }
+        ensures seals { result.seals.items ≡ [] }
     {
         Scratch {
             ledger,
             total: ledger.total(),
             changes: ArrayVec::new(),
+            seals: ArrayVec::new(),
         }
     }
 }
@@ -56,53 +51,33 @@ impl<'a> Scratch<'a> {
 fn latest(ledger: &Ledger, changes: &[Change], account: u32) -> u64
     requires account { IsAccount account }
     requires balances { length ledger.now.balances ≡ ACCOUNTS }
-    ensures { result ≡ balance_of (changed_state ledger.now changes.now) account }
+    ensures { result ≡ slice_index (changed ledger.now.balances changes.now) (account - 1) }
 {
     let place = account as usize - 1;
-    let mut latest = ledger.held_by(account);
+    let mut balance = ledger.held_by(account);
     for change in changes {
-        latest = balance_after(*change, place, latest);
+        if change.place == place {
+            balance = change.balance;
+        }
     }
-    latest
+    balance
 }
 
-// What stands at a place after one change.
+/// Whether an account of the ledger is sealed, once the marks at these places are set.
 #[inline]
-fn balance_after(change: Change, place: usize, before: u64) -> u64
-    ensures { (balances : List ℕ) → place < length balances → before ≡ slice_index balances place
-        → result ≡ slice_index (with_change balances change) place }
-{
-    match change {
-        Change::Balance { place: at, balance } if at == place => balance,
-        _ => before,
-    }
-}
-
-/// Whether an account of the ledger is sealed after the changes.
-#[inline]
-fn has_mark(ledger: &Ledger, changes: &[Change], account: u32) -> bool
+fn has_mark(ledger: &Ledger, places: &[usize], account: u32) -> bool
     requires account { IsAccount account }
     requires marks { length ledger.now.sealed ≡ ACCOUNTS }
-    ensures { result ≡ mark_of (changed_state ledger.now changes.now) account }
+    ensures { result ≡ slice_index_or (marked ledger.now.sealed places.now) (account - 1) false }
 {
-    let place = account as usize - 1;
-    let mut latest = ledger.is_marked(account);
-    for change in changes {
-        latest = mark_after(*change, place, latest);
+    let own = account as usize - 1;
+    let mut is_marked = ledger.is_marked(account);
+    for place in places {
+        if *place == own {
+            is_marked = true;
+        }
     }
-    latest
-}
-
-// Whether there is a mark at a place after one change.
-#[inline]
-fn mark_after(change: Change, place: usize, before: bool) -> bool
-    ensures { (sealed : List Bool) → place < length sealed → before ≡ slice_index_or sealed place false
-        → result ≡ slice_index_or (with_mark sealed change) place false }
-{
-    match change {
-        Change::Mark { place: at } if at == place => true,
-        _ => before,
-    }
+    is_marked
 }
 
 impl Accounts for Scratch<'_> {
@@ -124,21 +99,19 @@ impl Accounts for Scratch<'_> {
 
     #[inline]
     fn is_marked(&self, account: u32) -> bool {
-        has_mark(self.ledger, self.changes.as_slice(), account)
+        has_mark(self.ledger, self.seals.as_slice(), account)
     }
 
     #[inline]
     fn mark(&mut self, account: u32) {
-        self.changes.push(Change::Mark {
-            place: account as usize - 1,
-        });
+        self.seals.push(account as usize - 1);
     }
 
     #[inline]
     fn credit(&mut self, account: u32, amount: u64) {
         let balance = self.held_by(account) + amount;
         self.total += amount;
-        self.changes.push(Change::Balance {
+        self.changes.push(Change {
             place: account as usize - 1,
             balance,
         });
@@ -148,7 +121,7 @@ impl Accounts for Scratch<'_> {
     fn debit(&mut self, account: u32, amount: u64) {
         let balance = self.held_by(account) - amount;
         self.total -= amount;
-        self.changes.push(Change::Balance {
+        self.changes.push(Change {
             place: account as usize - 1,
             balance,
         });

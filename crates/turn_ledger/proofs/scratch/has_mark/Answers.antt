@@ -1,15 +1,15 @@
--- One change more.
-use Rattle.std.proofs.Common.{◌∙◌, ◌<◌, ◌-◌, Bool, false, List, length, take, sym, ap, arith}
-use Rattle.std.specs.Prelude.{slice_index_or}
-use Rattle.turn_ledger.specs.Scratch.{with_mark, marked}
-use Rattle.turn_ledger.proofs.Changes.{fold_more, length-marked}
+-- A mark at the account's place is its own, and any other leaves it.
+use Rattle.std.proofs.Common.{◌∙◌, ◌<◌, ◌-◌, length, arith}
+use Rattle.turn_ledger.proofs.Changes.{marked_more_same, marked_more_other}
 use Rattle.turn_ledger.proofs.scratch.has_mark.Goals as goal
+use Rattle.turn_ledger.proofs.scratch.has_mark.Goals.{then-place-own, else-place-own}
 
-pub loop-change-preserved : goal.loop-change-preserved
-loop-change-preserved c =
+pub loop-place-preserved : goal.loop-place-preserved
+loop-place-preserved c =
     let sealed = c.args.ledger.now.sealed in
-    let place = c.args.account - 1 in
-    let front = marked sealed (take c.loop-change.change-index c.args.changes.now) in
-    let within : place < length front = omega (arith, c.requires.account.0, c.requires.account.1, c.requires.marks, length-marked sealed (take c.loop-change.change-index c.args.changes.now)) in
-    c.mark_after-latest.ensures front within c.loop-change.invariant
-    ∙ ap (λ (after : List Bool). slice_index_or after place false) (sym (fold_more with_mark sealed c.args.changes.now c.loop-change.change-index _ c.loop-change-test.true))
+    let own = c.args.account - 1 in
+    let within : own < length sealed = omega (arith, c.requires.account.0, c.requires.account.1, c.requires.marks) in
+    elim c.if-place-own.branch [
+      | then-place-own w ↦ w.is_marked-is ∙ marked_more_same sealed c.args.places.now c.loop-place.place-index own _ c.loop-place-test.true within w.if-place-own.true
+      | else-place-own w ↦ w.is_marked-is ∙ c.loop-place.invariant ∙ marked_more_other sealed c.args.places.now c.loop-place.place-index own _ c.loop-place-test.true w.if-place-own.false
+    ]
