@@ -1,10 +1,11 @@
-ghost use Rattle.std.specs.Prelude.{◌≡◌, ℕ};
+ghost use Rattle.std.specs.Prelude.{◌≡◌, ℕ, true};
 ghost use Rattle.sector_device.specs.Image.{Image};
 ghost use Rattle.gate_journal.specs.Layout.{number_of};
 ghost use Rattle.gate_journal.specs.Snapshot.{zero_spare};
 ghost use Rattle.gate_journal.specs.Reading.{BankContents, ReadsAs};
 ghost use Rattle.gate_journal.specs.declared.layout.LiveBank.{LiveBank};
-ghost use Rattle.journal_recovery.specs.State.{State};
+ghost use Rattle.turn_ledger.specs.State.{IsAccount, balance_of, mark_of};
+ghost use Rattle.journal_recovery.specs.State.{State, ledger_of};
 ghost use Rattle.journal_recovery.specs.Recovery.{RecoversTo};
 ghost use Rattle.journal_recovery.specs.Refused.{IsNoStart, RecoveryRefuses};
 ghost use Rattle.journal_recovery.specs.declared.refusals.OpenRefusal.{OpenRefusal};
@@ -27,15 +28,19 @@ pub fn one_recovery()
     one_reading();
 }
 
-/// What an image recovers to has the marks of its live bank's snapshot, and behind these stand zeros. Where another byte
-/// stands there, or the balances are over the limit together, the bank is what is damaged.
-pub fn marks_are_recovered()
+/// In what an image recovers to each account is sealed that the live bank's snapshot marks, with the balance that it has
+/// there; and behind the marks stand zeros. Where another byte stands there, or the balances are over the limit together,
+/// the bank is what is damaged.
+pub fn seals_are_recovered()
     ensures no_spare { (image : Image) (slots : ℕ) (live : LiveBank) (contents : BankContents)
         (s : State) → ReadsAs image slots live contents → RecoversTo s image
         → contents.spare ≡ zero_spare }
-    ensures marks { (image : Image) (slots : ℕ) (live : LiveBank) (contents : BankContents)
+    ensures sealed { (image : Image) (slots : ℕ) (live : LiveBank) (contents : BankContents)
         (s : State) → ReadsAs image slots live contents → RecoversTo s image
-        → s.ledger.sealed ≡ contents.snapshot.sealed }
+        → (account : ℕ) → IsAccount account
+        → let kept = ledger_of contents.snapshot in mark_of kept account ≡ true
+        → (balance_of s.ledger account ≡ balance_of kept account)
+        × (mark_of s.ledger account ≡ true) }
     ensures damaged { (image : Image) (slots : ℕ) (live : LiveBank) (contents : BankContents)
         → ReadsAs image slots live contents → IsNoStart contents
         → RecoveryRefuses image (Damaged (number_of live.bank) Bank) }

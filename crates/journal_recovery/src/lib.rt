@@ -10,7 +10,7 @@ mod refusals;
 mod replay;
 
 pub use gate_journal::{Journal, JournalCause, JournalRefusal, Record};
-pub use laws::{marks_are_recovered, one_recovery};
+pub use laws::{one_recovery, seals_are_recovered};
 pub use recovery::{Recovered, recover};
 pub use refusals::{Cause, OpenRefusal};
 pub use sector_device::{Device, DeviceFault};

@@ -1,5 +1,5 @@
 -- Posting entries one after another gives each account's sum, and ledgers after batches compose.
-use Rattle.std.specs.Prelude.{◌≡◌, ◌≢◌, ℕ, ◌+◌, ◌-◌, ◌≤◌, ◌<◌, ◌==◌, Bool, false, if◌then◌else◌, List, [], ◌∷◌, ◌++◌, map, length, sum_by, Ok, refl}
+use Rattle.std.specs.Prelude.{◌≡◌, ◌≢◌, ℕ, ◌+◌, ◌-◌, ◌≤◌, ◌<◌, ◌==◌, Bool, true, false, if◌then◌else◌, List, [], ◌∷◌, ◌++◌, map, length, sum_by, Ok, refl}
 use Rattle.std.specs.List.{range_with_len}
 use Rattle.std.proofs.Common.{◌∙◌, ap, sym, subst, arith, get_or, ⊎_elim, add-zero}
 use Rattle.std.proofs.lemmas.Bool.{cases_eq, eq-eqb, ne_eqb}
@@ -10,11 +10,11 @@ use Rattle.std.proofs.lemmas.List.Sums.{sum_by-cons}
 use Rattle.turn_ledger.specs.declared.limits.TheConstants.{ACCOUNTS}
 use Rattle.turn_ledger.specs.declared.entry.Entry.{Entry}
 use Rattle.turn_ledger.specs.declared.entry.Entry.TheVariants.{Deposit, Withdraw, Transfer, Seal}
-use Rattle.turn_ledger.specs.State.{LedgerState, IsAccount, balance_of, IsLedger, credited, debited}
+use Rattle.turn_ledger.specs.State.{LedgerState, IsAccount, balance_of, mark_of, IsLedger, credited, debited}
 use Rattle.turn_ledger.specs.StateLaws.{same_state, length-with_balance, balance_of-with_balance_same, balance_of-with_balance_other}
 use Rattle.turn_ledger.specs.Entry.{verdict, posted}
 use Rattle.turn_ledger.specs.EntryLaws.{passes-from_yes, length-posted, IsLedger-posted}
-use Rattle.turn_ledger.specs.MarkLaws.{length-sealed-posted_in_order, mark_of-posted_in_order}
+use Rattle.turn_ledger.specs.MarkLaws.{length-sealed-posted_in_order, mark_of-posted_in_order, kept_by-posted_in_order}
 use Rattle.turn_ledger.specs.Screen.{AreAccepted, posted_in_order}
 use Rattle.turn_ledger.specs.Ledger.{into, out_of, sealed_after, entries_of, balance_after, ledger_after}
 
@@ -134,6 +134,13 @@ posted_in_order-is-ledger_after state batches l a =
 -- a ledger after batches is a ledger
 pub IsLedger-ledger_after : (state : LedgerState) (batches : List (List Entry)) → IsLedger state → AreAccepted state (entries_of batches) → IsLedger (ledger_after state batches)
 IsLedger-ledger_after state batches l a = subst IsLedger (posted_in_order-is-ledger_after state batches l a) (IsLedger-posted_in_order state (entries_of batches) l a)
+
+-- a sealed account keeps its balance, and stays sealed
+pub kept_by-ledger_after : (state : LedgerState) (batches : List (List Entry)) (account : ℕ) → IsLedger state → AreAccepted state (entries_of batches) → IsAccount account → mark_of state account ≡ true → (balance_of (ledger_after state batches) account ≡ balance_of state account) × (mark_of (ledger_after state batches) account ≡ true)
+kept_by-ledger_after state batches account l a k marked =
+    subst (λ (s : LedgerState). (balance_of s account ≡ balance_of state account) × (mark_of s account ≡ true))
+    (posted_in_order-is-ledger_after state batches l a)
+    (kept_by-posted_in_order state (entries_of batches) account l a k marked)
 
 -- one batch
 pub entries_of-one : (batch : List Entry) → entries_of (batch ∷ []) ≡ batch
