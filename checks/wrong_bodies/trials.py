@@ -121,6 +121,15 @@ def reasons(goals):
     return ", ".join(words[:3])
 
 
+def linked(file, to):
+    """Has a file stand at a second place too. The prover replaces what it proved, and writes on in its notes, so a link is
+    enough for the first alone."""
+    if file.endswith(".oantt"):
+        os.link(file, to)
+    else:
+        shutil.copy2(file, to)
+
+
 class Work:
     """What was proved on the way to the first verdicts on a crate, for whoever tries others of its edits."""
 
@@ -129,16 +138,16 @@ class Work:
         folder.mkdir()
 
     def hand_out(self, crate, kept):
-        """Begins the folder with what was proved of the crate. A link is enough, as the prover replaces files whole."""
+        """Begins a lane's folder with what was proved of the crate."""
         with self.lock:
             if (self.folder / crate).is_dir() and not kept.exists():
-                shutil.copytree(self.folder / crate, kept, copy_function=os.link)
+                shutil.copytree(self.folder / crate, kept, copy_function=linked)
 
     def take_in(self, crate, kept):
         """Keeps what the first check of the crate proved. None may be running over that folder."""
         with self.lock:
             if kept.is_dir() and not (self.folder / crate).exists():
-                shutil.copytree(kept, self.folder / crate, copy_function=os.link)
+                shutil.copytree(kept, self.folder / crate, copy_function=linked)
 
 
 class Trial:
