@@ -65,7 +65,7 @@ class Memory:
             return None
         try:
             told, seconds, by_whole_crate = json.loads(self.place(one).read_text(encoding="utf-8"))
-        except (OSError, ValueError):
+        except (OSError, TypeError, ValueError):
             return None
         return Outcome(one, True, told, seconds, by_whole_crate, is_recalled=True)
 
