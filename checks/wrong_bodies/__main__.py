@@ -5,12 +5,19 @@
     python3 checks/wrong_bodies CRATE/NAME ..     these alone: a minute, once the libraries below are built
     --built TREE    take the libraries that were built in this tree, and build none
     --beside LOG    they are being built there by `rt ci`, which writes this: each crate is tried once those below it are proved
+    --anew          try those too of which an earlier run saw that they are refused
     --page          write docs/WRONG_BODIES.md of what became of all of them
     --itself        try the edits beside this program, of which `cases/expected` says what must become
 
 An edit is refused where the prover doesn't prove the function that it changes, at a goal that the line names. Where that
 isn't so, all of the crate is proved with it. An edit that can't be made, that doesn't compile, or that takes away what a
-proof names fails as one that is proved does. Needed beside the toolchain: Python, and `sh`.
+proof names fails as one that is proved does.
+
+A refusal is kept in `derbyfig/wrong-bodies` of the user's cache, by a sum of all that its trial reads: the edit, the sources
+of its crate and of those below, the toolchain and this program. A later run takes it from there, and tries the others alone.
+With --built and no --beside nothing is kept, since the libraries there may be older than their sources.
+
+Needed beside the toolchain: Python, and `sh`.
 """
 import argparse
 import os
@@ -21,6 +28,7 @@ from pathlib import Path
 import page
 from edits import BadEdit, edits_below, read_edit
 from lanes import lanes, try_all
+from memory import Memory, NoMemory
 from progress import Progress
 from toolchain import build_libraries
 from trials import Aimed, Outcome, aimed_at, batches
@@ -33,6 +41,7 @@ def words_given():
     parser.add_argument("names", nargs="*")
     parser.add_argument("--built", type=Path)
     parser.add_argument("--beside", type=Path)
+    parser.add_argument("--anew", action="store_true")
     parser.add_argument("--page", action="store_true")
     parser.add_argument("--itself", action="store_true")
     return parser.parse_args()
@@ -52,25 +61,35 @@ def tell(outcome):
     one = outcome.aimed.edit
     if outcome.is_refused:
         by = ", by the whole crate" if outcome.by_whole_crate else ""
+        by += ", in an earlier run" if outcome.is_recalled else ""
         print(f"{one}: refused in {outcome.aimed.shown} at {outcome.told} ({outcome.seconds:.0f} s{by})", flush=True)
     else:
         alone = f"python3 checks/wrong_bodies {one}"
         print(f"{one}: {outcome.told} ({outcome.seconds:.0f} s). Alone: {alone}", flush=True)
 
 
-def try_edits(edits, tree, progress, count):
-    """The outcomes of edits of a tree whose libraries are built as far as the progress tells, so many tried at once."""
-    aimed, outcomes = [], []
+def try_edits(edits, built, progress, count, memory):
+    """The outcomes of edits, so many tried at once that aren't recalled: in a tree whose libraries are built as far as the
+    progress tells, or in this one, where they are built first."""
+    tree, aimed, outcomes = built or Path.cwd(), [], []
 
     def note(outcome):
         outcomes.append(outcome)
+        memory.keep(outcome)
         tell(outcome)
 
     for edit in edits:
         try:
-            aimed.append(aimed_at(edit, tree))
+            one = aimed_at(edit, tree)
         except BadEdit as bad:
             note(Outcome(Aimed(edit, (), ()), False, f"BAD EDIT: {bad}", 0.0))
+            continue
+        if recalled := memory.recalled(one):
+            note(recalled)
+        else:
+            aimed.append(one)
+    if built is None:
+        build_libraries(tree, dict.fromkeys(one.edit.crate for one in aimed))
     try_all(batches(aimed, tree), tree, progress, count, note)
     return outcomes
 
@@ -79,8 +98,7 @@ def try_itself(tree, progress):
     """Whether what becomes of each case is what is expected of it."""
     cases = [read_edit(path, path.parent.name) for path in sorted(CASES.glob("*/*.edit"))]
     expected = dict(line.split(": ", 1) for line in (CASES / "expected").read_text().splitlines())
-    build_unless_built(cases, tree)
-    told = {str(outcome.aimed.edit): outcome for outcome in try_edits(cases, tree or Path.cwd(), progress, 1)}
+    told = {str(outcome.aimed.edit): outcome for outcome in try_edits(cases, tree, progress, 1, NoMemory())}
     wrong = []
     for name, beginning in expected.items():
         outcome = told.pop(name)
@@ -92,11 +110,6 @@ def try_itself(tree, progress):
     return not wrong
 
 
-def build_unless_built(edits, tree):
-    if tree is None:
-        build_libraries(Path.cwd(), dict.fromkeys(edit.crate for edit in edits))
-
-
 def main():
     words = words_given()
     tree = words.built and words.built.resolve()
@@ -106,8 +119,8 @@ def main():
         sys.exit(0 if try_itself(tree, progress) else 1)
     start = time.monotonic()
     edits = wanted(edits_below("crates"), words.names)
-    build_unless_built(edits, tree)
-    outcomes = try_edits(edits, tree or Path.cwd(), progress, lanes())
+    memory = Memory(tree or Path.cwd(), words.anew, keeps=tree is None or words.beside is not None)
+    outcomes = try_edits(edits, tree, progress, lanes(), memory)
     refused = [outcome for outcome in outcomes if outcome.is_refused]
     whole = sorted(str(outcome.aimed.edit) for outcome in outcomes if outcome.by_whole_crate)
     if whole:
@@ -119,7 +132,9 @@ def main():
         print(fault)
         is_well = False
     minutes = (time.monotonic() - start) / 60
-    print(f"{len(refused)} wrong bodies refused, {len(outcomes) - len(refused)} not, in {minutes:.0f} minutes")
+    recalled = sum(outcome.is_recalled for outcome in outcomes)
+    print(f"{len(refused)} wrong bodies refused, {len(outcomes) - len(refused)} not, in {minutes:.0f} minutes; "
+          f"{recalled} of them in an earlier run (--anew tries them too)")
     sys.exit(0 if is_well else 1)
 
 

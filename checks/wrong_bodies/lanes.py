@@ -10,7 +10,7 @@ from contextlib import contextmanager
 from pathlib import Path
 
 from toolchain import below
-from trials import Trial
+from trials import Trial, Work
 
 # What a check takes at most, in bytes.
 MEMORY_OF_A_CHECK = 2_000_000_000
@@ -77,11 +77,12 @@ def try_all(batches, tree, progress, count, tell):
     """Tries all batches, so many at once, and tells each outcome as it comes."""
     queue, telling = Queue(batches, tree, progress), threading.Lock()
     with room_for_checks() as (room, group):
+        work = Work(room / "work")
 
         def lane(number):
             folder, batch = room / str(number), queue.take(None)
             folder.mkdir()
-            trial = Trial(tree, folder, group)
+            trial = Trial(tree, folder, group, work)
             while batch:
                 for outcome in trial.outcomes(batch):
                     with telling:

@@ -12,6 +12,12 @@ def kit():
 
 
 @cache
+def version():
+    """The toolchain's name, and that of its logic."""
+    return subprocess.run(["rt", "version"], check=True, capture_output=True, text=True).stdout
+
+
+@cache
 def libraries_of(tree):
     """What each crate of a tree uses, by `crates.txt`."""
     used = {}

@@ -1,7 +1,9 @@
 """Trials of wrong bodies: several functions' at once in a copy of their crate, since each is proved by itself."""
+import os
 import shutil
 import subprocess
 import tempfile
+import threading
 import time
 from dataclasses import dataclass
 from functools import cached_property
@@ -13,7 +15,7 @@ from edits import BadEdit, made, places_of
 from places import path_at
 
 # So few edits are tried at once that no processor is left alone with many of them.
-MOST_AT_ONCE = 8
+MOST_AT_ONCE = 16
 
 
 @dataclass(frozen=True)
@@ -36,13 +38,14 @@ class Aimed:
 
 @dataclass
 class Outcome:
-    """What became of an edit: refused at these goals, or why not, and in how many seconds."""
+    """What became of an edit: refused at these goals, or why not, in how many seconds, and whether an earlier run saw it."""
 
     aimed: Aimed
     is_refused: bool
     told: str
     seconds: float
     by_whole_crate: bool = False
+    is_recalled: bool = False
 
 
 @dataclass
@@ -118,15 +121,45 @@ def reasons(goals):
     return ", ".join(words[:3])
 
 
+def linked(file, to):
+    """Has a file stand at a second place too. The prover replaces what it proved, and writes on in its notes, so a link is
+    enough for the first alone."""
+    if file.endswith(".oantt"):
+        os.link(file, to)
+    else:
+        shutil.copy2(file, to)
+
+
+class Work:
+    """What was proved on the way to the first verdicts on a crate, for whoever tries others of its edits."""
+
+    def __init__(self, folder):
+        self.folder, self.lock = folder, threading.Lock()
+        folder.mkdir()
+
+    def hand_out(self, crate, kept):
+        """Begins a lane's folder with what was proved of the crate."""
+        with self.lock:
+            if (self.folder / crate).is_dir() and not kept.exists():
+                shutil.copytree(self.folder / crate, kept, copy_function=linked)
+
+    def take_in(self, crate, kept):
+        """Keeps what the first check of the crate proved. None may be running over that folder."""
+        with self.lock:
+            if kept.is_dir() and not (self.folder / crate).exists():
+                shutil.copytree(kept, self.folder / crate, copy_function=linked)
+
+
 class Trial:
     """Tries edits of a tree whose libraries were built, keeping what is proved on the way in a folder of its own."""
 
-    def __init__(self, tree, folder, group):
-        self.tree, self.folder, self.group = tree, folder, group
+    def __init__(self, tree, folder, group, work):
+        self.tree, self.folder, self.group, self.work = tree, folder, group, work
 
     def check(self, batch, is_whole=False):
         """What the prover says of a copy of the crate in which these edits were made."""
-        crate = self.tree / "crates" / batch.crate
+        crate, kept = self.tree / "crates" / batch.crate, self.folder / f"kept-{batch.crate}"
+        self.work.hand_out(batch.crate, kept)
         aims = [] if is_whole else [path for one in batch.edits for path in one.judges]
         start = time.monotonic()
         with tempfile.TemporaryDirectory(dir=self.folder) as room:
@@ -135,9 +168,10 @@ class Trial:
                     shutil.copytree(crate / part, Path(room) / part)
             for file, text in batch.texts.items():
                 (Path(room) / file).write_text(text, encoding="utf-8")
-            words = toolchain.check_words(self.tree, batch.crate, self.folder / f"kept-{batch.crate}", aims)
+            words = toolchain.check_words(self.tree, batch.crate, kept, aims)
             ran = subprocess.run(words, cwd=room, stdin=subprocess.DEVNULL, stdout=subprocess.PIPE,
                                  stderr=subprocess.STDOUT, errors="replace", process_group=self.group)
+        self.work.take_in(batch.crate, kept)
         return Ran(ran.stdout, time.monotonic() - start, crate)
 
     def outcomes(self, batch):

@@ -1,7 +1,6 @@
 //! Days of station threads, from scripts. Each test holds whatever thread runs when.
-use crate::scripts::{prints, told};
-use crate::streams::whole;
-use console_engine::{Device, LineFault, PowerLoss, ScriptFault, run_script};
+use crate::scripts::told;
+use console_engine::{Device, PowerLoss, run_script};
 use fault_injector::{OneFault, Op};
 use sector_device::{DeviceFault, Sector};
 use std::alloc::Global;
@@ -43,77 +42,6 @@ impl<D: Device + Send> PowerLoss for Steady<D> {
     fn lose_power(self, _: Global) -> Self {
         self
     }
-}
-
-#[test]
-fn a_day_of_three_stations(rt: HostRuntime) -> Result<(), Fail> {
-    let (script, printed) = whole(rt.alloc())?;
-    prints(&rt, rt.alloc(), script.as_str(), printed.as_str())
-}
-
-#[test]
-fn a_day_needs_an_office(rt: HostRuntime) -> Result<(), Fail> {
-    prints(&rt, rt.alloc(), "day 3\n", "refused NoOffice\n")
-}
-
-#[test]
-fn a_day_needs_1_to_100000_turns(rt: HostRuntime) -> Result<(), Fail> {
-    for script in ["day 0", "day 100001"] {
-        let (output, end) = told(&rt, rt.alloc(), script)?;
-        let (line, cause) = (1, LineFault::BadNumber);
-        assert!(rt; end == Err(ScriptFault::Line { line, cause }), "{script}");
-        assert!(rt; output.len() == 0);
-    }
-    Ok(())
-}
-
-// The next turn goes on from the day's, and the next day begins anew.
-#[test]
-fn turns_go_on_from_a_day(rt: HostRuntime) -> Result<(), Fail> {
-    prints(
-        &rt,
-        rt.alloc(),
-        "format 1\nopen 2 00 10\nturn 0\nday 2\nturn 1\nday 1\nbits\n",
-        "formatted 1\nopened 2 next 0 total 0\nturn 0 station 0 Bottom empty\nturn 0 station 1 Top empty\nturn 1 station 0 Bottom empty\nday 2 legitimate at 0\nstation 0 Reached\nstation 1 Reached\nturn 2 station 1 Top empty\nturn 0 station 0 Bottom empty\nday 1 legitimate at 0\nstation 0 Reached\nstation 1 Reached\nbits 10/10 privileges 1\n",
-    )
-}
-
-// Each station's deposit takes a bank of one slot.
-#[test]
-fn a_day_on_banks_of_one_slot(rt: HostRuntime) -> Result<(), Fail> {
-    prints(
-        &rt,
-        rt.alloc(),
-        "format 1\nopen 2 00 10\npost 0 deposit 1 5\npost 1 deposit 1 7\nday 4\npost 0 deposit 1 1\npost 1 deposit 1 1\nbalances\n",
-        "formatted 1\nopened 2 next 0 total 0\nheld 0 1\nheld 1 1\nturn 0 station 0 Bottom posted 0\nentry 0 ok\nturn 1 station 1 Top posted 1\nentry 0 ok\nturn 2 station 0 Bottom empty\nturn 3 station 1 Top empty\nday 4 legitimate at 0\nstation 0 Reached\nstation 1 Reached\nanswer 0 0 posted 0\nanswer 1 0 posted 1\nheld 0 1\nheld 1 1\naccount 1 12\ntotal 12\n",
-    )
-}
-
-// A day takes sixteen entries in two turns, of which one turn takes fifteen.
-#[test]
-fn a_day_takes_what_one_turn_refuses(rt: HostRuntime) -> Result<(), Fail> {
-    let alloc = rt.alloc();
-    let mut script = sixteen_posted(alloc)?;
-    script.push_str("turn 0\nday 3\npost 0 deposit 1 1\nbalances\n")?;
-    let (output, end) = told(&rt, alloc, script.as_str())?;
-    assert!(rt; end == Ok(()));
-    for part in [
-        "held 0 16\nrefused TooMany\nturn 0 station 0 Bottom posted 0\nentry 0 ok\n",
-        "entry 14 ok\nturn 1 station 1 Top empty\nturn 2 station 0 Bottom posted 1\nentry 0 ok\nday 3 ",
-        "answer 0 14 posted 0\nanswer 0 15 posted 1\nheld 0 1\naccount 1 16\ntotal 16\n",
-    ] {
-        assert!(rt; has(output.as_slice(), part), "{part}");
-    }
-    Ok(())
-}
-
-// A script that opens an office of two stations, of which the bottom one holds sixteen deposits.
-pub fn sixteen_posted(alloc: Global) -> Result<String, Fail> {
-    let mut script = String::from_str(alloc, "format 4\nopen 2 00 10\n")?;
-    for _ in 0..16 {
-        script.push_str("post 0 deposit 1 1\n")?;
-    }
-    Ok(script)
 }
 
 pub fn has(output: &[u8], part: &str) -> bool {

@@ -1,5 +1,5 @@
-//! Tests of the console: whole scripts with all that they print, the program with its words and streams, and the names
-//! that output has.
+//! Tests of the console: scripts on devices that fail or were damaged, the program with its words and streams, and the
+//! names that output has. Scripts that need nothing of these stand in `checks/scripts`.
 #![tactic(auto)]
 
 #[cfg(test)]

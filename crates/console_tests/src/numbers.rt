@@ -1,31 +1,9 @@
-//! Numbers that are printed: where a line has two of them, with two different values.
+//! When a day's line became legitimate, and that a day is acknowledged at once.
 use crate::day::has;
 use crate::fakes::Refusing;
-use crate::scripts::{prints, told};
+use crate::scripts::told;
 use console_engine::{MemoryDevice, ScriptFault, run_script};
 use std::test::Fail;
-
-// One unit is something; an account that was emptied holds nothing.
-#[test]
-fn each_account_that_holds_something_is_listed(rt: HostRuntime) -> Result<(), Fail> {
-    prints(
-        &rt,
-        rt.alloc(),
-        "format 1\nopen 2 00 10\npost 0 deposit 1 1\npost 0 deposit 2 5\npost 0 withdraw 2 5\npost 0 deposit 1024 3\nturn 0\nbalances\n",
-        "formatted 1\nopened 2 next 0 total 0\nheld 0 1\nheld 0 2\nheld 0 3\nheld 0 4\nturn 0 station 0 Bottom posted 0\nentry 0 ok\nentry 1 ok\nentry 2 ok\nentry 3 ok\naccount 1 1\naccount 1024 3\ntotal 4\n",
-    )
-}
-
-// Stations 1, 2 and 3 differ from those below them.
-#[test]
-fn as_many_privileges_are_told_as_a_line_has(rt: HostRuntime) -> Result<(), Fail> {
-    prints(
-        &rt,
-        rt.alloc(),
-        "format 1\nopen 4 0101 1000\nbits\n",
-        "formatted 1\nopened 4 next 0 total 0\nbits 0101/1000 privileges 3\n",
-    )
-}
 
 // Whichever station moves first: one privilege alone is left after so many turns.
 #[test]
