@@ -1,6 +1,6 @@
 #!/usr/bin/env bash
-# Runs each example, and compares what it prints with the file NAME.out beside it: one line for each, and status 1 at the
-# first difference. Word: the program that was built.
+# Runs each example, and compares what it prints with the file NAME.out beside it, and of one the bytes of its first record:
+# one line for each, and status 1 at the first difference. Word: the program that was built.
 set -euo pipefail
 program=$(realpath "${1:?the word is the program that was built}")
 cd "$(dirname "$0")/.."
@@ -20,6 +20,16 @@ example() {
     echo "$name: prints examples/$name.out"
 }
 
+# The first record of a file, in sector 20, begins with these bytes.
+record() {
+    local file=$1 wanted found
+    shift
+    wanted=$(printf %s "$@")
+    found=$(od -A n -v -t x1 -j $((20 * 512)) -N $((${#wanted} / 2)) "$work/$file" | tr -d ' \n')
+    [ "$found" = "$wanted" ] || { echo "$file: its first record begins with $found"; exit 1; }
+    echo "$file: its first record has the bytes that it must have"
+}
+
 example first_day --device "$work/ledger" --sectors 55
 example second_day --device "$work/ledger" --sectors 55
 bash examples/damage.sh "$work/ledger" $((20 * 512))
@@ -28,4 +38,8 @@ example full_bank
 example healing
 example two_stations
 example three_stations
-example sealed
+example sealed --device "$work/sealed"
+# of station 0, with two entries: the deposit of line 3, and the seal of line 4
+record sealed 544c4231 0000 0002 0000000000000000 0000000000000000 0000000000000000 \
+    01000000 00000000 00000001 00000000 000000000000000a 0000000000000003 \
+    04000000 00000001 00000000 00000000 0000000000000000 0000000000000004
