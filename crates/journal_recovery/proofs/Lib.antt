@@ -1,5 +1,10 @@
 mod Reached
 mod Posting
 mod Standing
+mod OneState
+mod OneStop
 mod OneRecovery
 mod OneRefusal
+mod OldStanding
+mod OneOldRecovery
+mod Migrated

@@ -1,8 +1,13 @@
 pub mod Journal
+pub mod EntrySets
 pub mod Places
 pub mod State
 pub mod Recovery
 pub mod Replay
 pub mod Refused
+pub mod Older
 pub mod Recovered
 pub mod RecoveryLaws
+pub mod Source
+pub mod Migration
+pub mod Postings

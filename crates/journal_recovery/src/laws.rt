@@ -8,11 +8,12 @@ ghost use Rattle.turn_ledger.specs.State.{IsAccount, balance_of, mark_of};
 ghost use Rattle.journal_recovery.specs.State.{State, ledger_of};
 ghost use Rattle.journal_recovery.specs.Recovery.{RecoversTo};
 ghost use Rattle.journal_recovery.specs.Refused.{IsNoStart, RecoveryRefuses};
+ghost use Rattle.journal_recovery.specs.Older.{OldRecoversTo, OldRecoveryRefuses};
 ghost use Rattle.journal_recovery.specs.declared.refusals.OpenRefusal.{OpenRefusal};
 ghost use Rattle.journal_recovery.specs.declared.refusals.OpenRefusal.TheVariants.{Damaged};
 ghost use Rattle.journal_recovery.specs.declared.refusals.Cause.TheVariants.{Bank};
 
-use gate_journal::one_reading;
+use gate_journal::{one_old_reading, one_reading};
 
 /// An image recovers to at most one state, and where it does no refusal holds of it; of any image at most one refusal
 /// holds. So `recover` answers `Ok` on an honest device exactly where what reads give recovers to a state, want of memory
@@ -46,4 +47,18 @@ pub fn seals_are_recovered()
         → RecoveryRefuses image (Damaged (number_of live.bank) Bank) }
 {
     one_reading();
+}
+
+/// The same of layouts 1 and 2: an image recovers to at most one state, where it does no refusal holds of it, and of any
+/// image at most one refusal holds. So what `read_old` answers on an honest device is determined by what reads give, want
+/// of memory and device faults apart.
+pub fn one_old_recovery()
+    ensures state { (image : Image) (s t : State) → OldRecoversTo s image → OldRecoversTo t image
+        → s ≡ t }
+    ensures refused { (image : Image) (s : State) (refusal : OpenRefusal)
+        → OldRecoversTo s image → OldRecoveryRefuses image refusal → ⊥ }
+    ensures refusals { (image : Image) (a b : OpenRefusal) → OldRecoveryRefuses image a
+        → OldRecoveryRefuses image b → a ≡ b }
+{
+    one_old_reading();
 }

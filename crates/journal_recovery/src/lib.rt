@@ -4,13 +4,21 @@
 //! The test `an_acknowledged_deposit_outlives_a_power_loss` in `src/recovery.rt` of the crate `journal_tests` is an example.
 #![tactic(auto)]
 
+mod entries;
 mod laws;
+mod migration;
+mod old;
+mod postings;
 mod recovery;
 mod refusals;
 mod replay;
+mod source;
 
 pub use gate_journal::{Journal, JournalCause, JournalRefusal, Record};
-pub use laws::{one_recovery, seals_are_recovered};
+pub use laws::{one_old_recovery, one_recovery, seals_are_recovered};
+pub use migration::{MigrateRefusal, migrate, snapshot_of};
+pub use old::{Old, read_old};
+pub use postings::may_hold_postings;
 pub use recovery::{Recovered, recover};
 pub use refusals::{Cause, OpenRefusal};
 pub use sector_device::{Device, DeviceFault};
