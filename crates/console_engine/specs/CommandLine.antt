@@ -1,27 +1,35 @@
 -- What the words on the program's command line ask for, in the terms of `clap`.
-use Rattle.std.specs.Prelude.{◌≡◌, ℕ, List, [], ◌∷◌, Option, Some, codes}
+use Rattle.std.specs.Prelude.{◌≡◌, ℕ, List, [], ◌∷◌, Option, None, Some, codes}
 use Rattle.std.specs.Str.Parse.{digits_value, without_leading_plus}
 use Rattle.clap.specs.Words.{App, Rule, Text, matches_of, new_app, new_rule, first_of, one_of, with_rule}
 use Rattle.clap.specs.declared.builder.action.ArgAction.TheVariants.{Set}
 use Rattle.clap.specs.declared.builder.value_parser.ValueParser.TheVariants as value_parser
 
+-- an option with a path, and one with a number from 1 to that one
+abbrev pub path_option : Text → Rule
+path_option name = record (new_rule name) { long = Some name; action = Some Set; value_names = 1 }
+
+abbrev pub number_option : Text → ℕ → Rule
+number_option name most = record (path_option name) { parser = Some (value_parser.Unsigned 1 most) }
+
+-- `--device PATH` and `--migrate OLD`: a path, where it is used
+abbrev pub device_option : Rule
+device_option = path_option (codes "device")
+
+abbrev pub migrate_option : Rule
+migrate_option = path_option (codes "migrate")
+
 -- `--sectors K`: a number from 1 to 4,000,039, which is 64 where it isn't used
 abbrev pub sectors_option : Rule
-sectors_option = record (new_rule (codes "sectors")) {
-  long = Some (codes "sectors");
-  action = Some Set;
-  value_names = 1;
-  defaults = codes "64" ∷ [];
-  parser = Some (value_parser.Unsigned 1 4000039);
-}
+sectors_option = record (number_option (codes "sectors") 4000039) { defaults = codes "64" ∷ [] }
 
--- `--device PATH`: a path, where it is used
-abbrev pub device_option : Rule
-device_option = record (new_rule (codes "device")) { long = Some (codes "device"); action = Some Set; value_names = 1 }
+-- `--slots K`: a number from 1 to 1,000,000, where it is used
+abbrev pub slots_option : Rule
+slots_option = number_option (codes "slots") 1000000
 
 -- the program's command line
 abbrev pub console : App
-console = with_rule (with_rule (new_app (codes "turn_console")) device_option) sectors_option
+console = with_rule (with_rule (with_rule (with_rule (new_app (codes "turn_console")) device_option) sectors_option) migrate_option) slots_option
 
 -- the words ask for this number of sectors
 abbrev pub AskForSectors : List Text → ℕ → Type 0
@@ -31,3 +39,13 @@ AskForSectors words sectors = (text : Text) × (one_of (codes "sectors") (matche
 -- the words ask for the device in this file, or for none
 abbrev pub AskForDevice : List Text → Option Text → Type 0
 AskForDevice words device = device ≡ first_of (codes "device") (matches_of console words)
+
+-- the words ask for an older file to be migrated, or for none
+abbrev pub AskForMigration : List Text → Option Text → Type 0
+AskForMigration words old = old ≡ first_of (codes "migrate") (matches_of console words)
+
+-- they ask for this number of slots, or for none
+abbrev pub AskForSlots : List Text → Option ℕ → Type 0
+AskForSlots words None = first_of (codes "slots") (matches_of console words) ≡ None
+AskForSlots words (Some slots) = (text : Text) × (one_of (codes "slots") (matches_of console words) ≡ Some text)
+    × (slots ≡ digits_value 10 (without_leading_plus text))

@@ -8,3 +8,5 @@ pub use Rattle.sector_device.specs.Crash
 pub use Rattle.sector_device.specs.Device
 pub use Rattle.sector_device.specs.MemoryDevice
 pub use Rattle.sector_device.specs.Picks
+pub mod Settings
+pub mod Migration

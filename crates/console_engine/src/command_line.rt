@@ -1,13 +1,14 @@
 //! The words on the program's command line.
-ghost use Rattle.std.specs.Prelude.{◌≡◌, ◌≤◌, None, IfOk, IfErr, length, map, option_map};
+ghost use Rattle.std.specs.Prelude.{◌≡◌, ◌≤◌, ℕ, List, None, Some, false, IfOk, IfErr, IfSome, codes, length, map, option_map};
+ghost use Rattle.std.specs.Str.Parse.{digits_value, without_leading_plus};
 ghost use Rattle.clap.specs.Values.{kind_of};
-ghost use Rattle.clap.specs.Words.{app_of};
+ghost use Rattle.clap.specs.Words.{app_of, first_value, found_of, one_text, rule_of};
 ghost use Rattle.clap.specs.declared.error.kind.ErrorKind.TheVariants.{InvalidValue, OutOfMemory};
-ghost use Rattle.console_engine.specs.CommandLine.{AskForSectors, AskForDevice, console};
+ghost use Rattle.console_engine.specs.CommandLine.{AskForSectors, AskForDevice, AskForMigration, AskForSlots, console, path_option, sectors_option, slots_option};
 
 use crate::settings::Options;
 use clap::error::ErrorKind;
-use clap::{Arg, ArgAction, Command, Error, value_parser};
+use clap::{Arg, ArgAction, ArgMatches, Command, Error, value_parser};
 use std::alloc::Global;
 
 const HELP: &str = "\
@@ -41,6 +42,13 @@ An example script, which shows that a deposit survives a power loss:
 /// The most sectors of a device: what a journal of a million slots needs, and some.
 const MOST_SECTORS: u64 = 4_000_039;
 
+/// The most slots of a bank.
+const MOST_SLOTS: u64 = 1_000_000;
+
+const SECTORS_OUT_OF_RANGE: &str = "the number of sectors is out of range";
+
+const SLOTS_OUT_OF_RANGE: &str = "the number of slots is out of range";
+
 /// What `clap` reads from the program's words, of which the first is the program's name; or what it answers to wrong
 /// words, to the wish for help, and where there is no memory.
 pub fn options<'a>(alloc: Global, words: &'a [&'a str]) -> Result<Options<'a>, Error>
@@ -50,6 +58,12 @@ pub fn options<'a>(alloc: Global, words: &'a [&'a str]) -> Result<Options<'a>, E
         IfOk result (λ options. AskForSectors asked options.sectors) }
     ensures device { let asked = map (λ word. word.now) words.entry.now in
         IfOk result (λ options. AskForDevice asked (option_map (λ path. path.now) options.device)) }
+    ensures migrate { let asked = map (λ word. word.now) words.entry.now in
+        IfOk result (λ options. AskForMigration asked (option_map (λ path. path.now) options.migrate)) }
+    ensures slots { let asked = map (λ word. word.now) words.entry.now in
+        IfOk result (λ options. AskForSlots asked options.slots) }
+    ensures slots_within { IfOk result (λ options. IfSome options.slots (λ slots.
+        (1 ≤ slots) × (slots ≤ 1000000))) }
     // where the name of the program stands alone
     ensures default { IfOk result (λ options. length words.entry.now ≡ 1 → options.sectors ≡ 64) }
     ensures memory { IfOk result (λ options. length words.entry.now ≡ 1 → options.device ≡ None) }
@@ -57,14 +71,55 @@ pub fn options<'a>(alloc: Global, words: &'a [&'a str]) -> Result<Options<'a>, E
     let mut command = console_command(alloc)?;
     let matches = command.try_get_matches_from_mut(words)?;
     let device = matches.get_str("device");
-    match matches.get_one::<u64>("sectors") {
-        Some(sectors) if 1 <= sectors && sectors <= MOST_SECTORS => {
-            Ok(Options { device, sectors })
-        }
-        _ => Err(command.error(
-            ErrorKind::InvalidValue,
-            "the number of sectors is out of range",
-        )?),
+    let migrate = matches.get_str("migrate");
+    let Ok(slots) = slots_asked(&matches) else {
+        return Err(command.error(ErrorKind::InvalidValue, SLOTS_OUT_OF_RANGE)?);
+    };
+    let Some(sectors) = number_of(&matches, "sectors", MOST_SECTORS) else {
+        return Err(command.error(ErrorKind::InvalidValue, SECTORS_OUT_OF_RANGE)?);
+    };
+    Ok(Options {
+        device,
+        sectors,
+        migrate,
+        slots,
+    })
+}
+
+// That a number is out of its range.
+#[derive(Drop)]
+struct OutOfRange;
+
+// The slots that are asked for, where they are.
+fn slots_asked(matches: &ArgMatches<'_>) -> Result<Option<u64>, OutOfRange>
+    ensures none { IfOk result (λ slots. slots ≡ None
+        → first_value (found_of matches.now) (codes "slots") ≡ None) }
+    ensures asked { IfOk result (λ slots. IfSome slots (λ number. (text : List ℕ)
+        × (one_text (found_of matches.now) (codes "slots") ≡ Some text)
+        × (number ≡ digits_value 10 (without_leading_plus text)))) }
+    ensures within { IfOk result (λ slots. IfSome slots (λ number.
+        (1 ≤ number) × (number ≤ 1000000))) }
+{
+    if matches.get_str("slots").is_none() {
+        return Ok(None);
+    }
+    match number_of(matches, "slots", MOST_SLOTS) {
+        Some(slots) => Ok(Some(slots)),
+        None => Err(OutOfRange),
+    }
+}
+
+// The number that an option has, where it is one from 1 to that one.
+fn number_of(matches: &ArgMatches<'_>, name: &str, most: u64) -> Option<u64>
+    ensures asked { IfSome result (λ number. (text : List ℕ)
+        × (one_text (found_of matches.now) name.now ≡ Some text)
+        × (number ≡ digits_value 10 (without_leading_plus text))) }
+    ensures some { IfSome result (λ number. 1 ≤ number) }
+    ensures most { IfSome result (λ number. number ≤ most) }
+{
+    match matches.get_one::<u64>(name) {
+        Some(number) if 1 <= number && number <= most => Some(number),
+        _ => None,
     }
 }
 
@@ -86,24 +141,63 @@ fn console_command<'a>(alloc: Global) -> Result<Command<'a>, Error>
     ensures words { IfOk result (λ command. app_of command ≡ console) }
     ensures memory { IfErr result (λ error. kind_of error ≡ OutOfMemory) }
 {
-    let device = Arg::new(alloc, "device")
-        .long("device")
-        .value_name("PATH")
-        .help(
-            "The file that is the device; made and grown where it is smaller. Without it the device is in memory",
-        )
-        .action(ArgAction::Set);
-    let sectors = Arg::new(alloc, "sectors")
-        .long("sectors")
-        .value_name("K")
-        .help("How many sectors of 512 bytes the device has, 1 to 4000039")
-        .action(ArgAction::Set)
-        .value_parser(value_parser!(u64).range(1..4_000_040))
-        .default_value("64");
+    let device = option(
+        alloc,
+        "device",
+        "PATH",
+        "The file that is the device; made and grown where it is smaller. Without it the device is in memory",
+    );
+    let migrate = option(
+        alloc,
+        "migrate",
+        "OLD",
+        "A file of layout 1 or 2, whose ledger is copied onto the device before the script is read; it stays as it is",
+    );
     let command = Command::new(alloc, "turn_console")
         .about("A ledger that stations in a row share, on a device that can lose its power")
         .after_help(HELP)
         .arg(device)?
-        .arg(sectors)?;
+        .arg(sectors_of(alloc))?
+        .arg(migrate)?
+        .arg(slots_of(alloc))?;
     Ok(command)
+}
+
+// An option with a value.
+fn option<'a>(alloc: Global, name: &'a str, value: &'a str, help: &'a str) -> Arg<'a>
+    ensures rule { rule_of result ≡ path_option name.now }
+    ensures own { result.global ≡ false }
+{
+    Arg::new(alloc, name)
+        .long(name)
+        .value_name(value)
+        .help(help)
+        .action(ArgAction::Set)
+}
+
+fn sectors_of<'a>(alloc: Global) -> Arg<'a>
+    ensures rule { rule_of result ≡ sectors_option }
+    ensures own { result.global ≡ false }
+{
+    option(
+        alloc,
+        "sectors",
+        "K",
+        "How many sectors of 512 bytes the device has, 1 to 4000039",
+    )
+    .value_parser(value_parser!(u64).range(1..4_000_040))
+    .default_value("64")
+}
+
+fn slots_of<'a>(alloc: Global) -> Arg<'a>
+    ensures rule { rule_of result ≡ slots_option }
+    ensures own { result.global ≡ false }
+{
+    option(
+        alloc,
+        "slots",
+        "K",
+        "How many slots each bank of the device then has, 1 to 1000000",
+    )
+    .value_parser(value_parser!(u64).range(1..1_000_001))
 }

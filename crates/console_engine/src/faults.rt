@@ -1,8 +1,11 @@
 //! Why a script ends early.
+use crate::names::write_open;
 use file_device::FileRefusal;
+use journal_recovery::{MigrateRefusal, OpenRefusal};
 use script_grammar::LineFault;
 use script_streams::StreamFault;
 use std::alloc::AllocError;
+use std::fmt;
 use thiserror::Error;
 
 /// Why a script ended before its last line. What earlier lines printed stands.
@@ -31,9 +34,36 @@ pub enum ProgramFault {
     /// The file that is the device couldn't be opened, made or grown.
     #[error("device failed")]
     Device,
+    /// The device wasn't made of an older one.
+    #[error("{0}")]
+    Migration(MigrationFault),
     /// The script ended early.
     #[error("{0}")]
     Script(ScriptFault),
+}
+
+/// Why a device wasn't made of an older one.
+#[derive(Clone, Copy, Debug, PartialEq, Eq)]
+pub enum MigrationFault {
+    /// The device may hold postings, which would be lost.
+    NotEmpty,
+    /// The older device couldn't be read, or the device not written.
+    Refused(MigrateRefusal),
+}
+
+/// The name of the refusal, with that of the older device's behind it and its numbers.
+impl fmt::Display for MigrationFault {
+    fn fmt<W: fmt::Write>(&self, f: &mut fmt::Formatter<W>) -> fmt::Result {
+        write!(f, "migrate refused ")?;
+        match self {
+            MigrationFault::NotEmpty => write!(f, "{self:?}"),
+            MigrationFault::Refused(MigrateRefusal::Source(refusal)) => {
+                write!(f, "Source ")?;
+                write_open(*refusal, f)
+            }
+            MigrationFault::Refused(refusal) => write!(f, "{refusal:?}"),
+        }
+    }
 }
 
 impl ProgramFault {
@@ -89,6 +119,20 @@ impl From<FileRefusal> for ProgramFault {
         match refusal {
             FileRefusal::Memory => ProgramFault::MEMORY,
             FileRefusal::File => ProgramFault::Device,
+        }
+    }
+}
+
+impl From<MigrateRefusal> for ProgramFault {
+    ghost use Rattle.std.specs.Prelude.{◌≡◌};
+    ghost use Rattle.console_engine.specs.Migration.{of_migration};
+
+    ghost from_gives = { λ refusal fault. fault ≡ of_migration refusal };
+
+    fn from(refusal: MigrateRefusal) -> Self {
+        match refusal {
+            MigrateRefusal::Source(OpenRefusal::Memory) => ProgramFault::MEMORY,
+            refusal => ProgramFault::Migration(MigrationFault::Refused(refusal)),
         }
     }
 }

@@ -2,13 +2,15 @@
 ghost use Rattle.std.specs.Prelude.{◌≡◌, ◌≢◌, ◌⊎◌, ◌≤◌, None, IfSome, OnOk};
 ghost use Rattle.std.specs.Str.Lines.{lines};
 ghost use Rattle.console_engine.specs.Lines.{first_fault};
+ghost use Rattle.console_engine.specs.Settings.{HasSlots};
 ghost use Rattle.clap.specs.Values.{kind_of};
 ghost use Rattle.clap.specs.declared.error.kind.ErrorKind.TheVariants.{DisplayHelp, DisplayVersion};
 
 use crate::command_line::{not_text, options};
 use crate::engine::run_script;
 use crate::faults::{ProgramFault, ScriptFault};
-use crate::settings::Options;
+use crate::migration::migrate_onto;
+use crate::settings::{Plan, Upgrade, WrongWords};
 use clap::Error;
 use clap::error::ErrorKind;
 use file_device::FileDevice;
@@ -46,36 +48,83 @@ pub fn run_program<F: Files<File = File> + Threads + Wait + Sync, R: Read, W: Wr
     ensures sound { result ≡ 0 → (reader.new ≡ reader.old)
         ⊎ IfSome (R.remaining reader.old) (λ bytes. first_fault 1 (lines bytes) ≡ None) }
 {
-    match options(alloc, words) {
-        Ok(options) => match run_options(rt, alloc, options, reader, writer) {
-            Ok(()) => DONE,
-            Err(fault) => tell(alloc, fault, errors),
-        },
-        Err(error) => tell_words(alloc, error, writer, errors),
+    let options = match options(alloc, words) {
+        Ok(options) => options,
+        Err(error) => return tell_words(alloc, error, writer, errors),
+    };
+    let plan = match options.plan() {
+        Ok(plan) => plan,
+        Err(wrong) => return tell_wrong_words(alloc, wrong, errors),
+    };
+    match run_plan(rt, alloc, plan, options.sectors, reader, writer) {
+        Ok(()) => DONE,
+        Err(fault) => tell(alloc, fault, errors),
     }
 }
 
-fn run_options<F: Files<File = File> + Threads + Wait + Sync, R: Read, W: Write>(
+// Runs the script on what the plan says.
+fn run_plan<F: Files<File = File> + Threads + Wait + Sync, R: Read, W: Write>(
     rt: &F,
     alloc: Global,
-    options: Options<'_>,
+    plan: Plan<'_>,
+    sectors: u64,
     reader: &mut R,
     writer: &mut W,
 ) -> Result<(), ProgramFault>
+    requires { HasSlots plan }
     ensures sound { OnOk result (IfSome (R.remaining reader.old) (λ bytes.
         first_fault 1 (lines bytes) ≡ None)) }
 {
-    match options.device {
-        Some(path) => {
-            let device = FileDevice::open(rt, alloc, path, options.sectors)?;
+    match plan {
+        Plan::Memory => {
+            let device = MemoryDevice::new(alloc, sectors).map_err(ScriptFault::from)?;
             run_script(rt, alloc, reader, writer, device)?;
         }
-        None => {
-            let device = MemoryDevice::new(alloc, options.sectors).map_err(ScriptFault::from)?;
+        Plan::File(path) => {
+            let device = FileDevice::open(rt, alloc, path, sectors)?;
+            run_script(rt, alloc, reader, writer, device)?;
+        }
+        Plan::Upgraded(upgrade) => {
+            let device = upgraded(rt, alloc, upgrade, sectors)?;
+            write_migrated(alloc, upgrade.slots, writer)?;
             run_script(rt, alloc, reader, writer, device)?;
         }
     }
     Ok(())
+}
+
+// The file that an older one was copied onto. That one is opened first, so that no other is made where it can't be.
+fn upgraded<F: Files<File = File>>(
+    rt: &F,
+    alloc: Global,
+    upgrade: Upgrade<'_>,
+    sectors: u64,
+) -> Result<FileDevice, ProgramFault>
+    requires { 1 ≤ upgrade.slots }
+{
+    let old = FileDevice::open(rt, alloc, upgrade.old, 0)?;
+    let device = FileDevice::open(rt, alloc, upgrade.path, sectors)?;
+    migrate_onto(alloc, old, device, upgrade.slots)
+}
+
+// Says that a device was migrated, by the rule of the output.
+fn write_migrated<W: Write>(alloc: Global, slots: u64, writer: &mut W) -> Result<(), ScriptFault> {
+    let line = format!(in alloc; "migrated {slots}\n")?;
+    match write_all(writer, line.as_bytes()) {
+        Ok(()) => Ok(()),
+        Err(_) => Err(ScriptFault::Write),
+    }
+}
+
+// Tells in one line that the words don't go together. A fault of `errors` is ignored.
+fn tell_wrong_words<E: Write>(alloc: Global, wrong: WrongWords, errors: &mut E) -> u8
+    ensures { (result ≡ 1) ⊎ (result ≡ 2) }
+{
+    let Ok(line) = format!(in alloc; "{wrong}\n") else {
+        return tell(alloc, ProgramFault::MEMORY, errors);
+    };
+    let _ = write_all(errors, line.as_bytes());
+    WRONG_WORDS
 }
 
 /// Tells a fault on one line of its own, and gives the status that it ends with. A fault of `errors` is ignored.

@@ -1,4 +1,8 @@
 //! What the program is asked for.
+ghost use Rattle.std.specs.Prelude.{◌≡◌, ◌≤◌, ◌↔◌, ◌⊎◌, ◌≢◌, Option, None, Some, IsSome, IfOk, Err};
+ghost use Rattle.console_engine.specs.Settings.{IsPlanOf, NamesOnePath};
+
+use thiserror::Error;
 
 /// What the words ask for.
 #[derive(Clone, Copy, Debug)]
@@ -7,4 +11,70 @@ pub struct Options<'a> {
     pub device: Option<&'a str>,
     /// How many sectors the device has, a file at least: 1 to 4,000,039.
     pub sectors: u64,
+    /// The path of a file of an older layout, whose ledger is copied onto the device first.
+    pub migrate: Option<&'a str>,
+    /// How many slots each bank of the device then has: 1 to 1,000,000.
+    pub slots: Option<u64>,
+}
+
+/// Why words that are well read don't go together. The first that holds is answered.
+#[derive(Clone, Copy, Debug, PartialEq, Eq, Error)]
+pub enum WrongWords {
+    /// There is nothing to copy onto, or nothing says how many slots it gets.
+    #[error("--migrate needs --device and --slots")]
+    MigrateAlone,
+    /// Slots are told for nothing.
+    #[error("--slots needs --migrate")]
+    SlotsAlone,
+    /// A file can't be copied onto itself.
+    #[error("--migrate needs another path")]
+    OnePath,
+}
+
+/// A file of an older layout that is copied onto another one, and the slots that each bank of that gets.
+#[derive(Clone, Copy, Debug)]
+pub struct Upgrade<'a> {
+    /// The path of the file of an older layout.
+    pub old: &'a str,
+    /// The path of the file that it is copied onto.
+    pub path: &'a str,
+    /// 1 to 1,000,000.
+    pub slots: u64,
+}
+
+/// On what the script runs.
+#[derive(Clone, Copy, Debug)]
+pub enum Plan<'a> {
+    /// A device in memory.
+    Memory,
+    /// The file at this path.
+    File(&'a str),
+    /// The file that an older one was copied onto first.
+    Upgraded(Upgrade<'a>),
+}
+
+impl<'a> Options<'a> {
+    /// On what the script runs, where the options go together.
+    pub fn plan(self) -> Result<Plan<'a>, WrongWords>
+        ensures plan { IfOk result (IsPlanOf self.entry) }
+        ensures migrate_alone { (result ≡ Err WrongWords.MigrateAlone)
+            ↔ (IsSome self.entry.migrate
+            × ((self.entry.device ≡ None) ⊎ (self.entry.slots ≡ None))) }
+        ensures slots_alone { (result ≡ Err WrongWords.SlotsAlone)
+            ↔ ((self.entry.migrate ≡ None) × IsSome self.entry.slots) }
+        ensures one_path { (result ≡ Err WrongWords.OnePath)
+            ↔ (NamesOnePath self.entry × IsSome self.entry.slots) }
+    {
+        let upgrade = match (self.migrate, self.device, self.slots) {
+            (None, None, None) => return Ok(Plan::Memory),
+            (None, Some(path), None) => return Ok(Plan::File(path)),
+            (None, _, Some(_)) => return Err(WrongWords::SlotsAlone),
+            (Some(old), Some(path), Some(slots)) => Upgrade { old, path, slots },
+            (Some(_), _, _) => return Err(WrongWords::MigrateAlone),
+        };
+        if upgrade.old == upgrade.path {
+            return Err(WrongWords::OnePath);
+        }
+        Ok(Plan::Upgraded(upgrade))
+    }
 }
