@@ -15,7 +15,7 @@ CALLS = {
     "Clerk::turn, by its device", "FileDevice::open", "HeldEntries::new", "HeldFlags in an Arc", "Ledger::new",
     "MemoryDevice::new", "MemoryDevice::sync", "MemoryDevice::write", "Office::open", "Office::turn",
     "Office::turn_within", "Office::turn_within, by its device", "Office::turn_within, under the lock", "desk", "format",
-    "options", "reconcile", "recover", "run_day", "run_script", "run_script, in a line", "run_stations",
+    "migrate", "migrate, by a device", "options", "reconcile", "recover", "run_day", "run_script", "run_script, in a line", "run_stations",
 }
 # Openings make one call of the device that takes memory, their sync, and it has none left only where its record is full.
 BY_THE_DEVICE = {f"{call}, by its device" for call in ("Clerk::open", "Office::open", "recover", "run_day", "run_stations")}
@@ -23,6 +23,11 @@ THREADS = "days::a_day_is_had_without_a_thread"
 
 DEPOSIT = b"format 4\nopen 3 000 100\npost 0 deposit 1 500\nturn 0\nbalances\ncrash\nopen 3 111 110\nbalances\n"
 DAY = Path("examples/three_stations")
+# A file of layout 1 with four slots, of which the first holds a deposit of 500 to account 1.
+OLDER = b"".join(bytes.fromhex(sector).ljust(512, b"\0") for sector in (
+    "544c4447 0001 0000 0000000000000004",
+    "544c4231 0000 0001" + 24 * "00" + "01000000 00000000 00000001 00000000 00000000000001f4 0000000000000003",
+    "a5", "", "", "", "", "", ""))
 # So long a day is waited for that has a thread too few: its stations ask 100,000,000 times before they give up.
 SECONDS = 5
 IN_A_LINE = re.compile(rb"^(refused|station \d+) (Memory|Device)$")
@@ -109,6 +114,9 @@ def main(program, tests, folder):
         print(f"{call}: told of {count}")
     try_program(refuser, "a deposit", [program], DEPOSIT)
     try_program(refuser, "a deposit in a file", [program, "--device", "ledger"], DEPOSIT)
+    (refuser.folder / "older").write_bytes(OLDER)
+    upgrade = [program, "--migrate", "older", "--device", "ledger", "--slots", "4"]
+    try_program(refuser, "an upgrade", upgrade, b"open 2 00 10\nbalances\n")
     try_program(refuser, "a day", [program], DAY.read_bytes())
     try_program(refuser, "wrong words", [program, "--frob"], b"")
     try_program(refuser, "help", [program, "--help"], b"")

@@ -1,7 +1,7 @@
 //! The words of the command line.
 use crate::day::has;
 use crate::scripts::DEPOSIT;
-use console_engine::{options, run_program, tell_not_text};
+use console_engine::{Options, Plan, WrongWords, options, run_program, tell_not_text};
 use std::alloc::Global;
 use std::fs::{File, Files};
 use std::process::Abort;
@@ -24,6 +24,56 @@ fn the_sectors_are_1_to_4000039(rt: HostRuntime) {
         let device = asked.and_then(|options| options.device);
         assert!(rt; device == wanted.map(|_| "office.ledger"), "{sectors}");
     }
+}
+
+// The slots that these words ask for, where they aren't refused.
+#[test]
+fn the_slots_are_1_to_1000000(rt: HostRuntime) {
+    let table = [
+        ("0", None),
+        ("1", Some(Some(1))),
+        ("1000000", Some(Some(1_000_000))),
+        ("1000001", None),
+    ];
+    for (slots, wanted) in table {
+        let words = ["console", "--migrate", "old", "--slots", slots];
+        let asked = options(rt.alloc(), &words).ok();
+        assert!(rt; asked.map(|options| options.slots) == wanted, "{slots}");
+        let old = asked.and_then(|options| options.migrate);
+        assert!(rt; old == wanted.and_then(|_| Some("old")), "{slots}");
+    }
+}
+
+// What doesn't go together, by the paths of the older file and of the device, and the slots.
+#[test]
+fn options_that_do_not_go_together_are_told(rt: HostRuntime) {
+    let table = [
+        (Some("old"), None, Some(1), WrongWords::MigrateAlone),
+        (Some("old"), Some("new"), None, WrongWords::MigrateAlone),
+        (None, Some("new"), Some(1), WrongWords::SlotsAlone),
+        (Some("one"), Some("one"), Some(1), WrongWords::OnePath),
+    ];
+    let sectors = 64;
+    for (migrate, device, slots, wrong) in table {
+        let options = Options {
+            device,
+            sectors,
+            migrate,
+            slots,
+        };
+        assert!(rt; options.plan().err() == Some(wrong));
+    }
+    let options = Options {
+        device: Some("new"),
+        sectors,
+        migrate: Some("old"),
+        slots: Some(4),
+    };
+    let upgrade = match options.plan() {
+        Ok(Plan::Upgraded(upgrade)) => (upgrade.old, upgrade.path, upgrade.slots),
+        _ => ("", "", 0),
+    };
+    assert!(rt; upgrade == ("old", "new", 4));
 }
 
 #[test]

@@ -20,3 +20,5 @@ mod files;
 mod offices;
 #[cfg(test)]
 mod scripts;
+#[cfg(test)]
+mod upgrades;

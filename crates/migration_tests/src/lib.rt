@@ -1,0 +1,18 @@
+//! Tests of devices of layouts 1 and 2: what they are read as, and what they are copied to. The devices are written by the
+//! tables of the formats, and in no word of the crates that are tested.
+#![tactic(auto)]
+
+#[cfg(test)]
+mod faults;
+#[cfg(test)]
+mod old_devices;
+#[cfg(test)]
+mod old_journals;
+#[cfg(test)]
+mod old_ledgers;
+#[cfg(test)]
+mod postings;
+#[cfg(test)]
+mod refusals;
+#[cfg(test)]
+mod upgrades;

@@ -1,0 +1,142 @@
+//! Devices that are copied, and the bytes that they are copied to.
+use crate::old_devices::{
+    Begins, ZERO, all_of, balances, deposited, of_layout_1, of_layout_2, open_gate, transferred,
+    withdrawn,
+};
+use journal_recovery::{Recovered, migrate, recover};
+use sector_device::{Device, MemoryDevice, Sector};
+use std::alloc::Global;
+use std::process::Abort;
+use std::test::Fail;
+use test_scenes::{head, sectors_needed};
+
+// What a device recovers to.
+fn recovered(rt: &impl Abort, alloc: Global, device: MemoryDevice) -> Recovered<MemoryDevice> {
+    match recover(alloc, device) {
+        Ok(found) => found,
+        Err((_, refusal)) => panic!(rt; "{refusal}"),
+    }
+}
+
+// The device that an older one is copied onto, and that one.
+fn migrated(
+    rt: &impl Abort,
+    alloc: Global,
+    old: MemoryDevice,
+    slots: u64,
+) -> Result<(MemoryDevice, MemoryDevice), Fail> {
+    assert!(rt; 1 <= slots && slots < 100);
+    let mut new = MemoryDevice::new(alloc, sectors_needed(slots))?;
+    let (old, answer) = migrate(alloc, old, &mut new, slots);
+    assert!(rt; answer == Ok(()));
+    Ok((old, new))
+}
+
+// A deposit of 500 to account 1 with the reference 3, in the first slot of a device of layout 1, written by hand.
+fn first_record() -> Sector {
+    let mut bytes = ZERO;
+    bytes[..8].copy_from_slice(&[0x54, 0x4c, 0x42, 0x31, 0, 0, 0, 1]);
+    bytes[32] = 1;
+    bytes[43] = 1;
+    bytes[54..56].copy_from_slice(&[0x01, 0xf4]);
+    bytes[63] = 3;
+    bytes
+}
+
+#[test]
+fn a_deposit_of_layout_1_comes_over_byte_by_byte(rt: HostRuntime) -> Result<(), Fail> {
+    let alloc = rt.alloc();
+    let mut old = of_layout_1(&rt, alloc, &[deposited(1, 500)])?;
+    assert!(rt; old.sectors() == 9);
+    old.write(1, &first_record())?;
+    old.sync()?;
+    let before = all_of(alloc, &old)?;
+
+    let (old, mut new) = migrated(&rt, alloc, old, 4)?;
+    let same = all_of(alloc, &old)? == before;
+    assert!(rt; same && !(0..9).any(|at| old.pending(at)));
+    assert!(rt; new.sectors() == 55);
+    let mut bytes = ZERO;
+    for (at, expected) in [
+        (1, open_gate()),
+        (2, head(0, 1)),
+        (3, balances(500)),
+        (4, ZERO),
+        (19, ZERO),
+    ] {
+        new.read(at, &mut bytes)?;
+        assert!(rt; bytes == expected, "{at}");
+    }
+    let found = recovered(&rt, alloc, new);
+    let ledger = (
+        found.ledger.balance(1),
+        found.ledger.total(),
+        found.ledger.is_sealed(1),
+    );
+    assert!(rt; ledger == (Some(500), 500, Some(false)));
+    assert!(rt;
+        (
+            found.journal.base(),
+            found.journal.next(),
+            found.journal.room()
+        ) == (1, 1, 4)
+    );
+    Ok(())
+}
+
+// The older bank is open too, and its record doesn't count.
+#[test]
+fn a_checkpoint_and_a_record_of_layout_2_come_over(rt: HostRuntime) -> Result<(), Fail> {
+    let alloc = rt.alloc();
+    let begins = Begins {
+        base: 1,
+        balances: balances(5),
+    };
+    let old = of_layout_2(&rt, alloc, begins, &[deposited(1, 5)])?;
+    let (_, new) = migrated(&rt, alloc, old, 1)?;
+    assert!(rt; new.sectors() == 43);
+    let found = recovered(&rt, alloc, new);
+    assert!(rt; (found.ledger.balance(1), found.ledger.total()) == (Some(10), 10));
+    assert!(rt;
+        (
+            found.journal.base(),
+            found.journal.next(),
+            found.journal.live_bank()
+        ) == (2, 2, 0)
+    );
+    Ok(())
+}
+
+#[test]
+fn a_full_device_comes_over_and_one_with_the_last_number(rt: HostRuntime) -> Result<(), Fail> {
+    let alloc = rt.alloc();
+    let entries = [
+        deposited(64, 9),
+        transferred(64, 1, 4),
+        withdrawn(64, 5),
+        deposited(2, 7),
+    ];
+    let (_, new) = migrated(&rt, alloc, of_layout_1(&rt, alloc, &entries)?, 2)?;
+    let found = recovered(&rt, alloc, new);
+    let ledger = &found.ledger;
+    assert!(rt;
+        (ledger.balance(1), ledger.balance(2), ledger.balance(64)) == (Some(4), Some(7), Some(0))
+    );
+    assert!(rt; (found.journal.next(), ledger.balance(65)) == (4, Some(0)));
+
+    // 1 in each account, and no record
+    let mut all = ZERO;
+    for (at, byte) in all.iter_mut().enumerate() {
+        *byte = u8::from(at % 8 == 7);
+    }
+    let begins = Begins {
+        base: u64::MAX,
+        balances: all,
+    };
+    let (_, new) = migrated(&rt, alloc, of_layout_2(&rt, alloc, begins, &[])?, 1)?;
+    let found = recovered(&rt, alloc, new);
+    let ledger = &found.ledger;
+    assert!(rt; (ledger.balance(64), ledger.balance(65), ledger.total()) == (Some(1), Some(0), 64));
+    assert!(rt; found.journal.next() == u64::MAX);
+    Ok(())
+}
