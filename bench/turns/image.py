@@ -1,4 +1,5 @@
 """Writes a ledger's file as it stands after many turns, by the layout alone, and tells what it holds."""
+import dataclasses
 import random
 import struct
 
@@ -10,6 +11,18 @@ OPEN = b"\xa5" + bytes(SECTOR - 1)
 
 # The sectors of a bank before its slots: its gate, its head, sixteen of balances, and one of marks.
 FRONT = 19
+
+
+@dataclasses.dataclass(frozen=True)
+class Layout:
+    """What differs between the layouts with two banks."""
+
+    version: int
+    accounts: int
+    mark_sectors: int
+
+
+SECOND, PRESENT = Layout(2, 64, 0), Layout(3, ACCOUNTS, 1)
 
 
 def bank_sectors(slots):
@@ -30,11 +43,11 @@ def place(kind, source, target, amount, reference):
     return struct.pack(">B3xIIIQQ", kind, source, target, 0, amount, reference)
 
 
-def payload(words):
+def payload(words, accounts):
     """Fifteen entries that take only what some of them brought, and what they change in each account."""
     places, changes = [], {}
     for reference in range(0, PLACES, 3):
-        account, other = words.sample(range(1, ACCOUNTS + 1), 2)
+        account, other = words.sample(range(1, accounts + 1), 2)
         brought = words.randint(3, 999)
         moved, taken = words.randint(1, brought - 2), 1
         places.append(place(1, 0, account, brought, reference))
@@ -45,9 +58,9 @@ def payload(words):
     return b"".join(places), changes
 
 
-def balances(payloads, batches):
+def balances(payloads, accounts, batches):
     """What each account holds after so many batches, which take the payloads in turns."""
-    held = dict.fromkeys(range(1, ACCOUNTS + 1), 0)
+    held = dict.fromkeys(range(1, accounts + 1), 0)
     for number, (_, changes) in enumerate(payloads):
         times = len(range(number, batches, len(payloads)))
         for account, change in changes.items():
@@ -55,10 +68,11 @@ def balances(payloads, batches):
     return held
 
 
-def front(epoch, base, held):
+def front(layout, epoch, base, held):
     """A bank's gate, open, its head, and its snapshot of what each account holds, none of them sealed."""
     head = struct.pack(">4s4xQQ", b"TLBK", epoch, base)
-    return OPEN + head.ljust(SECTOR, b"\0") + struct.pack(f">{ACCOUNTS}Q", *held.values()) + bytes(SECTOR)
+    snapshot = struct.pack(f">{layout.accounts}Q", *held.values()) + bytes(SECTOR * layout.mark_sectors)
+    return OPEN + head.ljust(SECTOR, b"\0") + snapshot
 
 
 def rows(payloads, first, count):
@@ -68,19 +82,19 @@ def rows(payloads, first, count):
         yield header + payloads[sequence % PAYLOADS][0] + OPEN
 
 
-def write(path, slots):
+def write(path, slots, layout=PRESENT):
     """Writes the file of a ledger after twice as many batches as a bank has slots: the second bank has the first half of
     them, the first one, which is live, the balances after it and the other half. Gives the lines that `open 3 000 100`
     and `balances` print on it.
     """
     words = random.Random(1)
-    payloads = [payload(words) for _ in range(PAYLOADS)]
+    payloads = [payload(words, layout.accounts) for _ in range(PAYLOADS)]
     with open(path, "wb") as file:
-        file.write(struct.pack(">4sHHQ", b"TLDG", 3, 0, slots).ljust(SECTOR, b"\0"))
+        file.write(struct.pack(">4sHHQ", b"TLDG", layout.version, 0, slots).ljust(SECTOR, b"\0"))
         for epoch, base in ((2, slots), (1, 0)):
-            file.write(front(epoch, base, balances(payloads, base)))
+            file.write(front(layout, epoch, base, balances(payloads, layout.accounts, base)))
             file.writelines(rows(payloads, base, slots))
-    held = balances(payloads, 2 * slots)
+    held = balances(payloads, layout.accounts, 2 * slots)
     total = sum(held.values())
     lines = [f"opened 3 next {2 * slots} total {total}"]
     lines += [f"account {account} {balance}" for account, balance in held.items() if balance]

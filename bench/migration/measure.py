@@ -1,0 +1,78 @@
+"""Measures the upgrade of a file of layout 2 whose live bank is full, beside the same in plain Rust, and beside the opening
+of as long a file and the writes of a new one, and prints tables.
+
+Words: the folder of the programs `proved`, `plain_migrate` and `stopwatch`, and how many rounds.
+"""
+import os
+import pathlib
+import sys
+
+import image
+import scripts
+from runs import Runs, Times, Work, require_same
+from table import Aim, Memory, Ratios, milliseconds, print_rows
+
+SLOTS = 100_000
+
+
+def blank(path):
+    """Makes a file of zeros on the disk, or makes that sector one again by which it would be told as a ledger."""
+    def prepare():
+        with open(path, "r+b" if path.exists() else "wb") as file:
+            sectors = 1 if path.stat().st_size else image.sectors_needed(SLOTS)
+            file.write(bytes(image.SECTOR * sectors))
+            file.flush()
+            os.fsync(file.fileno())
+    return prepare
+
+
+def works(folder):
+    """What takes turns, each on a new file of its own."""
+    old, opened = folder / "old.ledger", folder / "opened.ledger"
+    proved, plain, formatted = (folder / f"{name}.ledger" for name in ("proved", "plain", "formatted"))
+    slots = str(SLOTS)
+    return {
+        "proved": Work([folder / "proved", "--migrate", old, "--device", proved, "--slots", slots], prepare=blank(proved)),
+        "plain": Work([folder / "plain_migrate", old, plain, slots], prepare=blank(plain)),
+        "opening": Work([folder / "proved", "--device", opened], scripts.write(folder / "opening", ["open 3 000 100"])),
+        "writes": Work([folder / "proved", "--device", formatted],
+                       scripts.write(folder / "formatting", [f"format {slots}"]), blank(formatted)),
+    }
+
+
+def require_upgraded(runs, wanted):
+    """The new files are equal, and one opens as what the older file holds."""
+    require_same(runs.folder / "proved.ledger", runs.folder / "plain.ledger")
+    script = scripts.write(runs.folder / "looking", ["open 3 000 100", "balances"])
+    runs.once("looked", Work([runs.folder / "proved", "--device", runs.folder / "proved.ledger"], script))
+    if runs.answers("looked").read_text().splitlines() != wanted:
+        sys.exit("the new file holds something else than the older one")
+
+
+def together(one, other):
+    """What two works take one after the other."""
+    both = Times()
+    for first, second in zip(one.seconds, other.seconds):
+        both.add(first + second, max(one.kilobytes, other.kilobytes))
+    return both
+
+
+def main():
+    runs = Runs(pathlib.Path(sys.argv[1]), int(sys.argv[2]))
+    wanted = image.write(runs.folder / "old.ledger", SLOTS, image.SECOND)
+    image.write(runs.folder / "opened.ledger", SLOTS)
+    times = runs.taking_turns(works(runs.folder), [("proved", "plain")])
+    require_upgraded(runs, wanted)
+    both, ratios, memory = together(times["opening"], times["writes"]), Ratios(), Memory()
+    work = f"an upgrade of a full bank of {SLOTS:,} batches of 15"
+    ratios.time(work, times["proved"], "plain Rust", times["plain"], None)
+    ratios.time(work, times["proved"], "an opening and a format", both, Aim(most=1.1))
+    memory.add(work, times["proved"], times["plain"], f"an opening {times['opening'].megabytes()}")
+    print(f"medians of {runs.rounds} runs; an opening alone {milliseconds(times['opening'].median())}, "
+          f"a format alone {milliseconds(times['writes'].median())}")
+    print_rows(ratios.rows)
+    print()
+    print_rows(memory.rows)
+
+
+main()
