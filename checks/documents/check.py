@@ -59,7 +59,8 @@ def told(name, faults):
 
 def main():
     program, failed = sys.argv[1], 0
-    documents = [Path("README.md"), *sorted(Path("docs").glob("*.md")), Path("examples/README.md"), Path("bench/README.md")]
+    documents = [Path("README.md"), *sorted(Path("docs").glob("*.md")), Path("examples/README.md"), Path("bench/README.md"),
+                 *sorted(Path("bench").glob("*/RESULTS.md")), *sorted(Path("checks").glob("*/RESULTS.md"))]
     with tempfile.TemporaryDirectory() as folder:
         copy = Copy(folder, program)
         for document in documents:

@@ -4,7 +4,7 @@
 # console in its own folder. What both new files hold has to be equal, and what the older one held. Words: how many
 # rounds, 7 without.
 set -euo pipefail
-cd "$(dirname "$0")/.."
+cd "$(dirname "$0")/../.."
 work=$(mktemp -d "${BENCH_FOLDER:-/var/tmp}/migration.XXXXXX")
 trap 'rm -rf "$work"' EXIT
 

@@ -5,7 +5,7 @@
 # proved and built as a crate of its own in a temporary folder, the console in its own. Words: how many rounds, 7 without,
 # and how many runs of the console, 3 without.
 set -euo pipefail
-cd "$(dirname "$0")/.."
+cd "$(dirname "$0")/../.."
 work=$(mktemp -d)
 trap 'rm -rf "$work"' EXIT
 libraries='sector_device gate_journal turn_ledger four_state sweep_auditor journal_recovery turn_clerk line_lock station_desk'

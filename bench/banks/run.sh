@@ -4,7 +4,7 @@
 # have 100,000 slots, beside one read of its live bank. It proves and builds the console in its own folder. Words: how
 # many rounds, 7 without.
 set -euo pipefail
-cd "$(dirname "$0")/.."
+cd "$(dirname "$0")/../.."
 work=$(mktemp -d "${BENCH_FOLDER:-/var/tmp}/banks.XXXXXX")
 trap 'rm -rf "$work"' EXIT
 

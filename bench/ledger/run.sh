@@ -4,7 +4,7 @@
 # on the same entries, spread over 64 accounts and over all 1,024. Both print how many entries had a
 # yes and the total, which must agree.
 set -euo pipefail
-cd "$(dirname "$0")/.."
+cd "$(dirname "$0")/../.."
 work=$(mktemp -d)
 trap 'rm -rf "$work"' EXIT
 

@@ -3,7 +3,7 @@
 # half size, so that linear growth can be seen. The last line that is printed is compared with what
 # the script comes to. It proves and builds the console in its own folder.
 set -euo pipefail
-cd "$(dirname "$0")/.."
+cd "$(dirname "$0")/../.."
 work=$(mktemp -d)
 trap 'rm -rf "$work"' EXIT
 

@@ -4,7 +4,7 @@
 # proves and builds the console in its own folder. What the proved and the plain programs print, and the files that they
 # leave, have to be equal. Words: how many rounds, 7 without.
 set -euo pipefail
-cd "$(dirname "$0")/.."
+cd "$(dirname "$0")/../.."
 work=$(mktemp -d "${BENCH_FOLDER:-/var/tmp}/turns.XXXXXX")
 trap 'rm -rf "$work"' EXIT
 

@@ -3,7 +3,7 @@
 # beside the same in plain Rust (rustc -O, standard library alone), in runs that take turns; what they leave must agree.
 # The timed program is proved and built as a crate of its own in a temporary folder. Words: how many rounds, 7 without.
 set -euo pipefail
-cd "$(dirname "$0")/.."
+cd "$(dirname "$0")/../.."
 work=$(mktemp -d)
 trap 'rm -rf "$work"' EXIT
 libraries='sector_device gate_journal turn_ledger four_state sweep_auditor journal_recovery turn_clerk line_lock'

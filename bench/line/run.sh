@@ -5,7 +5,7 @@
 # in a temporary folder, twice: the line in arrays is the last revision that had it. rustc is told of the processor for
 # which rt builds. Words: how many rounds, 15 without.
 set -euo pipefail
-cd "$(dirname "$0")/.."
+cd "$(dirname "$0")/../.."
 work=$(mktemp -d)
 trap 'rm -rf "$work"' EXIT
 libraries='four_state sweep_auditor'
