@@ -5,6 +5,7 @@ Words: the folder of the programs `proved`, `plain_migrate` and `stopwatch`, and
 """
 import os
 import pathlib
+import shutil
 import sys
 
 import image
@@ -27,24 +28,28 @@ def blank(path):
 
 
 def works(folder):
-    """What takes turns, each on a new file of its own."""
-    old, opened = folder / "old.ledger", folder / "opened.ledger"
-    proved, plain, formatted = (folder / f"{name}.ledger" for name in ("proved", "plain", "formatted"))
+    """What takes turns. All of them write the same new file, since one file may be slower than another by a fifth."""
+    old, opened, new = (folder / f"{name}.ledger" for name in ("old", "opened", "new"))
     slots = str(SLOTS)
+    formatting = scripts.write(folder / "formatting", [f"format {slots}"])
     return {
-        "proved": Work([folder / "proved", "--migrate", old, "--device", proved, "--slots", slots], prepare=blank(proved)),
-        "plain": Work([folder / "plain_migrate", old, plain, slots], prepare=blank(plain)),
+        "proved": Work([folder / "proved", "--migrate", old, "--device", new, "--slots", slots], prepare=blank(new)),
+        "plain": Work([folder / "plain_migrate", old, new, slots], prepare=blank(new)),
         "opening": Work([folder / "proved", "--device", opened], scripts.write(folder / "opening", ["open 3 000 100"])),
-        "writes": Work([folder / "proved", "--device", formatted],
-                       scripts.write(folder / "formatting", [f"format {slots}"]), blank(formatted)),
+        "writes": Work([folder / "proved", "--device", new], formatting, blank(new)),
     }
 
 
 def require_upgraded(runs, wanted):
-    """The new files are equal, and one opens as what the older file holds."""
-    require_same(runs.folder / "proved.ledger", runs.folder / "plain.ledger")
+    """Both programs leave the same file, which opens as what the older file holds."""
+    new, left = runs.folder / "new.ledger", runs.folder / "plain.ledger"
+    made = works(runs.folder)
+    runs.once("plain", made["plain"])
+    shutil.copyfile(new, left)
+    runs.once("proved", made["proved"])
+    require_same(new, left)
     script = scripts.write(runs.folder / "looking", ["open 3 000 100", "balances"])
-    runs.once("looked", Work([runs.folder / "proved", "--device", runs.folder / "proved.ledger"], script))
+    runs.once("looked", Work([runs.folder / "proved", "--device", new], script))
     if runs.answers("looked").read_text().splitlines() != wanted:
         sys.exit("the new file holds something else than the older one")
 
