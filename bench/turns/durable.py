@@ -1,6 +1,7 @@
-"""Durable batches on a file that has its length and an empty journal already."""
+"""Durable batches on a file that has its length and an empty journal already, and in SQLite where that is there."""
 import os
 import subprocess
+import sys
 
 import scripts
 from image import sectors_needed
@@ -44,8 +45,29 @@ def on_file(folder, program, entries):
     return Work([folder / program, "--device", path], script, formatted(folder / program, path)), path
 
 
+def in_sqlite(folder, entries):
+    """The entries of the same script, in a database that has its tables already."""
+    path = folder / f"sqlite {entries}.db"
+
+    def prepare():
+        for left in folder.glob(f"{path.name}*"):
+            left.unlink()
+        subprocess.run([folder / "sqlite", path], stdin=subprocess.DEVNULL, stdout=subprocess.DEVNULL, check=True)
+    return Work([folder / "sqlite", path], folder / f"batches {entries}", prepare)
+
+
+def beside_sqlite(runs, times, entries, ratios):
+    """The speeds beside each other, of ledgers with the same total."""
+    totals = {runs.answers(f"{name} {entries}").read_text().splitlines()[-1] for name in ("proved", "sqlite")}
+    if len(totals) != 1:
+        sys.exit(f"SQLite's ledger has another total: {totals}")
+    work = f"durable batches, {entries} a batch"
+    ratios.speed(work, BATCHES, times[f"proved {entries}"], "SQLite", times[f"sqlite {entries}"], None)
+
+
 def measure(runs, ratios, memory):
     folder = runs.folder
+    has_sqlite = (folder / "sqlite").exists()
     floor = folder / "floor.ledger"
     works = {"floor": Work([folder / "floor", floor, str(BATCHES)], prepare=zeros(floor))}
     pairs, files = [], []
@@ -53,6 +75,8 @@ def measure(runs, ratios, memory):
         proved, proved_file = on_file(folder, "proved", entries)
         plain, plain_file = on_file(folder, "plain", entries)
         works |= {f"proved {entries}": proved, f"plain {entries}": plain}
+        if has_sqlite:
+            works[f"sqlite {entries}"] = in_sqlite(folder, entries)
         pairs.append((f"proved {entries}", f"plain {entries}"))
         files.append((proved_file, plain_file))
     times = runs.taking_turns(works, pairs, TIMES)
@@ -63,4 +87,6 @@ def measure(runs, ratios, memory):
         proved, plain = times[f"proved {entries}"], times[f"plain {entries}"]
         ratios.speed(work, BATCHES, proved, "plain Rust", plain, Aim(least=0.95))
         ratios.speed(work, BATCHES, proved, "C floor", times["floor"], Aim(least=0.85))
+        if has_sqlite:
+            beside_sqlite(runs, times, entries, ratios)
         memory.add(f"{BATCHES:,} {work}", proved, plain, f"C floor {times['floor'].megabytes()}")
