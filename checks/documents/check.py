@@ -46,8 +46,8 @@ def picture_faults(program, folder):
     """Which pictures aren't what the program gives."""
     subprocess.run([sys.executable, "docs/pictures/make.py", program, folder], check=True)
     for made in sorted(Path(folder).glob("*.svg")):
-        if made.read_bytes() != (Path("docs") / made.name).read_bytes():
-            yield f"docs/{made.name} isn't what docs/pictures/make.py makes"
+        if made.read_bytes() != (Path("docs/pictures") / made.name).read_bytes():
+            yield f"docs/pictures/{made.name} isn't what docs/pictures/make.py makes"
 
 
 def told(name, faults):

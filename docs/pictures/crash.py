@@ -11,9 +11,10 @@ FRONT = 19
 SECTORS = 1 + 2 * (FRONT + 2 * SLOTS)
 # the sectors that are drawn: the superblock, and the slots of the first bank
 DRAWN = [0, *range(1 + FRONT, 1 + FRONT + 2 * SLOTS)]
-# the body of the last slot
+# the body and the gate of the last slot
 BODY = 1 + FRONT + 2 * (SLOTS - 1)
-BOX, GAP, LEFT, TOP, ROW = 26, 5, 143, 78, 46
+GATE = BODY + 1
+BOX, GAP, LEFT, TOP, ROW = 26, 5, 143, 78, 40
 
 
 def turn(station, entries):
@@ -45,20 +46,24 @@ def torn(old, new):
 
 
 def left_images(two, three):
-    """Images that a crash may leave, from before the third turn to its answer, each with its moment."""
+    """Images that a crash may leave, from before the third turn to its answer: each with its moment, and the sector that it
+    tears. A torn gate may have any bytes, and its first one says whether it is open.
+    """
     body = sector(three, BODY)
+    closed = torn(bytes([0x77]) * SECTOR, bytes(SECTOR))
     return [
-        ("two turns were", "answered", two),
-        ("crash while the", "body is written", with_sector(two, BODY, torn(sector(two, BODY), body))),
-        ("crash before the", "gate is open", with_sector(two, BODY, body)),
-        ("crash after that,", "or after the answer", three),
+        ("two turns were", "answered", two, None),
+        ("crash while the", "body is written", with_sector(two, BODY, torn(sector(two, BODY), body)), BODY),
+        ("crash while the", "gate is written", with_sector(three, GATE, closed), GATE),
+        ("the same, but with", "its first byte open", with_sector(three, GATE, sector(three, GATE)[:1] + closed[1:]), GATE),
+        ("crash after", "the answer", three, None),
     ]
 
 
 def recovered(program, folder, image):
-    """What the program prints of an image: the number of records, and the total of the accounts."""
+    """What the program prints of an image: the number of the next record, and the total of the accounts."""
     (folder / "left").write_bytes(image)
-    opened = Console(program, "--device", folder / "left", "--sectors", SECTORS).lines(["open 3 010 100"])[0].split()
+    opened = Console(program, "--device", folder / "left", "--sectors", len(image) // SECTOR).lines(["open 3 010 100"])[0].split()
     if opened[0] != "opened":
         raise SystemExit(f"an image was refused: {' '.join(opened)}")
     return int(opened[3]), int(opened[5])
@@ -84,27 +89,32 @@ def heading():
         middle = (box_at(2 * slot + 1) + box_at(2 * slot + 2) + BOX) / 2
         yield text(middle, TOP - 9, f"record {slot}", "faint", 11, "middle")
     yield text(464, TOP - 9, "recovered", "faint", 11, "end")
-    yield text(16, 287, "A box is a sector, a stripe 32 of its bytes that aren't all zero.", "faint", 11)
+    yield text(16, 325, "A box is a sector, a stripe 32 of its bytes that aren't all zero.", "faint", 11)
+    yield rectangle(374, 317, 20, 3, "full")
+    yield text(398, 325, "written", "faint", 11)
+    yield text(16, 340, "Left out: the bank's gate, head and snapshot; the other bank.", "faint", 11)
+    yield rectangle(374, 332, 20, 3, "mark")
+    yield text(398, 340, "torn", "faint", 11)
 
 
-def row(place, moment, image, found):
+def row(place, moment, image, torn_sector, found):
     y = TOP + place * (ROW + 6)
     records, total = found
-    yield text(16, y + 16, moment[0])
-    yield text(16, y + 31, moment[1])
+    yield text(16, y + 15, moment[0])
+    yield text(16, y + 30, moment[1])
     for number in DRAWN:
-        yield from drawn_sector(number, y, sector(image, number), place == 1 and number == BODY)
-    yield text(464, y + 16, f"records 0–{records - 1}", "good", anchor="end", weight="600")
-    yield text(464, y + 31, f"total {total}", anchor="end")
+        yield from drawn_sector(number, y, sector(image, number), number == torn_sector)
+    yield text(464, y + 15, f"records 0–{records - 1}", "good", anchor="end", weight="600")
+    yield text(464, y + 30, f"total {total}", anchor="end")
     if place == 0:
-        yield line(16, y + ROW, 464, y + ROW, "frame-line")
+        yield line(16, y + ROW + 1, 464, y + ROW + 1, "frame-line")
 
 
 def crash_picture(program, folder):
     two, three = two_images(program, folder)
     parts = list(heading())
-    for place, (first, second, image) in enumerate(left_images(two, three)):
-        parts += row(place, (first, second), image, recovered(program, folder, image))
+    for place, (first, second, image, torn_sector) in enumerate(left_images(two, three)):
+        parts += row(place, (first, second), image, torn_sector, recovered(program, folder, image))
     told = ("Rows of sectors: the superblock, and of one bank a body and a gate for each record. Of a third turn, whatever a crash leaves, recovery gives"
             " records 0 and 1, or all three.")
     return picture("A crash leaves a turn whole or not at all", told, parts)

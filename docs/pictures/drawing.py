@@ -1,7 +1,7 @@
 """The parts of an SVG that is readable on light and on dark."""
 from html import escape
 
-WIDTH, HEIGHT = 480, 300
+WIDTH, HEIGHT = 480, 352
 
 LIGHT = {"ground": "#ffffff", "frame": "#d0d7de", "ink": "#1f2328", "faint": "#59636e", "full": "#54708c", "set": "#a9bfd6",
          "bare": "#eaeef2", "mark": "#b3360a", "good": "#1a7f37"}
@@ -35,18 +35,18 @@ def text(x, y, words, name="ink", size=12, anchor="start", weight="normal"):
             f' font-weight="{weight}">{escape(words)}</text>')
 
 
-def picture(title, told, parts):
+def picture(title, told, parts, height=HEIGHT):
     """The whole file: a title, what is told to those who can't see it, and the parts on a ground of their own."""
     head = [
-        f'<svg xmlns="http://www.w3.org/2000/svg" viewBox="0 0 {WIDTH} {HEIGHT}" width="{WIDTH}" height="{HEIGHT}" role="img"'
+        f'<svg xmlns="http://www.w3.org/2000/svg" viewBox="0 0 {WIDTH} {height}" width="{WIDTH}" height="{height}" role="img"'
         ' font-family="system-ui, -apple-system, \'Segoe UI\', \'DejaVu Sans\', sans-serif">',
         f"<title>{escape(title)}</title>",
         f"<desc>{escape(told)}</desc>",
         f"<style>{colours(LIGHT)}",
         f"@media (prefers-color-scheme: dark) {{ {colours(DARK)} }}",
         ".ring{stroke-width:2} .dashed{stroke-width:1.5;stroke-dasharray:4 3}</style>",
-        rectangle(0.5, 0.5, WIDTH - 1, HEIGHT - 1, "ground", 6),
-        rectangle(0.5, 0.5, WIDTH - 1, HEIGHT - 1, "frame-line", 6),
+        rectangle(0.5, 0.5, WIDTH - 1, height - 1, "ground", 6),
+        rectangle(0.5, 0.5, WIDTH - 1, height - 1, "frame-line", 6),
         text(16, 26, title, size=15, weight="600"),
     ]
     return "\n".join([*head, *parts, "</svg>", ""])

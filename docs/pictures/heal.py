@@ -4,8 +4,10 @@ from drawing import circle, line, picture, rectangle, shape, text
 
 STATIONS, X, UP = 7, "1010111", "1100010"
 SWEEP = 2 * (STATIONS - 1)
-CELL, STEP, LEFT, TOP = 14, 18, 54, 66
-BELOW = TOP + STATIONS * STEP
+# a cell's width and height, and the next one's distance to the right and below
+WIDE, HIGH, RIGHT, DOWN = 14, 20, 17.5, 25
+LEFT, TOP = 64, 64
+BELOW = TOP + STATIONS * DOWN
 
 
 def privileged(console, script):
@@ -36,51 +38,55 @@ def configurations(program):
 
 
 def cell(x, y, is_set, is_up):
-    """A station's two bits: filled where x is 1, with a wedge where up is 1."""
-    yield rectangle(x, y, CELL, CELL, "set" if is_set else "bare", 2)
+    """A station's two bits: filled where x is 1, with a wedge where up is 1. Below it there is room for a circle."""
+    yield rectangle(x, y, WIDE, HIGH, "set" if is_set else "bare", 2)
     if is_up:
-        wedge = [(x + 1.5, y + 5), (x + 6.5, y + 5), (x + 4, y + 1.5)]
-        yield shape(wedge, "ink")
+        middle = x + WIDE / 2
+        yield shape([(middle - 3, y + 6), (middle + 3, y + 6), (middle, y + 2)], "ink")
+
+
+def token(x, y, moves):
+    """The circle of a station that may move, full where it does next."""
+    yield circle(x, y, 4.4 if moves else 3.6, "mark" if moves else "mark-line ring")
 
 
 def drawn(number, row):
     """A configuration as a column, the bottom station at the bottom."""
     (xs, ups), privileges, stations, mover = row
-    x = LEFT + number * STEP
+    x = LEFT + number * RIGHT
     for station in range(STATIONS):
-        y = BELOW - (station + 1) * STEP
+        y = BELOW - (station + 1) * DOWN
         yield from cell(x, y, xs[station] == "1", ups[station] == "1")
-        if station == mover:
-            yield circle(x + CELL / 2 + 1, y + CELL / 2 + 1, 4.4, "mark")
-        elif station in stations:
-            yield circle(x + CELL / 2 + 1, y + CELL / 2 + 1, 3.6, "mark-line ring")
-    yield text(x + CELL / 2, BELOW + 14, str(privileges), "good" if privileges == 1 else "mark", 12, "middle", "600")
+        if station in stations:
+            yield from token(x + WIDE / 2, y + HIGH - 6.5, station == mover)
+    yield text(x + WIDE / 2, BELOW + 14, str(privileges), "good" if privileges == 1 else "mark", 12, "middle", "600")
 
 
 def legend():
-    y = 278
-    for x, is_set, is_up, said in ((16, False, False, "x is 0"), (76, True, False, "x is 1"), (136, False, True, "up")):
-        yield from cell(x, y - 11, is_set, is_up)
-        yield text(x + 19, y, said, "faint", 11)
-    yield circle(190, y - 4, 4.4, "mark")
-    yield text(200, y, "may move and does next", "faint", 11)
-    yield circle(354, y - 4, 3.6, "mark-line ring")
-    yield text(364, y, "may move too", "faint", 11)
+    y = 312
+    for x, is_set, is_up, said in ((16, False, False, "x is 0"), (116, True, False, "x is 1"), (240, False, True, "up is 1")):
+        yield from cell(x, y - 14, is_set, is_up)
+        yield text(x + 20, y, said, "faint", 11)
+    yield from token(23, y + 21, True)
+    yield text(36, y + 25, "has a privilege, and moves next", "faint", 11)
+    yield from token(247, y + 21, False)
+    yield text(260, y + 25, "has a privilege too", "faint", 11)
 
 
 def heal_picture(program):
     rows = configurations(program)
     first = next(number for number, row in enumerate(rows) if row[1] == 1)
-    border = LEFT + first * STEP - (STEP - CELL) / 2
+    border = LEFT + first * RIGHT - (RIGHT - WIDE) / 2
     parts = [text(16, 46, "Seven stations, from arbitrary bits; a column after each move.", "faint")]
     for name, station in (("top", STATIONS - 1), ("bottom", 0)):
-        parts.append(text(LEFT - 6, BELOW - (station + 1) * STEP + 11, name, "faint", 11, "end"))
+        parts.append(text(LEFT - 6, BELOW - (station + 1) * DOWN + 14, name, "faint", 11, "end"))
+    parts.append(text(LEFT - 6, BELOW + 14, "privileges", "faint", 11, "end"))
     for number, row in enumerate(rows):
         parts += drawn(number, row)
     parts += [
-        line(border, TOP - 4, border, BELOW + 34, "good-line dashed"),
-        text(border - 6, BELOW + 32, "several may move", "mark", 12, "end"),
-        text(border + 6, BELOW + 32, "one may: bottom to top and back", "good", 12),
+        line(border, TOP - 4, border, BELOW + 36, "good-line dashed"),
+        text(border - 6, BELOW + 33, "several may move", "mark", 12, "end"),
+        text(border + 6, BELOW + 33, "one may: bottom to top and back", "good", 12),
         *legend(),
     ]
     told = (f"Seven stations in a row after each of {len(rows) - 1} moves. At first {rows[0][1]} privileges are present; after"
