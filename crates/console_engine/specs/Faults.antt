@@ -15,7 +15,7 @@ of_stream stream.Write = script.Write
 of_stream stream.Memory = script.Memory
 of_stream stream.TooLong = script.TooLong
 
--- the program tells want of memory as such, and all else of a file as the device's fault
+-- the program reports out of memory as such, and all else of a file as the device's fault
 abbrev pub of_file : FileRefusal → ProgramFault
 of_file file.Memory = program.Script script.Memory
 of_file file.File = program.Device

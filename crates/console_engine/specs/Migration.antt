@@ -7,7 +7,7 @@ use Rattle.console_engine.specs.declared.faults.ScriptFault.TheVariants as scrip
 use Rattle.console_engine.specs.declared.faults.ProgramFault.{ProgramFault}
 use Rattle.console_engine.specs.declared.faults.ProgramFault.TheVariants as program
 
--- want of memory is told as such
+-- out of memory is reported as such
 abbrev pub of_migration : MigrateRefusal → ProgramFault
 of_migration (migrate.Source source.Memory) = program.Script script.Memory
 of_migration (migrate.Source source.Unformatted) = program.Migration (Refused (migrate.Source source.Unformatted))

@@ -16,7 +16,7 @@ ghost use Rattle.journal_recovery.specs.declared.refusals.Cause.TheVariants.{Ban
 use gate_journal::{one_old_reading, one_reading};
 
 /// An image recovers to at most one state, and where it does no refusal holds of it; of any image at most one refusal
-/// holds. So `recover` answers `Ok` on an honest device exactly where what reads give recovers to a state, want of memory
+/// holds. So `recover` answers `Ok` on an honest device exactly where what reads give recovers to a state, out of memory
 /// and device faults apart.
 pub fn one_recovery()
     ensures state { (image : Image) (s t : State) → RecoversTo s image → RecoversTo t image

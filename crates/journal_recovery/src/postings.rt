@@ -42,7 +42,7 @@ pub fn may_hold_postings<D: Device>(alloc: Global, device: D) -> (D, Result<bool
     }
 }
 
-// Whether that is a refusal of a device's image, and not for want of memory nor by a fault.
+// Whether that is a refusal of a device's image, and neither out of memory nor a fault.
 fn is_of_image(refusal: OpenRefusal) -> bool
     ensures { IsTrue result
         ↔ ((refusal ≢ OpenRefusal.Memory) × (refusal ≢ OpenRefusal.Device)) }

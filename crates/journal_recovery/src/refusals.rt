@@ -47,7 +47,7 @@ pub enum Cause {
     /// The bytes at this place of the record are those of no entry.
     #[error("place {0} is no entry")]
     Entry(u8),
-    /// The entry at this place of the record has no yes on the ledger before it.
+    /// The entry at this place of the record isn't accepted on the ledger before it.
     #[error("the entry at place {0} breaks a rule of the ledger")]
     Verdict(u8),
 }

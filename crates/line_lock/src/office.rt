@@ -73,7 +73,7 @@ impl<D: Device, L: Count + Opening> Office<D, L> {
     }
 
     /// Takes a turn of the seat's station with these entries; it may wait for the lock. A place for the turn in the
-    /// seat's list is reserved first, so want of memory there stands before every other refusal.
+    /// seat's list is reserved first, so running out of memory there comes before every other refusal.
     pub fn turn<R: Wait>(
         &self,
         rt: &R,

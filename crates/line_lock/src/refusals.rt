@@ -3,7 +3,7 @@
 use thiserror::Error;
 use turn_clerk::TurnRefusal;
 
-/// Why a turn within a limit was not taken: the first, in this order, that holds; want of memory for the seat's list
+/// Why a turn within a limit was not taken: the first, in this order, that holds; out of memory for the seat's list
 /// stands before both.
 #[derive(Clone, Copy, Debug, PartialEq, Eq, Error)]
 pub enum WithinRefusal {

@@ -51,7 +51,7 @@ impl Gate for NobodyLooks {
 /// at most `tries` times in a row. Then the office is closed. The call may wait.
 ///
 /// # Errors
-/// The device comes back. [`DayRefusal::Opening`]: it can't be opened, for another reason than want of memory; nobody
+/// The device comes back. [`DayRefusal::Opening`]: it can't be opened, for another reason than out of memory; nobody
 /// took a turn. [`DayRefusal::Memory`]: turns may have been taken; the device is as a clerk that took turns on it left it,
 /// with their batches. [`DayRefusal::Closing`]: the same; an office whose seats are its own never answers it.
 pub fn run_day<D: Device + Send, R: Threads + Wait + Sync>(

@@ -14,7 +14,7 @@ use turn_clerk::Line;
 /// A memory device that notes its calls.
 pub type Noted = Noting<MemoryDevice>;
 
-/// Prints the name of a call that told of want of memory.
+/// Prints the name of a call that reported out of memory.
 pub fn told(rt: &(impl Abort + Print), call: &str) {
     println!(rt; "told {call}").expect(rt, "an output");
 }

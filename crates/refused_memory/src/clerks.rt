@@ -61,7 +61,7 @@ enum Asked {
     InFlight,
 }
 
-// Asks for a turn, in which nothing is refused but for want of memory.
+// Asks for a turn, which nothing refuses but running out of memory.
 fn ask(rt: &impl Abort, clerk: &mut Clerk<Noted>, station: u8, entries: &[Entry]) -> Asked {
     let before = (
         clerk.line(),

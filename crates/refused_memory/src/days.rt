@@ -76,7 +76,7 @@ fn had<R: Abort + Print + Wait + Threads + Sync>(
     }
 }
 
-// What a station's client is told. One whose turn met want of memory still holds its deposit.
+// What a station's client is told. One whose turn ran out of memory still holds its deposit.
 fn hear(rt: &(impl Abort + Print), station: &StationDay, heard: &mut Heard) -> Result<(), Fail> {
     assert!(rt;
         station
@@ -167,8 +167,8 @@ fn a_day_is_had(rt: HostRuntime) -> Result<(), Fail> {
     Ok(())
 }
 
-// A thread that isn't had is no want of memory: stations run one after another, and one that waits in vain gives up. It is
-// run with each thread refused.
+// A thread that isn't had isn't reported as out of memory: stations run one after another, and one that waits in vain
+// gives up. It is run with each thread refused.
 #[test]
 fn a_day_is_had_without_a_thread(rt: HostRuntime) -> Result<(), Fail> {
     let alloc = rt.alloc();

@@ -30,7 +30,7 @@ pub struct Reconciled {
 /// collected answers are the first of those that were given, and `answers` are the others.
 ///
 /// # Errors
-/// For want of memory both come back unchanged.
+/// Out of memory, both come back unchanged.
 pub fn reconcile(
     alloc: Global,
     feed: Feed,

@@ -45,7 +45,7 @@ batches_of-push turns turn =
 pub line_after-push : (line : Configuration) (turns : List Turn) (turn : Turn) → line_after line (turns ++ turn ∷ []) ≡ next (line_after line turns) (move_of turn)
 line_after-push line turns turn = ap (after line) (moves_of-push turns turn) ∙ after-push (moves_of turns) (move_of turn) line
 
--- what a turn accepts has a yes in order
+-- what a turn accepts is accepted again, in order
 pub AreAccepted-turn : (line : Configuration) (state : State) (turn : Turn) → IsTurn line state turn → AreAccepted state.ledger (accepted_of turn)
 AreAccepted-turn line state turn taken =
     subst (λ (verdicts : _). AreAccepted state.ledger (with_yes turn.entries verdicts)) (sym taken.judged) (AreAccepted-accepted state.ledger turn.entries)

@@ -9,7 +9,7 @@ use Rattle.turn_ledger.specs.Screen.{screened, with_yes}
 use Rattle.journal_recovery.specs.State.{State}
 use Rattle.turn_clerk.specs.declared.turns.Turn.{Turn}
 
--- the entries of a turn that have a yes, in order
+-- the accepted entries of a turn, in order
 abbrev pub accepted_of : Turn → List Entry
 accepted_of turn = with_yes turn.entries turn.verdicts
 

@@ -72,7 +72,7 @@ first_refusal (check ∷ checks) = if check.0 then Err check.1 else first_refusa
 unfoldable pub verdict : LedgerState → Entry → Verdict
 verdict state entry = first_refusal (own_checks entry ++ state_checks state entry)
 
--- the state after an entry that has a yes: its amount added and taken away
+-- the state after an accepted entry: its amount added and taken away
 unfoldable pub posted : LedgerState → Entry → LedgerState
 posted state (Deposit to amount reference) = credited state to amount
 posted state (Withdraw from amount reference) = debited state from amount

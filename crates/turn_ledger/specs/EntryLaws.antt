@@ -95,7 +95,7 @@ seal_passes state account reference ok =
     let sealed = passed (mark_of state account || false) _ _ named.1 in
     (is_account-true account named.0, not_sealed _ sealed.0)
 
--- an entry that has a yes
+-- an accepted entry
 pub passes-from_yes : (state : LedgerState) (entry : Entry) → verdict state entry ≡ Ok tt → Passes state entry
 passes-from_yes state (Deposit to amount reference) ok = deposit_passes state to amount reference ok
 passes-from_yes state (Withdraw from amount reference) ok = withdraw_passes state from amount reference ok
@@ -110,7 +110,7 @@ length-posted state (Withdraw from amount reference) = length-with_balance state
 length-posted state (Transfer from to amount reference) = length-with_balance (debited state from amount) to _ ∙ length-with_balance state from _
 length-posted state (Seal account reference) = refl
 
--- posting an entry that has a yes leaves a ledger
+-- posting an accepted entry leaves a ledger
 pub IsLedger-posted : (state : LedgerState) (entry : Entry) → IsLedger state → verdict state entry ≡ Ok tt → IsLedger (posted state entry)
 unfolding posted
 IsLedger-posted state (Deposit to amount reference) l ok =
@@ -159,7 +159,7 @@ pub verdict-own_err : (state : LedgerState) (entry : Entry) (refusal : EntryRefu
 unfolding verdict
 verdict-own_err state entry refusal err = first_refusal-append_err (own_checks entry) (state_checks state entry) refusal err
 
--- the other way: an entry that keeps all rules has a yes
+-- the other way: an entry that keeps all rules is accepted
 not_held : (test : Bool) (refusal : EntryRefusal) (rest : Verdict) → test ≡ false → rest ≡ Ok tt → (if test then Err refusal else rest) ≡ Ok tt
 not_held true refusal rest h k = cc
 not_held false refusal rest h k = k

@@ -7,7 +7,7 @@ use Rattle.turn_ledger.specs.State.{LedgerState, IsAccount, IsLedger, balance_of
 use Rattle.turn_ledger.specs.Screen.{screened, accepted, AreAccepted, posted_in_order}
 use Rattle.turn_ledger.specs.Ledger.{into, out_of, entries_of, ledger_after}
 
--- Entries that have a yes each, in order, posted one after another, leave the ledger after their
+-- Entries that are accepted, in order, posted one after another, leave the ledger after their
 -- batches: each account has what it held and what came in, less what went out.
 abbrev pub PostingGivesTheSums : Type 0
 PostingGivesTheSums =
@@ -35,7 +35,7 @@ BatchesCompose =
     (state : LedgerState) (first second : List (List Entry)) → IsLedger state → AreAccepted state (entries_of (first ++ second))
     → ledger_after state (first ++ second) ≡ ledger_after (ledger_after state first) second
 
--- The accepted entries of a list have a yes each, in order, and posting them one after another
+-- The accepted entries of a list are accepted again, in order, and posting them one after another
 -- leaves the ledger after them as one batch.
 abbrev pub AcceptedEntriesArePosted : Type 0
 AcceptedEntriesArePosted =
@@ -49,6 +49,6 @@ LaterEntriesSeeTheAccepted =
     (state : LedgerState) (first second : List Entry)
     → screened state (first ++ second) ≡ screened state first ++ screened (posted_in_order state (accepted state first)) second
 
--- An entry has a yes exactly where it keeps all rules.
+-- An entry is accepted exactly where it keeps all rules.
 abbrev pub AYesMeansAllRules : Type 0
 AYesMeansAllRules = (state : LedgerState) (entry : Entry) → (verdict state entry ≡ Ok tt) ↔ Passes state entry

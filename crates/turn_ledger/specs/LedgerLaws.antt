@@ -158,7 +158,7 @@ ledger_after-none state l = sym (posted_in_order-is-ledger_after state [] l tt)
 pub entries_of-append : (first second : List (List Entry)) → entries_of (first ++ second) ≡ entries_of first ++ entries_of second
 entries_of-append first second = flat_map-append (λ (batch : List Entry). batch) first second
 
--- batches after batches, each entry of which has a yes in order
+-- batches after batches, each entry of which is accepted, in order
 pub AreAccepted-batches : (state : LedgerState) (first second : List (List Entry)) → IsLedger state → AreAccepted state (entries_of first) → AreAccepted (ledger_after state first) (entries_of second) → AreAccepted state (entries_of (first ++ second))
 AreAccepted-batches state first second l a b =
     subst (AreAccepted state) (sym (entries_of-append first second))

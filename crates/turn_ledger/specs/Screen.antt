@@ -13,7 +13,7 @@ abbrev pub screened : LedgerState → List Entry → List Verdict
 screened state [] = []
 screened state (entry ∷ entries) = verdict state entry ∷ screened (after_entry state entry) entries
 
--- the entries that have a yes
+-- the accepted entries
 abbrev pub with_yes : List Entry → List Verdict → List Entry
 with_yes [] verdicts = []
 with_yes (entry ∷ entries) [] = []
@@ -23,7 +23,7 @@ with_yes (entry ∷ entries) (answer ∷ verdicts) = if is_ok answer then entry 
 abbrev pub accepted : LedgerState → List Entry → List Entry
 accepted state entries = with_yes entries (screened state entries)
 
--- each entry of the list has a yes, judged in order after those before it
+-- each entry of the list is accepted, judged in order after those before it
 abbrev pub AreAccepted : LedgerState → List Entry → Type 0
 AreAccepted state [] = Unit {0}
 AreAccepted state (entry ∷ entries) = (verdict state entry ≡ Ok tt) × AreAccepted (posted state entry) entries

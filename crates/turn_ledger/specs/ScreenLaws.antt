@@ -1,4 +1,4 @@
--- The accepted entries of a list have a yes each, in order.
+-- The accepted entries of a list are accepted again, in order.
 use Rattle.std.specs.Prelude.{◌≡◌, ℕ, zero, suc, ◌+◌, ◌≤◌, ◌<◌, true, false, if◌then◌else◌, List, [], ◌∷◌, ◌++◌, map, length, count_by, Some, Ok, Err, is_ok, slice_get, refl}
 use Rattle.std.proofs.Common.{◌∙◌, ap, sym, arith, cond, drop, get_or, add-one, append_assoc}
 use Rattle.std.proofs.lemmas.List.Sums.{sum_by-cons}
@@ -18,7 +18,7 @@ length-screened state (entry ∷ entries) = ap (λ (n : ℕ). suc n) (length-scr
 accepted_given : LedgerState → Entry → List Entry → Verdict → List Entry
 accepted_given state entry entries answer = with_yes (entry ∷ entries) (answer ∷ screened (if is_ok answer then posted state entry else state) entries)
 
--- the accepted entries have a yes each, in order
+-- the accepted entries are accepted again, in order
 accepted_step : (state : LedgerState) (entry : Entry) (entries : List Entry) (answer : Verdict) → verdict state entry ≡ answer → AreAccepted (posted state entry) (accepted (posted state entry) entries) → AreAccepted state (accepted state entries) → AreAccepted state (accepted_given state entry entries answer)
 unfolding accepted_given
 accepted_step state entry entries (Ok x) e after same = (e, after)
@@ -52,7 +52,7 @@ length-with_yes-le (entry ∷ entries) ((Err refusal) ∷ verdicts) = omega (ari
 pub length-accepted-le : (state : LedgerState) (entries : List Entry) → length (accepted state entries) ≤ length entries
 length-accepted-le state entries = length-with_yes-le entries (screened state entries)
 
--- entries with a yes each, in order are all accepted, with these verdicts
+-- entries that are accepted in order, with their verdicts
 screened_given : (state : LedgerState) (entry : Entry) (entries : List Entry) → verdict state entry ≡ Ok tt → screened state (entry ∷ entries) ≡ Ok tt ∷ screened (posted state entry) entries
 screened_given state entry entries ok =
     ap (λ (answer : Verdict). answer ∷ screened (if is_ok answer then posted state entry else state) entries) ok

@@ -154,7 +154,7 @@ fn names_sealed<A: Accounts>(accounts: &A, entry: &Entry) -> bool
     }
 }
 
-/// Posts an entry that has a yes.
+/// Posts an accepted entry.
 #[inline]
 pub(crate) fn change_balances<A: Accounts>(accounts: &mut A, entry: &Entry)
     requires ledger { IsLedger (A.state accounts.old) }

@@ -55,7 +55,7 @@ impl Batch {
         }
     }
 
-    /// The batch of those entries that have a yes, in order. There is a verdict for each entry.
+    /// The batch of the accepted entries, in order. There is a verdict for each entry.
     pub fn of_accepted(entries: &[Entry], verdicts: &Verdicts) -> Batch
         requires few { length entries.now ≤ BATCH_LIMIT }
         requires each { length verdicts.now ≡ length entries.now }

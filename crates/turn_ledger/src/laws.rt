@@ -18,14 +18,14 @@ pub fn limits_in_numbers()
     ensures place { (entry : Entry) → length (place_bytes entry) ≡ 32 }
 {}
 
-/// An entry has a yes exactly where it keeps all rules: its amount isn't zero (a seal has none), the accounts that it
+/// An entry is accepted exactly where it keeps all rules: its amount isn't zero (a seal has none), the accounts that it
 /// names are accounts, a transfer names two, its source holds enough, the total stays within its limit, and no account
 /// that it names is sealed.
 pub fn a_yes_means_all_rules()
     ensures { AYesMeansAllRules }
 {}
 
-/// Entries that have a yes each, in order, posted one after another, leave the ledger after their
+/// Entries that are accepted, in order, posted one after another, leave the ledger after their
 /// batches: each account has what it held and what came in, less what went out, and is sealed where it
 /// was or where an entry seals it.
 pub fn posting_gives_the_sums()
@@ -43,7 +43,7 @@ pub fn batches_compose()
     ensures { BatchesCompose }
 {}
 
-/// The accepted entries of a list have a yes each, in order, and posting them one after another
+/// The accepted entries of a list are accepted again, in order, and posting them one after another
 /// leaves the ledger after them as one batch.
 pub fn accepted_entries_are_posted()
     ensures { AcceptedEntriesArePosted }

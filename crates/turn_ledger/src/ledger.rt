@@ -34,7 +34,7 @@ impl Model for Ledger {
 }
 
 impl Ledger {
-    /// The empty ledger: every account at zero, and none of them sealed. It fails only for want of memory.
+    /// The empty ledger: every account at zero, and none of them sealed. It fails only out of memory.
     pub fn new(alloc: Global) -> Result<Ledger, AllocError>
         ensures { IfOk result (λ ledger. ledger ≡ empty_ledger) }
     {
@@ -136,7 +136,7 @@ impl Ledger {
         post(self, entry)
     }
 
-    /// Posts an entry that has a yes, and judges it no more.
+    /// Posts an accepted entry, and judges it no more.
     pub fn post_accepted(&mut self, entry: &Entry)
         requires { verdict self.old entry.now ≡ Ok tt }
         ensures { self.new ≡ posted self.old entry.now }

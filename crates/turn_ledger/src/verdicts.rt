@@ -88,7 +88,7 @@ impl Verdicts {
         self.verdicts[..self.count].get(place).copied()
     }
 
-    /// How many entries have a yes.
+    /// How many entries are accepted.
     pub fn accepted(&self) -> u8
         ensures value { result ≡ count_by is_ok self.now }
         ensures small { length self.now ≤ BATCH_LIMIT }

@@ -300,7 +300,7 @@ fn without_another_number_the_file_is_refused(rt: HostRuntime) -> Result<(), Fai
     comes_to_pass(&rt, rt.alloc(), &opening)
 }
 
-// For want of memory the disk is asked for nothing.
+// Out of memory, the disk is asked for nothing.
 #[test]
 fn memory_is_taken_before_the_disk_is_asked(rt: HostRuntime) -> Result<(), Fail> {
     let disk = Disk::new(rt.alloc(), "ledger", ".", WHOLE);
