@@ -51,6 +51,9 @@ const SLOTS_OUT_OF_RANGE: &str = "the number of slots is out of range";
 
 /// What `clap` reads from the program's words, of which the first is the program's name; or what it answers to wrong
 /// words, to the wish for help, and where there is no memory.
+///
+/// # Errors
+/// What `clap` answers to wrong words, to the wish for help, and out of memory.
 pub fn options<'a>(alloc: Global, words: &'a [&'a str]) -> Result<Options<'a>, Error>
     ensures some { IfOk result (λ options. 1 ≤ options.sectors) }
     ensures most { IfOk result (λ options. options.sectors ≤ 4000039) }

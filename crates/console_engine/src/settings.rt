@@ -55,6 +55,9 @@ pub enum Plan<'a> {
 
 impl<'a> Options<'a> {
     /// On what the script runs, where the options go together.
+    ///
+    /// # Errors
+    /// [`WrongWords`], the first that holds.
     pub fn plan(self) -> Result<Plan<'a>, WrongWords>
         ensures plan { IfOk result (IsPlanOf self.entry) }
         ensures migrate_alone { (result ≡ Err WrongWords.MigrateAlone)

@@ -27,7 +27,10 @@ impl<D: Device> Model for Noting<D> {
 }
 
 impl<D: Device> Noting<D> {
-    /// A device that has noted nothing, with room for so many calls. Out of memory, the inner device comes back.
+    /// A device that has noted nothing, with room for so many calls.
+    ///
+    /// # Errors
+    /// Out of memory; the inner device comes back.
     pub fn new(alloc: Global, inner: D, room: usize) -> Result<Noting<D>, AllocFailed<D>>
         ensures new { IfOk result (λ n. n ≡ record { inner = inner; calls = []; room = room }) }
         ensures back { IfErr result (λ failed. failed.value ≡ inner) }

@@ -30,6 +30,9 @@ impl ReadBuffer {
     ghost use Rattle.file_device.specs.ReadBuffer.{IsEmpty, Holds, Mirrors};
 
     /// An empty buffer, with all of its memory.
+    ///
+    /// # Errors
+    /// Out of memory.
     pub fn new(alloc: Global) -> Result<ReadBuffer, AllocError>
         ensures { IfOk result IsEmpty }
     {

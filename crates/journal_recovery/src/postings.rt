@@ -12,8 +12,10 @@ use sector_device::{Device, DeviceFault};
 use std::alloc::Global;
 
 /// Whether a device may hold postings that writing over it would lose: it begins as a journal does, of any layout, damaged
-/// or not, and isn't a ledger of the present layout whose next sequence is 0. It is only read, and handed back. Only
-/// `Memory` and `Device` are answered in the place of that.
+/// or not, and isn't a ledger of the present layout whose next sequence is 0. It is only read, and handed back.
+///
+/// # Errors
+/// `Memory` and `Device` alone.
 pub fn may_hold_postings<D: Device>(alloc: Global, device: D) -> (D, Result<bool, OpenRefusal>)
     ensures call { AreCalls (D.state device) (D.state result.0)
         (result.1 ≡ Err OpenRefusal.Device) }

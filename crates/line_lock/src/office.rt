@@ -37,6 +37,10 @@ impl<D: Device, L: Count + Opening> Office<D, L> {
     /// Opens the ledger of a device for a line of stations, and hands out a seat for each, station 0 first. All memory
     /// is reserved before any device call. A refusal hands the device back and drops the blank. `L` names the device and
     /// the line, so that closing the office can tell what it was opened on.
+    ///
+    /// # Errors
+    /// The device comes back with an [`OpenRefusal`], the first that holds; `Memory` comes before any device call. The
+    /// blank is dropped.
     pub fn open(
         alloc: Global,
         device: D,
@@ -74,6 +78,10 @@ impl<D: Device, L: Count + Opening> Office<D, L> {
 
     /// Takes a turn of the seat's station with these entries; it may wait for the lock. A place for the turn in the
     /// seat's list is reserved first, so running out of memory there comes before every other refusal.
+    ///
+    /// # Errors
+    /// [`TurnRefusal`]: `Memory` for the seat's list, and then the first that holds of the clerk. The seat's list is as
+    /// it was.
     pub fn turn<R: Wait>(
         &self,
         rt: &R,
@@ -100,6 +108,9 @@ impl<D: Device, L: Count + Opening> Office<D, L> {
 
     /// As `turn`, but for an office whose history is meant to hold so many turns and no more: under the lock it is looked
     /// at first whether it holds them.
+    ///
+    /// # Errors
+    /// `Memory` for the seat's list, `Reached` where so many turns were taken, and then as of `turn`.
     pub fn turn_within<R: Wait>(
         &self,
         rt: &R,
@@ -142,8 +153,10 @@ impl<D: Device, L: Count + Opening> Office<D, L> {
 
     /// Closes the office, where the list has the seat of each station and the history bears out what each one holds:
     /// its list is that of the station's turns, in order, each once, and where it was told that it isn't its turn, it
-    /// wasn't. Seats may come in any order. A refusal hands back the office and the seats. It waits for nobody, and a
-    /// faulted office is closed too.
+    /// wasn't. Seats may come in any order. It waits for nobody, and a faulted office is closed too.
+    ///
+    /// # Errors
+    /// The office and the seats come back: a seat is missing, or is another office's.
     pub fn close(
         self,
         seats: Vec<Seat<L>>,

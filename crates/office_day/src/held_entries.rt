@@ -29,6 +29,9 @@ impl Model for HeldEntries {
 
 impl HeldEntries {
     /// Nothing held.
+    ///
+    /// # Errors
+    /// Out of memory.
     pub fn new(alloc: Global) -> Result<HeldEntries, AllocError>
         ensures { IfOk result (λ held. held ≡ []) }
     {

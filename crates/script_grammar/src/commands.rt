@@ -40,6 +40,9 @@ pub enum Command {
 
 /// The command of a line, or None where the line has no words or is a comment. An entry's reference is the number of
 /// its line.
+///
+/// # Errors
+/// [`LineFault`], the first thing that is wrong with the line.
 pub fn read_command(line: &[u8], number: u64) -> Result<Option<Command>, LineFault>
     ensures fault { IfErr result (λ fault. line_fault (words_of line.now) ≡ Some fault) }
     ensures sound { OnOk result (line_fault (words_of line.now) ≡ None) }

@@ -32,6 +32,9 @@ impl From<WriteFault> for StreamFault {
 }
 
 /// Hands all bytes to the writer.
+///
+/// # Errors
+/// A call failed, took no byte, or was interrupted 1,000 times in a row. The writer has a first part of the bytes.
 pub fn write_all<W: Write>(writer: &mut W, bytes: &[u8]) -> Result<(), WriteFault>
     ensures ok { OnOk result (Appends (W.contents writer.old) (W.contents writer.new) bytes.now) }
     // after a fault it has the first of them, and not all
@@ -79,6 +82,9 @@ impl<'a, W: Write> Output<'a, W> {
     ghost use Rattle.script_streams.specs.Output.{given_to};
 
     /// An output that was given nothing yet.
+    ///
+    /// # Errors
+    /// Out of memory.
     pub fn new(alloc: Global, writer: &'a mut W) -> Result<Output<'a, W>, AllocError>
         ensures { IfOk result (λ output.
             Keeps (W.contents writer.entry.now) (given_to W.contents output)) }
@@ -90,6 +96,9 @@ impl<'a, W: Write> Output<'a, W> {
     }
 
     /// Adds a line.
+    ///
+    /// # Errors
+    /// Out of memory, or what was gathered can't be written.
     pub fn line<L: fmt::Display + Drop>(&mut self, line: L) -> Result<(), StreamFault>
         ensures { OnOk result (IfSome (L.output line) (λ bytes.
             Appends (given_to W.contents self.old) (given_to W.contents self.new)
@@ -103,6 +112,9 @@ impl<'a, W: Write> Output<'a, W> {
     }
 
     /// Hands all lines so far to the writer. After a fault the output is at its end.
+    ///
+    /// # Errors
+    /// The lines can't be written; the writer has a first part of them.
     pub fn flush(&mut self) -> Result<(), StreamFault>
         ensures given { OnOk result (Keeps (given_to W.contents self.old)
             (given_to W.contents self.new)) }

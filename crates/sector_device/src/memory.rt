@@ -51,6 +51,9 @@ impl MemoryDevice {
     ghost use Rattle.sector_device.specs.MemoryDevice.{memory_device_state, calls_of, IsPendingIn, HasPicks};
 
     /// A device of so many sectors, all zero, with nothing pending.
+    ///
+    /// # Errors
+    /// Out of memory.
     pub fn new(alloc: Global, sectors: u64) -> Result<MemoryDevice, AllocError>
         ensures zero { IfOk result (λ device.
             (memory_device_state device).reads ≡ replicate sectors (replicate 512 0)) }

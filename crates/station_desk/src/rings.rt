@@ -10,6 +10,9 @@ use std::alloc::{AllocError, Global};
 
 /// A feed and its desk, with a ring of requests and a ring of answers between them, each with room for 1 to 4,096
 /// messages.
+///
+/// # Errors
+/// Out of memory.
 pub fn desk(alloc: Global, capacity: usize) -> Result<(Feed, Desk), AllocError>
     requires some { 1 ≤ capacity }
     requires few { capacity ≤ 4096 }

@@ -34,7 +34,10 @@ impl Model for Ledger {
 }
 
 impl Ledger {
-    /// The empty ledger: every account at zero, and none of them sealed. It fails only out of memory.
+    /// The empty ledger: every account at zero, and none of them sealed.
+    ///
+    /// # Errors
+    /// Out of memory.
     pub fn new(alloc: Global) -> Result<Ledger, AllocError>
         ensures { IfOk result (λ ledger. ledger ≡ empty_ledger) }
     {
@@ -127,7 +130,10 @@ impl Ledger {
         self.held_by_all()
     }
 
-    /// Posts an entry, or refuses it with the first rule that it breaks, and then nothing has changed.
+    /// Posts an entry.
+    ///
+    /// # Errors
+    /// [`EntryRefusal`], the first rule that the entry breaks. Nothing has changed.
     pub fn post(&mut self, entry: &Entry) -> Result<(), EntryRefusal>
         ensures answer { result ≡ verdict self.old entry.now }
         ensures ok { OnOk result (self.new ≡ posted self.old entry.now) }
