@@ -21,6 +21,7 @@ Needed beside the toolchain: Python, and `sh`.
 """
 import argparse
 import os
+import re
 import sys
 import time
 from pathlib import Path
@@ -34,6 +35,7 @@ from toolchain import build_libraries
 from trials import Aimed, Outcome, aimed_at, batches
 
 CASES = Path(__file__).parent / "cases"
+PLACE_IN_A_FILE = re.compile(r":\d+:\d+: ")
 
 
 def words_given():
@@ -95,7 +97,7 @@ def try_edits(edits, built, progress, count, memory):
 
 
 def try_itself(tree, progress):
-    """Whether what becomes of each case is what is expected of it."""
+    """Whether what becomes of each case is what is expected of it, wherever in a file that is."""
     cases = [read_edit(path, path.parent.name) for path in sorted(CASES.glob("*/*.edit"))]
     expected = dict(line.split(": ", 1) for line in (CASES / "expected").read_text().splitlines())
     told = {str(outcome.aimed.edit): outcome for outcome in try_edits(cases, tree, progress, 1, NoMemory())}
@@ -103,6 +105,7 @@ def try_itself(tree, progress):
     for name, beginning in expected.items():
         outcome = told.pop(name)
         said = f"refused in {outcome.aimed.shown} at {outcome.told}" if outcome.is_refused else outcome.told
+        said = PLACE_IN_A_FILE.sub(": ", said)
         if not said.startswith(beginning):
             wrong.append(f"{name}: {said}\nand not\n  {beginning}")
     wrong += [f"{name}: nothing is expected of it" for name in told]
