@@ -9,6 +9,7 @@ ghost use Rattle.console_engine.specs.CommandLine.{AskForSectors, AskForDevice, 
 use crate::settings::Options;
 use clap::error::ErrorKind;
 use clap::{Arg, ArgAction, ArgMatches, Command, Error, value_parser};
+use gate_journal::MOST_SLOTS;
 use std::alloc::Global;
 
 const HELP: &str = "\
@@ -41,9 +42,6 @@ An example script, which shows that a deposit survives a power loss:
 
 /// The most sectors of a device: what a journal of a million slots needs, and some.
 const MOST_SECTORS: u64 = 4_000_039;
-
-/// The most slots of a bank.
-const MOST_SLOTS: u64 = 1_000_000;
 
 const SECTORS_OUT_OF_RANGE: &str = "the number of sectors is out of range";
 

@@ -67,7 +67,7 @@ impl fmt::Display for MigrationFault {
 }
 
 impl ProgramFault {
-    /// Want of memory.
+    /// Out of memory.
     pub const MEMORY: ProgramFault = ProgramFault::Script(ScriptFault::Memory);
 }
 

@@ -1,6 +1,8 @@
 //! A ledger of an older layout, copied before the script runs.
-ghost use Rattle.std.specs.Prelude.{◌≡◌, ◌≤◌, IfOk, OnOk, Err};
+ghost use Rattle.std.specs.Prelude.{◌≡◌, ◌≢◌, ◌≤◌, OnOk, Err};
+ghost use Rattle.sector_device.specs.Crash.{LooksOnly};
 ghost use Rattle.journal_recovery.specs.Migration.{IsMigrated};
+ghost use Rattle.journal_recovery.specs.Older.{OldRecoveryRefuses};
 ghost use Rattle.journal_recovery.specs.Postings.{MayHoldPostings};
 
 use crate::faults::{MigrationFault, ProgramFault};
@@ -8,33 +10,43 @@ use journal_recovery::{MigrateRefusal, OpenRefusal, may_hold_postings, migrate};
 use sector_device::Device;
 use std::alloc::Global;
 
-/// Copies the ledger of an older device onto one that holds no postings, and lets go of the older one. Nothing is read of
-/// that and nothing written where the other may hold postings.
+/// Copies the ledger of an older device onto one that holds no postings, which is handed back, and lets go of the older
+/// one. Where the other may hold postings, nothing is written to it, and nothing read of the older one.
+///
+/// # Errors
+/// `NotEmpty` where the device may hold postings, and else as `migrate` refuses.
 pub(crate) fn migrate_onto<D: Device + Drop, E: Device + Drop>(
     alloc: Global,
     old: D,
     device: E,
     slots: u64,
-) -> Result<E, ProgramFault>
+) -> (E, Result<(), ProgramFault>)
     requires { 1 ≤ slots }
 
     // On honest devices.
     ensures not_empty { (E.state device).honest
-        → result ≡ Err (ProgramFault.Migration MigrationFault.NotEmpty)
+        → result.1 ≡ Err (ProgramFault.Migration MigrationFault.NotEmpty)
         → MayHoldPostings (E.state device).reads }
-    ensures nothing_lost { (E.state device).honest
-        → OnOk result (MayHoldPostings (E.state device).reads → ⊥) }
+    ensures refused { (E.state device).honest → MayHoldPostings (E.state device).reads
+        → OnOk result.1 ⊥ }
+    ensures nothing_lost { (E.state device).honest → MayHoldPostings (E.state device).reads
+        → LooksOnly (E.state device) (E.state result.0) }
+    ensures source { (D.state old).honest → (refusal : OpenRefusal)
+        → result.1 ≡ Err (ProgramFault.Migration
+        (MigrationFault.Refused (MigrateRefusal.Source refusal)))
+        → refusal ≢ OpenRefusal.Device → OldRecoveryRefuses (D.state old).reads refusal }
     ensures migrated { (D.state old).honest → (E.state device).honest
-        → IfOk result (λ new. IsMigrated slots (D.state old).reads (E.state new)) }
+        → OnOk result.1 (IsMigrated slots (D.state old).reads (E.state result.0)) }
 {
     let (mut device, may_hold) = may_hold_postings(alloc, device);
-    match may_hold {
-        Ok(false) => {}
-        Ok(true) => return Err(ProgramFault::Migration(MigrationFault::NotEmpty)),
-        Err(OpenRefusal::Memory) => return Err(ProgramFault::MEMORY),
-        Err(_) => return Err(ProgramFault::from(MigrateRefusal::Target)),
-    }
-    let (_old, migrated) = migrate(alloc, old, &mut device, slots);
-    migrated?;
-    Ok(device)
+    let fault = match may_hold {
+        Ok(false) => {
+            let (_old, migrated) = migrate(alloc, old, &mut device, slots);
+            return (device, migrated.map_err(ProgramFault::from));
+        }
+        Ok(true) => ProgramFault::Migration(MigrationFault::NotEmpty),
+        Err(OpenRefusal::Memory) => ProgramFault::MEMORY,
+        Err(_) => ProgramFault::from(MigrateRefusal::Target),
+    };
+    (device, Err(fault))
 }

@@ -104,7 +104,9 @@ fn upgraded<F: Files<File = File>>(
 {
     let old = FileDevice::open(rt, alloc, upgrade.old, 0)?;
     let device = FileDevice::open(rt, alloc, upgrade.path, sectors)?;
-    migrate_onto(alloc, old, device, upgrade.slots)
+    let (device, migrated) = migrate_onto(alloc, old, device, upgrade.slots);
+    migrated?;
+    Ok(device)
 }
 
 // Says that a device was migrated, by the rule of the output.

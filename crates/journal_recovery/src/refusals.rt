@@ -3,7 +3,7 @@ ghost use Rattle.std.specs.Prelude.{◌≡◌};
 use gate_journal::{JournalCause, JournalRefusal};
 use thiserror::Error;
 
-/// Why a device was not opened as a ledger. Want of memory is answered before any device call; of the others the first
+/// Why a device was not opened as a ledger. Out of memory is answered before any device call; of the others the first
 /// that holds of the device's image, and a device call that fails ends the opening where it is met.
 #[derive(Clone, Copy, Debug, PartialEq, Eq, Error)]
 pub enum OpenRefusal {

@@ -30,7 +30,7 @@ fn is_new<L: Count>(rt: &impl Abort, seat: &Seat<L>) {
     assert!(rt; (seat.turns().len(), seat.denied(), seat.reached()) == (0, None, 0));
 }
 
-// Want of memory for a place in a seat's list stands before every other refusal, and leaves the seat as it was.
+// Running out of memory for a place in a seat's list comes before every other refusal, and leaves the seat as it was.
 fn asks_in_vain<L: Count + Opening, R: Abort + Wait + Print>(
     rt: &R,
     office: &Office<Noted, L>,
