@@ -3,6 +3,7 @@ mod Posting
 mod Standing
 mod OneState
 mod OneStop
+mod OneFirst
 mod OneRecovery
 mod OneRefusal
 mod OldStanding

@@ -4,6 +4,7 @@ pub mod Places
 pub mod State
 pub mod Recovery
 pub mod Replay
+pub mod First
 pub mod Refused
 pub mod Older
 pub mod Recovered
