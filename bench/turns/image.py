@@ -6,6 +6,7 @@ import struct
 SECTOR = 512
 ACCOUNTS = 1_024
 PLACES = 15
+PLACE = 32
 PAYLOADS = 64
 OPEN = b"\xa5" + bytes(SECTOR - 1)
 
@@ -58,6 +59,12 @@ def payload(words, accounts):
     return b"".join(places), changes
 
 
+def deposit(words, accounts):
+    """One entry, a deposit, and what it changes."""
+    account, brought = words.randint(1, accounts), words.randint(1, 999)
+    return place(1, 0, account, brought, 0).ljust(PLACES * PLACE, b"\0"), {account: brought}
+
+
 def balances(payloads, accounts, batches):
     """What each account holds after so many batches, which take the payloads in turns."""
     held = dict.fromkeys(range(1, accounts + 1), 0)
@@ -75,25 +82,26 @@ def front(layout, epoch, base, held):
     return OPEN + head.ljust(SECTOR, b"\0") + snapshot
 
 
-def rows(payloads, first, count):
+def rows(payloads, first, count, places):
     """The bodies and gates of so many slots, from this sequence on."""
     for sequence in range(first, first + count):
-        header = struct.pack(">4sHHQ16x", b"TLB1", (0, 1, 2, 1)[sequence % 4], PLACES, sequence)
+        header = struct.pack(">4sHHQ16x", b"TLB1", (0, 1, 2, 1)[sequence % 4], places, sequence)
         yield header + payloads[sequence % PAYLOADS][0] + OPEN
 
 
-def write(path, slots, layout=PRESENT):
-    """Writes the file of a ledger after twice as many batches as a bank has slots: the second bank has the first half of
-    them, the first one, which is live, the balances after it and the other half. Gives the lines that `open 3 000 100`
-    and `balances` print on it.
+def write(path, slots, layout=PRESENT, places=PLACES):
+    """Writes the file of a ledger after twice as many batches of 15 entries, or of one, as a bank has slots: the second
+    bank has the first half of them, the first one, which is live, the balances after it and the other half. Gives the
+    lines that `open 3 000 100` and `balances` print on it.
     """
     words = random.Random(1)
-    payloads = [payload(words, layout.accounts) for _ in range(PAYLOADS)]
+    some = payload if places == PLACES else deposit
+    payloads = [some(words, layout.accounts) for _ in range(PAYLOADS)]
     with open(path, "wb") as file:
         file.write(struct.pack(">4sHHQ", b"TLDG", layout.version, 0, slots).ljust(SECTOR, b"\0"))
         for epoch, base in ((2, slots), (1, 0)):
             file.write(front(layout, epoch, base, balances(payloads, layout.accounts, base)))
-            file.writelines(rows(payloads, base, slots))
+            file.writelines(rows(payloads, base, slots, places))
     held = balances(payloads, layout.accounts, 2 * slots)
     total = sum(held.values())
     lines = [f"opened 3 next {2 * slots} total {total}"]

@@ -70,7 +70,8 @@ pub struct Clerk<D: Device> {
 impl<D: Device> Clerk<D> {
     /// The clerk of a device that was formatted and holds no record.
     pub fn open(mut device: D, line: Line) -> Result<Clerk<D>, OpenRefusal> {
-        let journal = Journal::open(&mut device)?;
+        let live = Journal::find(&mut device)?;
+        let journal = Journal::read(&mut device, live, |_, _| {})?;
         Ok(Clerk { device, journal, ledger: Ledger::new(), line, history: Vec::new() })
     }
 
