@@ -124,7 +124,7 @@ fn two_faults(rt: &impl Abort, alloc: Global, first: u64, second: u64) -> Result
 
 // How many later places there are for all places of the first fault: as many as calls that reach the device from the
 // first fault on to the end.
-const PAIRS: u64 = 9660;
+const PAIRS: u64 = 9442;
 
 // The faults of all pairs with this first place, and how many pairs there are. From some later place on the second fault
 // isn't met.

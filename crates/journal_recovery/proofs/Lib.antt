@@ -3,6 +3,7 @@ mod Posting
 mod Standing
 mod OneState
 mod OneStop
+mod ByJournal
 mod OneFirst
 mod OneRecovery
 mod OneRefusal

@@ -9,6 +9,5 @@ pub mod Refused
 pub mod Older
 pub mod Recovered
 pub mod RecoveryLaws
-pub mod Source
 pub mod Migration
 pub mod Postings

@@ -8,11 +8,12 @@ mod entries;
 mod laws;
 mod migration;
 mod old;
+mod old_replay;
+mod places;
 mod postings;
 mod recovery;
 mod refusals;
 mod replay;
-mod source;
 
 pub use gate_journal::{Journal, JournalCause, JournalRefusal, Record};
 pub use laws::{one_old_recovery, one_recovery, seals_are_recovered};

@@ -5,6 +5,8 @@
 #[cfg(test)]
 mod faults;
 #[cfg(test)]
+mod liar;
+#[cfg(test)]
 mod old_devices;
 #[cfg(test)]
 mod old_journals;

@@ -1,8 +1,10 @@
 //! What is read of a journal of an older layout.
+use crate::liar::Liar;
 use crate::old_devices::{
     Begins, balances, deposited, device_of, of_layout_1, of_layout_2, superblock, withdrawn,
 };
 use gate_journal::{Device, JournalRefusal, OldJournal};
+use journal_recovery::{Cause, OpenRefusal, read_old};
 use sector_device::MemoryDevice;
 use std::process::Abort;
 use std::test::Fail;
@@ -58,4 +60,23 @@ fn a_journal_of_another_version_is_handed_back(rt: HostRuntime) -> Result<(), Fa
             Ok(())
         }
     }
+}
+
+// Opening reads each body once and replaying a second time: then it is told which one is no record any more, and no ledger
+// with the records before it is.
+#[test]
+fn a_record_that_changes_between_two_readings_is_no_record(rt: HostRuntime) -> Result<(), Fail> {
+    let entries = [deposited(1, 5), deposited(1, 5), deposited(1, 5)];
+    let (_, found) = read_old(
+        rt.alloc(),
+        Liar::new(of_layout_1(&rt, rt.alloc(), &entries)?, 8),
+    );
+    assert!(rt; found.is_ok());
+    for slot in 0..3 {
+        let liar = Liar::new(of_layout_1(&rt, rt.alloc(), &entries)?, 1 + 2 * slot);
+        let (_, found) = read_old(rt.alloc(), liar);
+        let cause = Cause::Header;
+        assert!(rt; found.err() == Some(OpenRefusal::Damaged { slot, cause }));
+    }
+    Ok(())
 }

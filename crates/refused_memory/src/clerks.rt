@@ -89,9 +89,8 @@ fn ask(rt: &impl Abort, clerk: &mut Clerk<Noted>, station: u8, entries: &[Entry]
     asked
 }
 
-// The calls of an opening on banks of 4 slots of which so many are used: a sync, and reads of the superblock, two banks'
-// gates, the head, the bodies and gates of the used slots, those gates that tell that the others are closed, the
-// seventeen sectors of the snapshot, and the bodies once more. A turn with an entry makes four calls.
+// The calls of an opening on banks of 4 slots without a record: a sync, and reads of the superblock, two banks' gates, the
+// head, the slots' gates, and the seventeen sectors of the snapshot. A turn with an entry makes four calls.
 const CALLS_OF_AN_OPENING: usize = 1 + 1 + 2 + 1 + 4 + 17;
 
 const CALLS_OF_A_TURN: usize = 4;

@@ -154,7 +154,7 @@ fn whichever_call_of_recovery_fails_the_device_comes_back_unchanged(
     for at in 0..40 {
         failed = failed.saturating_add(u32::from(fails_to_recover(&rt, rt.alloc(), at)?));
     }
-    // A sync, the superblock, the banks' gates, a head, 4 gates and a body, 17 of the snapshot, and the record once more.
-    assert!(rt; failed == 28);
+    // A sync, the superblock, the banks' gates, a head, 17 sectors of the snapshot, 4 gates and a body.
+    assert!(rt; failed == 27);
     Ok(())
 }

@@ -1,14 +1,16 @@
-//! What opening reads.
+//! What opening and recovery read.
 ghost use Rattle.sector_device.specs.MemoryDevice.{memory_device_state};
 ghost use Rattle.sector_device.specs.MemoryLaws.{memory_sound};
 
 use crate::devices::{TORN, ZERO, torn_open};
 use gate_journal::Journal;
+use journal_recovery::recover;
 use sector_device::{Device, DeviceFault, MemoryDevice, Sector};
 use std::alloc::Global;
 use std::process::Abort;
 use std::test::Fail;
-use test_scenes::{FIRST, formatted, head, second};
+use test_scenes::{FIRST, deposit, formatted, head, line, second};
+use turn_clerk::Clerk;
 
 // A device that notes the sectors that are read.
 #[derive(Drop)]
@@ -89,5 +91,28 @@ fn opening_reads_nothing_of_the_other_bank_but_its_gate_and_head(
     for (gate, head, expected) in table {
         assert!(rt; reads_beside(&rt, rt.alloc(), &gate, &head)?.as_slice() == expected);
     }
+    Ok(())
+}
+
+// A bank of three slots, of which two hold a record: what is read once are the superblock, the banks' gates, the live
+// one's head, its snapshot from sector 3 to 19, and of each slot the gate, and the body if that is open.
+#[test]
+fn recovery_reads_each_sector_once(rt: HostRuntime) -> Result<(), Fail> {
+    let alloc = rt.alloc();
+    let Ok(mut clerk) = Clerk::open(alloc, formatted(alloc, 3)?, line([0, 0], [1, 0])?) else {
+        panic!(rt; "not opened");
+    };
+    clerk.turn(0, &[deposit(1, 5)])?;
+    clerk.turn(1, &[deposit(1, 5)])?;
+    let inner = clerk.into_device();
+    let reads = Vec::new(alloc);
+    let Ok(found) = recover(alloc, NotedReads { inner, reads }) else {
+        panic!(rt; "not recovered");
+    };
+    let expected = [
+        0, 1, 26, 2, 3, 4, 5, 6, 7, 8, 9, 10, 11, 12, 13, 14, 15, 16, 17, 18, 19, 21, 20, 23, 22,
+        25,
+    ];
+    assert!(rt; found.journal.into_device().reads.as_slice() == expected.as_slice());
     Ok(())
 }
