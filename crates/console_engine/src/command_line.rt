@@ -48,7 +48,7 @@ const SECTORS_OUT_OF_RANGE: &str = "the number of sectors is out of range";
 const SLOTS_OUT_OF_RANGE: &str = "the number of slots is out of range";
 
 /// What `clap` reads from the program's words, of which the first is the program's name; or what it answers to wrong
-/// words, to the wish for help, and where there is no memory.
+/// words, to the wish for help, and if there is no memory.
 ///
 /// # Errors
 /// What `clap` answers to wrong words, to the wish for help, and out of memory.

@@ -16,7 +16,7 @@ use std::sync::Wait;
 use std::thread::Threads;
 
 /// Reads a script whole and runs its lines on the device; what a line answers is printed to the writer. A line that is
-/// none of the grammar ends it; what earlier lines printed stands. It may wait where the script has a day.
+/// none of the grammar ends it; what earlier lines printed stands. It may wait if the script has a day.
 ///
 /// # Errors
 /// [`ScriptFault`]: the first wrong line, or why the script can't be read or its answers written.

@@ -14,7 +14,7 @@ use std::alloc::Global;
 /// one. Where the other may hold postings, nothing is written to it, and nothing read of the older one.
 ///
 /// # Errors
-/// `NotEmpty` where the device may hold postings, and else as `migrate` refuses.
+/// `NotEmpty` if the device may hold postings, and else as `migrate` refuses.
 pub(crate) fn migrate_onto<D: Device + Drop, E: Device + Drop>(
     alloc: Global,
     old: D,

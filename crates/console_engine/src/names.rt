@@ -4,7 +4,7 @@ use journal_recovery::{Cause, OpenRefusal};
 use office_day::End;
 use std::fmt;
 
-/// How a station ended, by its name; where its last turn was refused, the refusal's.
+/// How a station ended, by its name; if its last turn was refused, the refusal's.
 #[derive(Clone, Copy, Debug)]
 pub struct EndName(pub End);
 

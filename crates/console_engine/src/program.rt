@@ -31,10 +31,10 @@ const FAULT: u8 = 1;
 /// The status of a program that was given wrong words.
 const WRONG_WORDS: u8 = 2;
 
-/// Runs the program and gives its status: 0 where the script ran to its end, or help was asked for, 1 after a fault, 2
+/// Runs the program and gives its status: 0 if the script ran to its end, or help was asked for, 1 after a fault, 2
 /// after wrong words. The first of the words is the program's name. A file that is the device is opened, made and grown
 /// before the script is read. Answers go to the writer, what is told of faults and wrong words to `errors`, of which a
-/// fault is ignored. It may wait where the script has a day.
+/// fault is ignored. It may wait if the script has a day.
 pub fn run_program<F: Files<File = File> + Threads + Wait + Sync, R: Read, W: Write, E: Write>(
     rt: &F,
     alloc: Global,
@@ -140,7 +140,7 @@ pub fn tell<E: Write>(alloc: Global, fault: ProgramFault, errors: &mut E) -> u8
     FAULT
 }
 
-/// Tells that a word of the command line isn't UTF-8, and gives the status that it ends with: 2, or 1 where there is no
+/// Tells that a word of the command line isn't UTF-8, and gives the status that it ends with: 2, or 1 if there is no
 /// memory for the text. A fault of `errors` is ignored.
 pub fn tell_not_text<W: Write, E: Write>(alloc: Global, writer: &mut W, errors: &mut E) -> u8
     ensures { (result ≡ 1) ⊎ (result ≡ 2) }

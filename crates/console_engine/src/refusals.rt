@@ -30,7 +30,7 @@ pub enum Refusal {
     Close(CloseRefusal),
 }
 
-/// The name of the refusal: that of the inner one, where there is one, with its numbers behind it.
+/// The name of the refusal: that of the inner one, if there is one, with its numbers behind it.
 impl fmt::Display for Refusal {
     fn fmt<W: fmt::Write>(&self, f: &mut fmt::Formatter<W>) -> fmt::Result {
         match self {

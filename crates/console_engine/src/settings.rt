@@ -54,7 +54,7 @@ pub enum Plan<'a> {
 }
 
 impl<'a> Options<'a> {
-    /// On what the script runs, where the options go together.
+    /// On what the script runs, if the options go together.
     ///
     /// # Errors
     /// [`WrongWords`], the first that holds.

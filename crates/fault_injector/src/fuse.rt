@@ -10,7 +10,7 @@ use sector_device::{Device, DeviceFault, Sector};
 use std::marker::Model;
 
 /// A device that fails from one call on: the k-th call of a kind, counted from 0 since it was made, and every later
-/// call of any kind fail without reaching the inner device. It is honest exactly where the inner device is.
+/// call of any kind fail without reaching the inner device. It is honest exactly if the inner device is.
 #[derive(Debug, Drop)]
 pub struct Fuse<D: Device> {
     inner: D,

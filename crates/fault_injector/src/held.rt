@@ -50,7 +50,7 @@ impl HeldFlags {
 
 /// A device whose k-th sync, counted from 0 since it was made, waits for a leave: it raises the flag `begun`, and looks
 /// for the flag `go` at most 10,000,000 times. Where it sees it the sync is passed on, else it fails without reaching
-/// the inner device. Every other call is passed on. The device is honest exactly where the inner device is.
+/// the inner device. Every other call is passed on. The device is honest exactly if the inner device is.
 #[derive(Debug, Drop)]
 pub struct Held<D: Device> {
     inner: D,

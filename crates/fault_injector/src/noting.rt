@@ -10,7 +10,7 @@ use std::alloc::{AllocFailed, Global};
 use std::marker::Model;
 
 /// A device that notes the calls that reach it, in order, and passes each on. It has room for so many calls; those
-/// behind them are passed on and not noted. It is honest exactly where the inner device is, and counts no failure of
+/// behind them are passed on and not noted. It is honest exactly if the inner device is, and counts no failure of
 /// its own.
 ///
 /// Give it more room than calls are expected: a list that is full doesn't tell of a call too many.

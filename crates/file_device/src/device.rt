@@ -23,7 +23,7 @@ const GROWTH: usize = 256;
 pub type FileDevice = FailStop<ReadAhead<SectorFile<File>>>;
 
 impl FileDevice {
-    /// Opens the file, makes it where it isn't there, and locks it for as long as the device has it. Where it has fewer
+    /// Opens the file, makes it if it isn't there, and locks it for as long as the device has it. If it has fewer
     /// sectors than these, zero sectors are written at its end until it has them; one that is longer stays as it is. Then
     /// it is synced, and the folder that it lies in, unless that may not be read and the file was there.
     ///

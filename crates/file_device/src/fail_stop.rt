@@ -9,7 +9,7 @@ use sector_device::{Device, DeviceFault, Sector};
 use std::marker::Model;
 
 /// A device that stops at a failed sync: from then on every call fails, without reaching the inner device. Until then
-/// each call is the inner device's own. It is honest exactly where the inner device is. No call takes memory.
+/// each call is the inner device's own. It is honest exactly if the inner device is. No call takes memory.
 ///
 /// After a failed sync a system may have dropped what was written, keep showing it, and answer the next sync with
 /// success, so nothing that the inner device says from then on is handed on.

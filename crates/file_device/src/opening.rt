@@ -94,7 +94,7 @@ fn clear_of_streams<F: OpenFile + AsRawFd + Drop>(file: F) -> io::Result<F>
     Err(io::Error::from(ErrorKind::Other))
 }
 
-/// How many sectors a file has, where it is a regular one of whole sectors.
+/// How many sectors a file has, if it is a regular one of whole sectors.
 pub(crate) fn whole_sectors(metadata: &Metadata) -> Result<u64, FileRefusal>
     ensures whole { IfOk result (λ sectors.
         IsFile (file_type metadata.now) × (metadata_len metadata.now ≡ sectors * 512)) }

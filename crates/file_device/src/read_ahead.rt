@@ -6,7 +6,7 @@ use crate::read_run::ReadRun;
 use sector_device::{Device, DeviceFault, Sector};
 use std::marker::Model;
 
-/// A device with a buffer for its reads. Contracts see it as the device within: it is honest exactly where that is, and
+/// A device with a buffer for its reads. Contracts see it as the device within: it is honest exactly if that is, and
 /// each call gives and keeps what that device's would.
 ///
 /// A read of a sector that the buffer doesn't hold fills it with the 256 sectors from the eighth before that one on.

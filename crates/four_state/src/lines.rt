@@ -143,7 +143,7 @@ impl Line {
         }
     }
 
-    /// The rule by which the station moves, if it may: Raise where it has two privileges.
+    /// The rule by which the station moves, if it may: Raise if it has two privileges.
     pub fn privilege(&self, station: u8) -> Option<Rule>
         requires { station < stations self.now }
         ensures choice { result ≡ choice self.now station }

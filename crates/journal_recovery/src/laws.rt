@@ -15,8 +15,8 @@ ghost use Rattle.journal_recovery.specs.declared.refusals.Cause.TheVariants.{Ban
 
 use gate_journal::{one_old_reading, one_reading};
 
-/// An image recovers to at most one state, and where it does no refusal holds of it; of any image at most one refusal
-/// holds. So `recover` answers `Ok` on an honest device exactly where what reads give recovers to a state, out of memory
+/// An image recovers to at most one state, and if it does no refusal holds of it; of any image at most one refusal
+/// holds. So `recover` answers `Ok` on an honest device exactly if what reads give recovers to a state, out of memory
 /// and device faults apart.
 pub fn one_recovery()
     ensures state { (image : Image) (s t : State) → RecoversTo s image → RecoversTo t image
@@ -49,7 +49,7 @@ pub fn seals_are_recovered()
     one_reading();
 }
 
-/// The same of layouts 1 and 2: an image recovers to at most one state, where it does no refusal holds of it, and of any
+/// The same of layouts 1 and 2: an image recovers to at most one state, if it does no refusal holds of it, and of any
 /// image at most one refusal holds. So what `read_old` answers on an honest device is determined by what reads give, want
 /// of memory and device faults apart.
 pub fn one_old_recovery()

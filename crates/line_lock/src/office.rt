@@ -110,7 +110,7 @@ impl<D: Device, L: Count + Opening> Office<D, L> {
     /// at first whether it holds them.
     ///
     /// # Errors
-    /// `Memory` for the seat's list, `Reached` where so many turns were taken, and then as of `turn`.
+    /// `Memory` for the seat's list, `Reached` if so many turns were taken, and then as of `turn`.
     pub fn turn_within<R: Wait>(
         &self,
         rt: &R,
@@ -151,8 +151,8 @@ impl<D: Device, L: Count + Opening> Office<D, L> {
         }
     }
 
-    /// Closes the office, where the list has the seat of each station and the history bears out what each one holds:
-    /// its list is that of the station's turns, in order, each once, and where it was told that it isn't its turn, it
+    /// Closes the office, if the list has the seat of each station and the history bears out what each one holds:
+    /// its list is that of the station's turns, in order, each once, and if it was told that it isn't its turn, it
     /// wasn't. Seats may come in any order. It waits for nobody, and a faulted office is closed too.
     ///
     /// # Errors

@@ -75,7 +75,7 @@ impl<L: Count> Seat<L> {
     }
 
     /// The greatest limit that the seat was answered [`crate::WithinRefusal::Reached`] for: the office's history held as
-    /// many turns then; 0 where it never was.
+    /// many turns then; 0 if it never was.
     pub fn reached(&self) -> u64
         ensures { result ≡ self.now.reached }
     {

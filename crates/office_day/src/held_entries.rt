@@ -48,7 +48,7 @@ impl HeldEntries {
         self.entries.as_slice()
     }
 
-    /// Keeps one more entry and answers how many are then held, or None where all places are taken.
+    /// Keeps one more entry and answers how many are then held, or None if all places are taken.
     pub fn keep(&mut self, entry: Entry) -> Option<usize>
         ensures full { IsNone result ↔ (16 ≤ length self.old) }
         ensures kept { IfSome result (λ _. self.new ≡ self.old ++ entry ∷ []) }

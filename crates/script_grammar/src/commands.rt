@@ -38,7 +38,7 @@ pub enum Command {
     Day { moves: u64 },
 }
 
-/// The command of a line, or None where the line has no words or is a comment. An entry's reference is the number of
+/// The command of a line, or None if the line has no words or is a comment. An entry's reference is the number of
 /// its line.
 ///
 /// # Errors

@@ -25,7 +25,7 @@ const CHUNK: usize = 65_536;
 /// All bytes of a script. A call that is interrupted is made again.
 ///
 /// # Errors
-/// `TooLong` for more than 16,777,216 bytes; `Memory`; `Read` where a call failed, or after 33,554,432 of them.
+/// `TooLong` for more than 16,777,216 bytes; `Memory`; `Read` if a call failed, or after 33,554,432 of them.
 pub fn read_script<R: Read>(alloc: Global, reader: &mut R) -> Result<Vec<u8>, StreamFault>
     ensures limit { IfOk result (λ script. vec_len script ≤ SCRIPT_LIMIT) }
     // all bytes that the reader had, where they are known, and it has none left

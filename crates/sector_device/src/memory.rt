@@ -37,7 +37,7 @@ pub struct Picks {
 /// A device in memory, which is honest: it keeps every fact of `Device`.
 ///
 /// It remembers each write and sync that answered `Ok`, in a few bytes each, as the loss model has to see what a crash
-/// at an earlier moment might have left. Its reads never fail. A write or a sync fails only where that record can't
+/// at an earlier moment might have left. Its reads never fail. A write or a sync fails only if that record can't
 /// grow, and then changes no byte and no pending sector.
 #[derive(Debug, Drop)]
 pub struct MemoryDevice {

@@ -63,7 +63,7 @@ impl Feed {
     /// Submits an entry, and answers its ticket: how many requests were submitted before it.
     ///
     /// # Errors
-    /// The entry comes back where the ring of requests is full, or the tickets are used up: the last one is
+    /// The entry comes back if the ring of requests is full, or the tickets are used up: the last one is
     /// `u64::MAX` - 1. Nothing has changed then.
     pub fn submit(&mut self, entry: Entry) -> Result<u64, Entry>
         ensures rings { StandsAt self.old self.new }
@@ -92,7 +92,7 @@ impl Feed {
         }
     }
 
-    /// Collects the oldest answer that wasn't collected yet, or None where there is none.
+    /// Collects the oldest answer that wasn't collected yet, or None if there is none.
     pub fn answer(&mut self) -> Option<Answer>
         ensures rings { StandsAt self.old self.new }
         ensures collected { IfSome result (λ answer. self.new ≡ record self.old {

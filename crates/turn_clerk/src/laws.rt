@@ -10,7 +10,7 @@ ghost use Rattle.turn_clerk.specs.Lives.{Life, AreLives, IsAfterLives};
 
 use journal_recovery::one_recovery;
 
-/// Two lives of a device, one after the other: where a crash left an image that recovers to the ledger of a prefix of
+/// Two lives of a device, one after the other: if a crash left an image that recovers to the ledger of a prefix of
 /// the first life's batches, the state that the second life finds in it is the state after that prefix.
 pub fn lives_join()
     ensures { (image : Image) (opened found : State) (batches : List (List Entry)) (least : ℕ)

@@ -18,7 +18,7 @@ pub struct Turn {
     pub entries: Batch,
     /// What became of each entry, in order.
     pub verdicts: Verdicts,
-    /// The sequence number under which the accepted entries are journaled; `None` where there are none.
+    /// The sequence number under which the accepted entries are journaled; `None` if there are none.
     pub posted: Option<u64>,
     pub ghost judged_each: { length verdicts ≡ length entries },
     pub ghost posted_if_accepted: { is_none posted ≡ (count_by is_ok verdicts == 0) },

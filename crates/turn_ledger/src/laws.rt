@@ -18,7 +18,7 @@ pub fn limits_in_numbers()
     ensures place { (entry : Entry) → length (place_bytes entry) ≡ 32 }
 {}
 
-/// An entry is accepted exactly where it keeps all rules: its amount isn't zero (a seal has none), the accounts that it
+/// An entry is accepted exactly if it keeps all rules: its amount isn't zero (a seal has none), the accounts that it
 /// names are accounts, a transfer names two, its source holds enough, the total stays within its limit, and no account
 /// that it names is sealed.
 pub fn a_yes_means_all_rules()
@@ -26,8 +26,8 @@ pub fn a_yes_means_all_rules()
 {}
 
 /// Entries that are accepted, in order, posted one after another, leave the ledger after their
-/// batches: each account has what it held and what came in, less what went out, and is sealed where it
-/// was or where an entry seals it.
+/// batches: each account has what it held and what came in, less what went out, and is sealed if it
+/// was or if an entry seals it.
 pub fn posting_gives_the_sums()
     ensures { PostingGivesTheSums }
 {}

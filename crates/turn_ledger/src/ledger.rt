@@ -93,7 +93,7 @@ impl Ledger {
         true
     }
 
-    /// What an account holds, or None where there is no account of this number.
+    /// What an account holds, or None if there is no account of this number.
     pub fn balance(&self, account: u32) -> Option<u64>
         ensures { SomeIff result (IsAccount account) (balance_of self.now account) }
     {
@@ -104,7 +104,7 @@ impl Ledger {
         }
     }
 
-    /// Whether an account is sealed, or None where there is no account of this number.
+    /// Whether an account is sealed, or None if there is no account of this number.
     pub fn is_sealed(&self, account: u32) -> Option<bool>
         ensures { SomeIff result (IsAccount account) (mark_of self.now account) }
     {

@@ -120,7 +120,7 @@ impl<'a> IntoIterator for &'a Verdicts {
     }
 }
 
-/// How many of the verdicts are a yes.
+/// How many entries were accepted.
 #[inline]
 fn count_ok(verdicts: &[Result<(), EntryRefusal>]) -> u8
     requires { length verdicts.now ≤ BATCH_LIMIT }

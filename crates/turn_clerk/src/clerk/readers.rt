@@ -37,14 +37,14 @@ impl<D: Device> Clerk<D> {
         self.opening_line
     }
 
-    /// What an account held at the opening, or None where there is no account of this number.
+    /// What an account held at the opening, or None if there is no account of this number.
     pub fn opening_balance(&self, account: u32) -> Option<u64>
         ensures { SomeIff result (IsAccount account) (balance_of self.now.opening.ledger account) }
     {
         self.opening_ledger.balance(account)
     }
 
-    /// Whether an account was sealed at the opening, or None where there is no account of this number.
+    /// Whether an account was sealed at the opening, or None if there is no account of this number.
     pub fn opening_sealed(&self, account: u32) -> Option<bool>
         ensures { SomeIff result (IsAccount account) (mark_of self.now.opening.ledger account) }
     {
