@@ -7,7 +7,8 @@ import statistics
 import subprocess
 import sys
 
-AIM = 0.8
+# By how many threads.
+AIMS = {1: 0.9, 3: 0.8}
 
 # Threads, entries a turn, and sweeps of four turns.
 WORK = (
@@ -43,9 +44,10 @@ def row(cores, work, rates):
     proved, plain = (statistics.median(column) for column in zip(*rates))
     ratios = [a / b for a, b in rates]
     low, ratio, high = statistics.quantiles(ratios, n=4, method="inclusive")
-    met = "met" if ratio >= AIM else "missed"
+    aim = AIMS[work[0]]
+    met = "met" if ratio >= aim else "missed"
     return (f"| {work[0]} | {cores} | {work[1]} | {proved:,.0f} | {plain:,.0f} | {ratio:.2f} | {low:.2f} to {high:.2f} "
-            f"| at least {AIM:.2f} | {met} |")
+            f"| at least {aim:.2f} | {met} |")
 
 
 def main():

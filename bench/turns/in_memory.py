@@ -23,6 +23,6 @@ def measure(runs, entries, accounts, ratios, memory):
         {program: Work([folder / program, *sectors], script) for program in programs},
         [("proved", plain) for plain in programs[1:]], TIMES)
     work, kept = f"turns in memory, {entries} a batch, {accounts:,} accounts", times["plain_with_history"]
-    ratios.speed(work, count, times["proved"], "plain Rust with the history", kept, Aim(least=0.9))
+    ratios.speed(work, count, times["proved"], "plain Rust with the history", kept, Aim(least=0.97))
     ratios.speed(work, count, times["proved"], "plain Rust without", times["plain"], Aim(least=0.8))
     memory.add(f"{count:,} {work}", times["proved"], times["plain"], f"with the history {kept.megabytes()}")

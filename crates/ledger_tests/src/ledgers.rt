@@ -350,6 +350,9 @@ fn a_batch_holds_its_entries(rt: HostRuntime) {
     assert!(rt; batch.iter().as_slice() == entries.as_slice());
     let none = (Batch::of(&[]).get(0), Batch::default().is_empty());
     assert!(rt; (none, Batch::of(&[entries[0]; 15]).len()) == ((None, true), 15));
+    let mut filled = Batch::default();
+    filled.fill(&entries);
+    assert!(rt; filled == batch);
 }
 
 // The accounts that hold something, in words.

@@ -22,5 +22,5 @@ pub use seat::Seat;
 pub use sector_device::Device;
 pub use std::sync::ledger::{Blank, Ledger as Count};
 pub use sweep_auditor::Audit;
-pub use turn_clerk::{Clerk, OpenRefusal, Turn, TurnRefusal};
+pub use turn_clerk::{Clerk, OpenRefusal, Taken, Turn, TurnRefusal};
 pub use turn_ledger::{BATCH_LIMIT, Entry};

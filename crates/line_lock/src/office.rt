@@ -1,5 +1,5 @@
 //! The office.
-ghost use Rattle.std.specs.Prelude.{◌≡◌, ◌≢◌, ◌⊎◌, ℕ, ◌+◌, ◌-◌, ◌*◌, ◌<◌, ◌≤◌, ◌↔◌, ◌∷◌, ◌++◌, [], length, map, All, sum_by, IfOk, IfErr, OnOk, OnErr, IsErrAnd, IsSomeAnd, Some, Err, vec_len, vec_capacity};
+ghost use Rattle.std.specs.Prelude.{◌≡◌, ◌≢◌, ◌⊎◌, ℕ, ◌+◌, ◌-◌, ◌*◌, ◌<◌, ◌≤◌, ◌↔◌, ◌∷◌, [], length, map, All, sum_by, IfOk, IfErr, OnOk, IsTrue, IsErrAnd, IsSomeAnd, Some, Err, vec_len, vec_capacity};
 ghost use Rattle.std.specs.List.{range_with_len};
 ghost use Rattle.sector_device.specs.Device.{AreCalls};
 ghost use Rattle.sector_device.specs.Crash.{OnlyLooks, IsDurable};
@@ -8,6 +8,7 @@ ghost use Rattle.sweep_auditor.specs.Run.{IsRun};
 ghost use Rattle.sweep_auditor.specs.Audited.{IsAuditOf};
 ghost use Rattle.turn_clerk.specs.Clerk.{KeepsHistory, LeavesAcknowledged, LeftPrefixEver};
 ghost use Rattle.turn_clerk.specs.History.{moves_of};
+ghost use Rattle.turn_clerk.specs.Reply.{turn_of};
 ghost use Rattle.line_lock.specs.Account.{IsBorneOut, failed_turns, seats_of, IsSeatMissing};
 ghost use Rattle.journal_recovery.specs.Refused.{RecoveryRefuses};
 ghost use Rattle.line_lock.specs.Opening.{Names, WasOpenedOn, WasLeftByClerk};
@@ -24,7 +25,7 @@ use sector_device::Device;
 use std::alloc::Global;
 use std::sync::ledger::{Blank, Ledger as Count};
 use std::sync::{Mutex, Wait};
-use turn_clerk::{Clerk, OpenRefusal, Turn, TurnRefusal};
+use turn_clerk::{Clerk, OpenRefusal, Taken, Turn, TurnRefusal};
 use turn_ledger::Entry;
 
 /// One clerk that several stations share, one turn at a time.
@@ -99,15 +100,19 @@ impl<D: Device, L: Count + Opening> Office<D, L> {
             reached: _,
             share,
         } = seat;
-        if turns.reserve(1).is_err() {
+        if !has_place(turns) {
             return Err(TurnRefusal::Memory);
         }
-        let answer = self.locked.lock(rt).turn(*station, share, entries);
-        noted(turns, denied, answer)
+        let answer = self.locked.lock(rt).turn(*station, share, turns, entries);
+        note(denied, &answer);
+        match answer.reply {
+            Ok(_) => Ok(turns[turns.len() - 1]),
+            Err(refusal) => Err(refusal),
+        }
     }
 
     /// As `turn`, but for an office whose history is meant to hold so many turns and no more: under the lock it is looked
-    /// at first whether it holds them.
+    /// at first whether it holds them. The turn stays where it is kept, the last of the seat's list.
     ///
     /// # Errors
     /// `Memory` for the seat's list, `Reached` if so many turns were taken, and then as of `turn`.
@@ -117,10 +122,10 @@ impl<D: Device, L: Count + Opening> Office<D, L> {
         seat: &mut Seat<L>,
         entries: &[Entry],
         limit: u64,
-    ) -> Result<Turn, WithinRefusal>
+    ) -> Result<Taken, WithinRefusal>
         ensures told { WasTold L.device L.line seat.old seat.new
-            entries.now result WithinRefusal.Turn }
-        ensures within { IfOk result (λ turn. turn.index < limit) }
+            entries.now (turn_of result) WithinRefusal.Turn }
+        ensures within { IfOk (turn_of result) (λ turn. turn.index < limit) }
         ensures reached { result ≡ Err WithinRefusal.Reached → limit ≤ seat.new.reached }
         ensures rightly_reached { result ≡ Err WithinRefusal.Reached
             → HasReached L.device L.line limit }
@@ -136,7 +141,7 @@ impl<D: Device, L: Count + Opening> Office<D, L> {
             reached,
             share,
         } = seat;
-        if turns.reserve(1).is_err() {
+        if !has_place(turns) {
             return Err(WithinRefusal::Turn(TurnRefusal::Memory));
         }
         let mut locked = self.locked.lock(rt);
@@ -144,9 +149,10 @@ impl<D: Device, L: Count + Opening> Office<D, L> {
             *reached = limit.max(*reached);
             return Err(WithinRefusal::Reached);
         }
-        let answer = locked.turn(*station, share, entries);
-        match noted(turns, denied, answer) {
-            Ok(turn) => Ok(turn),
+        let answer = locked.turn(*station, share, turns, entries);
+        note(denied, &answer);
+        match answer.reply {
+            Ok(taken) => Ok(taken),
             Err(refusal) => Err(WithinRefusal::Turn(refusal)),
         }
     }
@@ -241,23 +247,23 @@ impl<D: Device, L: Count + Opening> Office<D, L> {
     }
 }
 
-// Notes in a seat's list what its station was answered; there is a place for a turn.
-fn noted(
-    turns: &mut Vec<Turn>,
-    denied: &mut Option<u64>,
-    answer: LockedTurn,
-) -> Result<Turn, TurnRefusal>
-    requires { vec_len turns.old < vec_capacity turns.old }
-    ensures reply { result ≡ answer.reply }
-    ensures listed { IfOk result (λ turn. turns.new.items ≡ turns.old.items ++ turn ∷ []) }
-    ensures not_listed { OnErr result (turns.new.items ≡ turns.old.items) }
-    ensures denied { result ≡ Err TurnRefusal.NotPrivileged → denied.new ≡ Some answer.turns_before }
-    ensures not_denied { result ≢ Err TurnRefusal.NotPrivileged → denied.new ≡ denied.old }
+// Whether a list has a place for a turn more, which is reserved where there is none.
+fn has_place(turns: &mut Vec<Turn>) -> bool
+    ensures items { turns.new.items ≡ turns.old.items }
+    ensures place { IsTrue result → vec_len turns.new < vec_capacity turns.new }
+{
+    turns.len() < turns.capacity() || turns.reserve(1).is_ok()
+}
+
+// Notes that it wasn't the station's turn, if that was the answer, and after how many turns.
+fn note(denied: &mut Option<u64>, answer: &LockedTurn)
+    ensures denied { answer.now.reply ≡ Err TurnRefusal.NotPrivileged
+        → denied.new ≡ Some answer.now.turns_before }
+    ensures not_denied { answer.now.reply ≢ Err TurnRefusal.NotPrivileged
+        → denied.new ≡ denied.old }
 {
     match &answer.reply {
-        Ok(turn) => turns.push_reserved(*turn),
         Err(TurnRefusal::NotPrivileged) => *denied = Some(answer.turns_before),
-        Err(_) => {}
+        Ok(_) | Err(_) => {}
     }
-    answer.reply
 }

@@ -46,13 +46,13 @@ fn asks_in_vain<L: Count + Opening, R: Abort + Wait + Print>(
     }
     assert!(rt; answer == Err(TurnRefusal::NotPrivileged));
     assert!(rt; top.denied() == Some(0));
-    let mut answer = office.turn_within(rt, bottom, &sixteen, 0);
-    if answer == Err(WithinRefusal::Turn(TurnRefusal::Memory)) {
+    let mut refusal = office.turn_within(rt, bottom, &sixteen, 0).err();
+    if refusal == Some(WithinRefusal::Turn(TurnRefusal::Memory)) {
         told(rt, "Office::turn_within");
         is_new(rt, bottom);
-        answer = office.turn_within(rt, bottom, &sixteen, 0);
+        refusal = office.turn_within(rt, bottom, &sixteen, 0).err();
     }
-    assert!(rt; answer == Err(WithinRefusal::Reached));
+    assert!(rt; refusal == Some(WithinRefusal::Reached));
 }
 
 // A turn of a seat with a place in its list: under the lock there may be no memory for the history, or for the device.
@@ -64,19 +64,20 @@ fn takes_a_turn<L: Count + Opening, R: Abort + Wait + Print>(
 ) -> Came {
     let entries = [deposit(1, 5)];
     let before = seat.turns().len();
-    let mut answer = office.turn_within(rt, seat, &entries, limit);
-    if answer == Err(WithinRefusal::Turn(TurnRefusal::Memory)) {
+    let mut refusal = office.turn_within(rt, seat, &entries, limit).err();
+    if refusal == Some(WithinRefusal::Turn(TurnRefusal::Memory)) {
         told(rt, "Office::turn_within, under the lock");
         assert!(rt; seat.turns().len() == before);
-        answer = office.turn_within(rt, seat, &entries, limit);
+        refusal = office.turn_within(rt, seat, &entries, limit).err();
     }
-    match answer {
-        Ok(turn) => {
+    match refusal {
+        None => {
+            let turn = seat.turns().last().expect(rt, "a turn");
             assert!(rt; turn.posted == Some(turn.index));
             assert!(rt; seat.turns().len() == before.saturating_add(1));
             Came::ToTheEnd
         }
-        Err(refusal) => {
+        Some(refusal) => {
             assert!(rt; refusal == WithinRefusal::Turn(TurnRefusal::Device));
             told(rt, "Office::turn_within, by its device");
             assert!(rt; seat.turns().len() == before);

@@ -1,6 +1,7 @@
 //! Stations that take turns, each in a thread of its own.
-ghost use Rattle.std.specs.Prelude.{◌≡◌, ◌≢◌, ◌+◌, ◌≤◌, ◌↔◌, length, OnOk, OnErr, IsSomeAnd, Err, Some, None};
+ghost use Rattle.std.specs.Prelude.{◌≡◌, ◌≢◌, ◌+◌, ◌<◌, ◌≤◌, ◌↔◌, ◌∷◌, ◌++◌, [], List, length, OnOk, OnErr, IsSomeAnd, Err, Some, None};
 ghost use Rattle.turn_clerk.specs.declared.refusals.TurnRefusal.{TurnRefusal};
+ghost use Rattle.turn_clerk.specs.declared.turns.Turn.{Turn};
 ghost use Rattle.line_lock.specs.Seat.{IsDeniedAfter, HasReached};
 ghost use Rattle.station_desk.specs.Worked.{HasWorked};
 ghost use Rattle.station_desk.specs.Run.{HasRun, HaveRun};
@@ -13,7 +14,7 @@ use sector_device::Device;
 use std::sync::Wait;
 use std::sync::atomic::{AtomicBool, Ordering};
 use std::thread::{Threads, for_each_mut, yield_now};
-use turn_clerk::TurnRefusal;
+use turn_clerk::{Turn, TurnRefusal};
 
 /// A station: its seat in the office, its desk, and how its last run ended.
 #[derive(Drop)]
@@ -49,21 +50,29 @@ fn round<D: Device, L: Count + Opening, G: Gate, R: Wait>(
 {
     let entries = desk.gather();
     gate.gathered(seat.station());
-    match office.turn_within(rt, seat, entries, moves) {
-        Ok(turn) => {
-            desk.settle(&turn);
+    let refusal = match office.turn_within(rt, seat, entries, moves) {
+        Ok(_) => {
+            desk.settle(newest(seat));
             gate.answered(seat.station());
-            Ok(())
+            return Ok(());
         }
-        Err(WithinRefusal::Reached) => Err(WithinRefusal::Reached),
-        Err(WithinRefusal::Turn(refusal)) => {
-            if refusal != TurnRefusal::Device {
-                return Err(WithinRefusal::Turn(refusal));
-            }
-            desk.give_up();
-            Err(WithinRefusal::Turn(refusal))
-        }
+        Err(refusal) => refusal,
+    };
+    if refusal != WithinRefusal::Turn(TurnRefusal::Device) {
+        return Err(refusal);
     }
+    desk.give_up();
+    Err(refusal)
+}
+
+// The turn that a seat lists last.
+fn newest<L: Count>(seat: &Seat<L>) -> &Turn
+    requires { 0 < length seat.now.turns }
+    ensures { (before : List Turn) → (turn : Turn) → seat.now.turns ≡ before ++ turn ∷ []
+        → result.now ≡ turn }
+{
+    let turns = seat.turns();
+    &turns[turns.len() - 1]
 }
 
 // How a station's run ends by a refusal, where it ends by it: one whose turn it isn't tries again.

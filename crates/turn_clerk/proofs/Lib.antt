@@ -1,4 +1,3 @@
-mod Payload
 mod OneBatch
 mod Checkpointed
 mod Banks

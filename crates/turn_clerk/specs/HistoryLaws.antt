@@ -1,7 +1,7 @@
 -- Laws of histories that the crates above may cite: what one turn more adds.
-use Rattle.std.specs.Prelude.{◌≡◌, ◌+◌, List, [], ◌∷◌, ◌++◌, length}
+use Rattle.std.specs.Prelude.{◌≡◌, ◌+◌, ◌-◌, ℕ, List, [], ◌∷◌, ◌++◌, length, Some, slice_get}
 use Rattle.std.proofs.Common.{refl, sym, ◌∙◌, ap, subst, arith}
-use Rattle.std.proofs.lemmas.List.{append-nil, map-append, take-append-le, take_all}
+use Rattle.std.proofs.lemmas.List.{append-nil, length-append, map-append, take-append-le, take_all}
 use Rattle.std.proofs.lemmas.Grind.{flat_map-append}
 use Rattle.std.proofs.lemmas.Option.{slice_get_within}
 use Rattle.gate_journal.specs.OneMore.{each_there}
@@ -44,6 +44,18 @@ batches_of-push turns turn =
 
 pub line_after-push : (line : Configuration) (turns : List Turn) (turn : Turn) → line_after line (turns ++ turn ∷ []) ≡ next (line_after line turns) (move_of turn)
 line_after-push line turns turn = ap (after line) (moves_of-push turns turn) ∙ after-push (moves_of turns) (move_of turn) line
+
+-- the turn that stands behind some
+pub there-push : (before : List Turn) (turn : Turn) (after : List Turn) → slice_get (before ++ turn ∷ after) (length before) ≡ Some turn
+there-push [] turn after = refl
+there-push (first ∷ before) turn after = there-push before turn after
+
+-- the last one
+pub last-push : (before : List Turn) (turn : Turn) → slice_get (before ++ turn ∷ []) (length (before ++ turn ∷ []) - 1) ≡ Some turn
+last-push before turn =
+    ap (λ (place : ℕ). slice_get (before ++ turn ∷ []) (place - 1)) (length-append before (turn ∷ []))
+    ∙ ap (slice_get (before ++ turn ∷ [])) (omega arith)
+    ∙ there-push before turn []
 
 -- what a turn accepts is accepted again, in order
 pub AreAccepted-turn : (line : Configuration) (state : State) (turn : Turn) → IsTurn line state turn → AreAccepted state.ledger (accepted_of turn)

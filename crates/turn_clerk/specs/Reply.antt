@@ -3,6 +3,7 @@ use Rattle.std.specs.Prelude.{◌≡◌, ℕ, Bool, true, false, ◌||◌, List,
 use Rattle.std.specs.List.{flat_map, list_any}
 use Rattle.turn_ledger.specs.Screen.{accepted}
 use Rattle.turn_clerk.specs.declared.turns.Turn.{Turn}
+use Rattle.turn_clerk.specs.declared.turns.Taken.{Taken}
 use Rattle.turn_clerk.specs.declared.refusals.TurnRefusal.{TurnRefusal}
 use Rattle.turn_clerk.specs.declared.refusals.TurnRefusal.TheVariants.{Faulted, NoStation, NotPrivileged, TooMany, Memory, Exhausted, Device}
 use Rattle.turn_clerk.specs.declared.events.Event.{Event}
@@ -15,6 +16,11 @@ use Rattle.turn_clerk.specs.Refused.{Standing, StandsAs, standing_of, ClerkRefus
 -- the turn, or why it was not taken
 abbrev pub Reply : Type 0
 Reply = Result Turn TurnRefusal
+
+-- what is answered of a turn that stands where it is kept
+abbrev pub turn_of : {E : Type 0} → Result Taken E → Result Turn E
+turn_of (Ok taken) = Ok taken.turn.value
+turn_of (Err refusal) = Err refusal
 
 -- the turns among the replies, in order
 abbrev pub turn_in : Reply → List Turn

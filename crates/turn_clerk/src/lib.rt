@@ -22,4 +22,4 @@ pub use refusals::TurnRefusal;
 pub use sector_device::Device;
 pub use sweep_auditor::Move;
 pub use turn_ledger::{BATCH_LIMIT, Batch, Entry, EntryRefusal, Ledger, Verdicts};
-pub use turns::Turn;
+pub use turns::{Taken, Turn};

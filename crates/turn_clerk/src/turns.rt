@@ -1,7 +1,8 @@
 //! A turn that was taken.
-ghost use Rattle.std.specs.Prelude.{◌≡◌, ◌≤◌, ◌==◌, length, count_by, is_ok, is_none};
+ghost use Rattle.std.specs.Prelude.{◌≡◌, ◌≤◌, ◌==◌, [], length, count_by, is_ok, is_none};
 
 use four_state::Rule;
+use std::snapshot::Snapshot as Ghost;
 use sweep_auditor::Move;
 use turn_ledger::{BATCH_LIMIT, Batch, Entry, Verdicts};
 
@@ -24,36 +25,33 @@ pub struct Turn {
     pub ghost posted_if_accepted: { is_none posted ≡ (count_by is_ok verdicts == 0) },
 }
 
+/// A turn that was taken and stands where it is kept. Contracts see it here; the program finds no byte of it.
+#[derive(Drop)]
+pub struct Taken {
+    /// The turn, for contracts alone.
+    pub turn: Ghost<Turn>,
+}
+
 impl Turn {
     ghost use Rattle.turn_clerk.specs.History.{move_of};
 
-    // The turn of these parts.
-    pub(crate) fn new(
-        index: u64,
-        station: u8,
-        rule: Rule,
-        entries: &[Entry],
-        verdicts: Verdicts,
-        posted: Option<u64>,
-    ) -> Turn
+    // Puts into an empty turn what its clients asked and what became of it.
+    #[inline]
+    pub(crate) fn fill(&mut self, entries: &[Entry], verdicts: &Verdicts, posted: Option<u64>)
+        requires empty { self.old.entries ≡ [] }
         requires few { length entries.now ≤ BATCH_LIMIT }
-        requires judged { length verdicts ≡ length entries.now }
-        requires posted { is_none posted ≡ (count_by is_ok verdicts == 0) }
-        ensures index { result.index ≡ index }
-        ensures station { result.station ≡ station }
-        ensures rule { result.rule ≡ rule }
-        ensures entries { result.entries ≡ entries.now }
-        ensures verdicts { result.verdicts ≡ verdicts }
-        ensures posted { result.posted ≡ posted }
+        requires judged { length verdicts.now ≡ length entries.now }
+        requires posted { is_none posted ≡ (count_by is_ok verdicts.now == 0) }
+        ensures index { self.new.index ≡ self.old.index }
+        ensures station { self.new.station ≡ self.old.station }
+        ensures rule { self.new.rule ≡ self.old.rule }
+        ensures entries { self.new.entries ≡ entries.now }
+        ensures verdicts { self.new.verdicts ≡ verdicts.now }
+        ensures posted { self.new.posted ≡ posted }
     {
-        Turn {
-            index,
-            station,
-            rule,
-            entries: Batch::of(entries),
-            verdicts,
-            posted,
-        }
+        self.entries.fill(entries);
+        self.verdicts = *verdicts;
+        self.posted = posted;
     }
 
     /// The move that the station made.

@@ -47,12 +47,21 @@ impl Batch {
         requires { length entries.now ≤ BATCH_LIMIT }
         ensures { result ≡ entries.now }
     {
-        let mut places = [UNUSED; BATCH_LIMIT];
-        places[..entries.len()].copy_from_slice(entries);
-        Batch {
-            entries: places,
-            count: entries.len(),
-        }
+        let mut batch = Batch::none();
+        batch.fill(entries);
+        batch
+    }
+
+    /// Puts entries, [`BATCH_LIMIT`] at most, into a batch that has none. A batch that is made so stands where it is kept from
+    /// the first on, where `of` has to bring it there.
+    #[inline]
+    pub fn fill(&mut self, entries: &[Entry])
+        requires none { self.old ≡ [] }
+        requires few { length entries.now ≤ BATCH_LIMIT }
+        ensures { self.new ≡ entries.now }
+    {
+        self.entries[..entries.len()].copy_from_slice(entries);
+        self.count = entries.len();
     }
 
     /// The batch of the accepted entries, in order. There is a verdict for each entry.
@@ -71,7 +80,8 @@ impl Batch {
         batch
     }
 
-    // No entries yet.
+    // No entries yet. It is always inlined, so that the batch is made where it is kept.
+    #[inline(always)]
     fn none() -> Batch
         ensures { result ≡ [] }
     {
@@ -134,6 +144,7 @@ impl Batch {
 impl Default for Batch {
     ghost is_default = { λ entries. entries ≡ [] };
 
+    #[inline(always)]
     fn default() -> Batch {
         Batch::none()
     }

@@ -52,9 +52,10 @@ fn has_no_more_turns<L: Count + Opening, R: Abort + Wait>(
     office: &Office<MemoryDevice, L>,
     top: &mut Seat<L>,
 ) {
-    let denied = Err(WithinRefusal::Turn(TurnRefusal::NotPrivileged));
-    assert!(rt; office.turn_within(rt, top, &[], 3 * TURNS) == denied);
-    assert!(rt; office.turn_within(rt, top, &[], 5) == Err(WithinRefusal::Reached));
+    let denied = Some(WithinRefusal::Turn(TurnRefusal::NotPrivileged));
+    assert!(rt; office.turn_within(rt, top, &[], 3 * TURNS).err() == denied);
+    let reached = Some(WithinRefusal::Reached);
+    assert!(rt; office.turn_within(rt, top, &[], 5).err() == reached);
 }
 
 #[test]

@@ -79,9 +79,10 @@ fn top_turn<L: Count + Opening, R: Abort + Wait>(
     office: &Office<MemoryDevice, L>,
     top: &mut Seat<L>,
 ) -> Result<Turn, WithinRefusal> {
-    let stopped = office.turn_within(rt, top, &[], 1);
-    assert!(rt; (stopped, top.reached()) == (Err(WithinRefusal::Reached), 1));
-    let second = office.turn_within(rt, top, &[], 2)?;
+    let stopped = office.turn_within(rt, top, &[], 1).err();
+    assert!(rt; (stopped, top.reached()) == (Some(WithinRefusal::Reached), 1));
+    office.turn_within(rt, top, &[], 2)?;
+    let second = *top.turns().last().expect(rt, "a turn");
     assert!(rt; (second.index, second.rule, second.posted) == (1, Rule::Top, None));
     is_denied_within_three(rt, office, top);
     Ok(second)
@@ -92,8 +93,8 @@ fn is_denied_within_three<L: Count + Opening, R: Abort + Wait>(
     office: &Office<MemoryDevice, L>,
     top: &mut Seat<L>,
 ) {
-    let denied = office.turn_within(rt, top, &[], 3);
-    assert!(rt; denied == Err(WithinRefusal::Turn(TurnRefusal::NotPrivileged)));
+    let denied = office.turn_within(rt, top, &[], 3).err();
+    assert!(rt; denied == Some(WithinRefusal::Turn(TurnRefusal::NotPrivileged)));
     assert!(rt; (top.denied(), top.reached()) == (Some(2), 1));
 }
 
