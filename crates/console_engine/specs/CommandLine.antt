@@ -1,8 +1,8 @@
 -- What the words on the program's command line ask for, in the terms of `clap`.
-use Rattle.std.specs.Prelude.{◌≡◌, ℕ, List, [], ◌∷◌, Option, None, Some, codes}
+use Rattle.std.specs.Prelude.{◌≡◌, ℕ, Bool, true, false, List, [], ◌∷◌, Option, None, Some, codes}
 use Rattle.std.specs.Str.Parse.{digits_value, without_leading_plus}
 use Rattle.clap.specs.Words.{App, Rule, Text, matches_of, new_app, new_rule, first_of, one_of, with_rule}
-use Rattle.clap.specs.declared.builder.action.ArgAction.TheVariants.{Set}
+use Rattle.clap.specs.declared.builder.action.ArgAction.TheVariants.{Set, SetTrue}
 use Rattle.clap.specs.declared.builder.value_parser.ValueParser.TheVariants as value_parser
 
 -- an option with a path, and one with a number from 1 to that one
@@ -27,9 +27,13 @@ sectors_option = record (number_option (codes "sectors") 4000039) { defaults = c
 abbrev pub slots_option : Rule
 slots_option = number_option (codes "slots") 1000000
 
+-- `--overwrite`: a flag
+abbrev pub overwrite_option : Rule
+overwrite_option = record (new_rule (codes "overwrite")) { long = Some (codes "overwrite"); action = Some SetTrue }
+
 -- the program's command line
 abbrev pub console : App
-console = with_rule (with_rule (with_rule (with_rule (new_app (codes "turn_console")) device_option) sectors_option) migrate_option) slots_option
+console = with_rule (with_rule (with_rule (with_rule (with_rule (new_app (codes "turn_console")) device_option) sectors_option) migrate_option) slots_option) overwrite_option
 
 -- the words ask for this number of sectors
 abbrev pub AskForSectors : List Text → ℕ → Type 0
@@ -49,3 +53,13 @@ abbrev pub AskForSlots : List Text → Option ℕ → Type 0
 AskForSlots words None = first_of (codes "slots") (matches_of console words) ≡ None
 AskForSlots words (Some slots) = (text : Text) × (one_of (codes "slots") (matches_of console words) ≡ Some text)
     × (slots ≡ digits_value 10 (without_leading_plus text))
+
+-- a flag is set where its text is true, and isn't where that is false or there is none
+pub record IsFlagOf (text : Option Text) (flag : Bool) : Type 0 where
+  pub used : text ≡ Some (codes "true") → flag ≡ true
+  pub unused : text ≡ Some (codes "false") → flag ≡ false
+  pub none : text ≡ None → flag ≡ false
+
+-- they ask for a disk to be written over, or don't
+abbrev pub AskForOverwrite : List Text → Bool → Type 0
+AskForOverwrite words overwrite = IsFlagOf (one_of (codes "overwrite") (matches_of console words)) overwrite

@@ -1,7 +1,10 @@
 -- Which fault ends a script, or the program, for a fault of what they stand on.
 use Rattle.script_streams.specs.declared.faults.StreamFault.{StreamFault}
 use Rattle.script_streams.specs.declared.faults.StreamFault.TheVariants as stream
-use Rattle.file_device.specs.declared.refusal.FileRefusal.{FileRefusal}
+use Rattle.std.specs.Prelude.{ℕ, List}
+use Rattle.std.specs.Borrow.{Bor}
+use Rattle.file_device.specs.declared.refusal.DeviceRefusal.{DeviceRefusal}
+use Rattle.file_device.specs.declared.refusal.DeviceRefusal.TheVariants as device
 use Rattle.file_device.specs.declared.refusal.FileRefusal.TheVariants as file
 use Rattle.console_engine.specs.declared.faults.ScriptFault.{ScriptFault}
 use Rattle.console_engine.specs.declared.faults.ScriptFault.TheVariants as script
@@ -15,7 +18,8 @@ of_stream stream.Write = script.Write
 of_stream stream.Memory = script.Memory
 of_stream stream.TooLong = script.TooLong
 
--- the program reports out of memory as such, and all else of a file as the device's fault
-abbrev pub of_file : FileRefusal → ProgramFault
-of_file file.Memory = program.Script script.Memory
-of_file file.File = program.Device
+-- the program reports out of memory as such, a disk's fault with its path, and all else of a file as the device's fault
+abbrev pub of_device : Bor (List ℕ) → DeviceRefusal → ProgramFault
+of_device path (device.File file.Memory) = program.Script script.Memory
+of_device path (device.File file.File) = program.Device
+of_device path (device.Disk fault) = program.Disk (record { path = path; fault = fault })

@@ -1,12 +1,12 @@
 -- On what the script runs, by the options.
-use Rattle.std.specs.Prelude.{◌≡◌, ◌≢◌, ◌≤◌, ℕ, List, None, Some, option_map}
+use Rattle.std.specs.Prelude.{◌≡◌, ◌≢◌, ◌≤◌, ℕ, false, List, None, Some, option_map}
 use Rattle.console_engine.specs.declared.settings.Options.{Options}
 use Rattle.console_engine.specs.declared.settings.Plan.{Plan}
 use Rattle.console_engine.specs.declared.settings.Plan.TheVariants.{Memory, File, Upgraded}
 
 -- the plan is that of the options
 abbrev pub IsPlanOf : Options → Plan → Type 0
-IsPlanOf options Memory = (options.migrate ≡ None) × (options.device ≡ None) × (options.slots ≡ None)
+IsPlanOf options Memory = (options.migrate ≡ None) × (options.device ≡ None) × (options.slots ≡ None) × (options.overwrite ≡ false)
 IsPlanOf options (File path) = (options.migrate ≡ None) × (options.device ≡ Some path) × (options.slots ≡ None)
 IsPlanOf options (Upgraded upgrade) =
     (options.migrate ≡ Some upgrade.old) × (options.device ≡ Some upgrade.path) × (options.slots ≡ Some upgrade.slots) × (upgrade.old.now ≢ upgrade.path.now)

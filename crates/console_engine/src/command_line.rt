@@ -4,7 +4,7 @@ ghost use Rattle.std.specs.Str.Parse.{digits_value, without_leading_plus};
 ghost use Rattle.clap.specs.Values.{kind_of};
 ghost use Rattle.clap.specs.Words.{app_of, first_value, found_of, one_text, rule_of};
 ghost use Rattle.clap.specs.declared.error.kind.ErrorKind.TheVariants.{InvalidValue, OutOfMemory};
-ghost use Rattle.console_engine.specs.CommandLine.{AskForSectors, AskForDevice, AskForMigration, AskForSlots, console, path_option, sectors_option, slots_option};
+ghost use Rattle.console_engine.specs.CommandLine.{AskForSectors, AskForDevice, AskForMigration, AskForOverwrite, AskForSlots, console, overwrite_option, path_option, sectors_option, slots_option};
 
 use crate::settings::Options;
 use clap::error::ErrorKind;
@@ -63,6 +63,8 @@ pub fn options<'a>(alloc: Global, words: &'a [&'a str]) -> Result<Options<'a>, E
         IfOk result (λ options. AskForMigration asked (option_map (λ path. path.now) options.migrate)) }
     ensures slots { let asked = map (λ word. word.now) words.entry.now in
         IfOk result (λ options. AskForSlots asked options.slots) }
+    ensures overwrite { let asked = map (λ word. word.now) words.entry.now in
+        IfOk result (λ options. AskForOverwrite asked options.overwrite) }
     ensures slots_within { IfOk result (λ options. IfSome options.slots (λ slots.
         (1 ≤ slots) × (slots ≤ 1000000))) }
     // where the name of the program stands alone
@@ -73,6 +75,7 @@ pub fn options<'a>(alloc: Global, words: &'a [&'a str]) -> Result<Options<'a>, E
     let matches = command.try_get_matches_from_mut(words)?;
     let device = matches.get_str("device");
     let migrate = matches.get_str("migrate");
+    let overwrite = matches.get_flag("overwrite");
     let Ok(slots) = slots_asked(&matches) else {
         return Err(command.error(ErrorKind::InvalidValue, SLOTS_OUT_OF_RANGE)?);
     };
@@ -84,6 +87,7 @@ pub fn options<'a>(alloc: Global, words: &'a [&'a str]) -> Result<Options<'a>, E
         sectors,
         migrate,
         slots,
+        overwrite,
     })
 }
 
@@ -146,7 +150,7 @@ fn console_command<'a>(alloc: Global) -> Result<Command<'a>, Error>
         alloc,
         "device",
         "PATH",
-        "The file that is the device; made and grown where it is smaller. Without it the device is in memory",
+        "The file that is the device; made and grown where it is smaller. Or a disk. Without it the device is in memory",
     );
     let migrate = option(
         alloc,
@@ -160,7 +164,8 @@ fn console_command<'a>(alloc: Global) -> Result<Command<'a>, Error>
         .arg(device)?
         .arg(sectors_of(alloc))?
         .arg(migrate)?
-        .arg(slots_of(alloc))?;
+        .arg(slots_of(alloc))?
+        .arg(overwrite_of(alloc))?;
     Ok(command)
 }
 
@@ -201,4 +206,14 @@ fn slots_of<'a>(alloc: Global) -> Arg<'a>
         "How many slots each bank of the device then has, 1 to 1000000",
     )
     .value_parser(value_parser!(u64).range(1..1_000_001))
+}
+
+fn overwrite_of<'a>(alloc: Global) -> Arg<'a>
+    ensures rule { rule_of result ≡ overwrite_option }
+    ensures own { result.global ≡ false }
+{
+    Arg::new(alloc, "overwrite")
+        .long("overwrite")
+        .help("The device is a disk that may hold anything; `format` erases it")
+        .action(ArgAction::SetTrue)
 }

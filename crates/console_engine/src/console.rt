@@ -122,9 +122,10 @@ impl<D: PowerLoss + Drop> Console<D> {
         let Console::Open(clerk) = self else {
             return print_refusal(Refusal::NoOffice, output);
         };
-        match clerk.turn(station) {
-            Ok(turn) => print_turn(&turn, output)?,
-            Err(refusal) => print_refusal(Refusal::Turn(refusal), output)?,
+        if let Err(refusal) = clerk.turn(station) {
+            print_refusal(Refusal::Turn(refusal), output)?;
+        } else if let Some(turn) = clerk.history().last() {
+            print_turn(turn, output)?;
         }
         // an answer is worth little while it lies in a buffer
         output.flush()

@@ -1,6 +1,10 @@
 //! Why a script ends early.
+ghost use Rattle.std.specs.Prelude.{◌≡◌};
+ghost use Rattle.console_engine.specs.Faults.{of_device};
+
+use crate::disks::RefusedDisk;
 use crate::names::write_open;
-use file_device::FileRefusal;
+use file_device::{DeviceRefusal, FileRefusal};
 use journal_recovery::{MigrateRefusal, OpenRefusal};
 use script_grammar::LineFault;
 use script_streams::StreamFault;
@@ -30,10 +34,13 @@ pub enum ScriptFault {
 
 /// Why the program ended before its script did.
 #[derive(Clone, Copy, Debug, PartialEq, Eq, Error)]
-pub enum ProgramFault {
+pub enum ProgramFault<'a> {
     /// The file that is the device couldn't be opened, made or grown.
     #[error("device failed")]
     Device,
+    /// The disk that was to be the device was refused.
+    #[error("device failed: {0}")]
+    Disk(RefusedDisk<'a>),
     /// The device wasn't made of an older one.
     #[error("{0}")]
     Migration(MigrationFault),
@@ -66,9 +73,20 @@ impl fmt::Display for MigrationFault {
     }
 }
 
-impl ProgramFault {
+impl<'a> ProgramFault<'a> {
     /// Out of memory.
-    pub const MEMORY: ProgramFault = ProgramFault::Script(ScriptFault::Memory);
+    pub const MEMORY: ProgramFault<'static> = ProgramFault::Script(ScriptFault::Memory);
+
+    // Of a device at this path.
+    pub(crate) fn of_device(path: &'a str, refusal: DeviceRefusal) -> ProgramFault<'a>
+        ensures { result ≡ of_device path.entry refusal }
+    {
+        match refusal {
+            DeviceRefusal::File(FileRefusal::Memory) => ProgramFault::MEMORY,
+            DeviceRefusal::File(FileRefusal::File) => ProgramFault::Device,
+            DeviceRefusal::Disk(fault) => ProgramFault::Disk(RefusedDisk { path, fault }),
+        }
+    }
 }
 
 impl From<AllocError> for ScriptFault {
@@ -98,7 +116,7 @@ impl From<StreamFault> for ScriptFault {
     }
 }
 
-impl From<ScriptFault> for ProgramFault {
+impl From<ScriptFault> for ProgramFault<'_> {
     ghost use Rattle.std.specs.Prelude.{◌≡◌};
     ghost use Rattle.console_engine.specs.declared.faults.ProgramFault.TheVariants.{Script};
 
@@ -109,21 +127,7 @@ impl From<ScriptFault> for ProgramFault {
     }
 }
 
-impl From<FileRefusal> for ProgramFault {
-    ghost use Rattle.std.specs.Prelude.{◌≡◌};
-    ghost use Rattle.console_engine.specs.Faults.{of_file};
-
-    ghost from_gives = { λ refusal fault. fault ≡ of_file refusal };
-
-    fn from(refusal: FileRefusal) -> Self {
-        match refusal {
-            FileRefusal::Memory => ProgramFault::MEMORY,
-            FileRefusal::File => ProgramFault::Device,
-        }
-    }
-}
-
-impl From<MigrateRefusal> for ProgramFault {
+impl From<MigrateRefusal> for ProgramFault<'_> {
     ghost use Rattle.std.specs.Prelude.{◌≡◌};
     ghost use Rattle.console_engine.specs.Migration.{of_migration};
 

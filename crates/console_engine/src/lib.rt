@@ -8,6 +8,7 @@
 
 mod command_line;
 mod console;
+mod disks;
 mod engine;
 mod faults;
 mod migration;
@@ -21,9 +22,10 @@ mod scripted_clerk;
 mod settings;
 
 pub use command_line::options;
+pub use disks::RefusedDisk;
 pub use engine::run_script;
 pub use faults::{MigrationFault, ProgramFault, ScriptFault};
-pub use file_device::{FileDevice, FileRefusal};
+pub use file_device::{DeviceRefusal, DiskFault, FileDevice, FileRefusal};
 pub use four_state::LineRefusal;
 pub use gate_journal::FormatRefusal;
 pub use journal_recovery::MigrateRefusal;

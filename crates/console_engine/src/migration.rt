@@ -20,7 +20,7 @@ pub(crate) fn migrate_onto<D: Device + Drop, E: Device + Drop>(
     old: D,
     device: E,
     slots: u64,
-) -> (E, Result<(), ProgramFault>)
+) -> (E, Result<(), ProgramFault<'static>>)
     requires { 1 ≤ slots }
 
     // On honest devices.
@@ -42,7 +42,10 @@ pub(crate) fn migrate_onto<D: Device + Drop, E: Device + Drop>(
     let fault = match may_hold {
         Ok(false) => {
             let (_old, migrated) = migrate(alloc, old, &mut device, slots);
-            return (device, migrated.map_err(ProgramFault::from));
+            return match migrated {
+                Ok(()) => (device, Ok(())),
+                Err(refusal) => (device, Err(ProgramFault::from(refusal))),
+            };
         }
         Ok(true) => ProgramFault::Migration(MigrationFault::NotEmpty),
         Err(OpenRefusal::Memory) => ProgramFault::MEMORY,

@@ -10,7 +10,7 @@ use crate::command_line::{not_text, options};
 use crate::engine::run_script;
 use crate::faults::{ProgramFault, ScriptFault};
 use crate::migration::migrate_onto;
-use crate::settings::{Plan, Upgrade, WrongWords};
+use crate::settings::{Options, Plan, Upgrade, WrongWords};
 use clap::Error;
 use clap::error::ErrorKind;
 use file_device::FileDevice;
@@ -56,36 +56,36 @@ pub fn run_program<F: Files<File = File> + Threads + Wait + Sync, R: Read, W: Wr
         Ok(plan) => plan,
         Err(wrong) => return tell_wrong_words(alloc, wrong, errors),
     };
-    match run_plan(rt, alloc, plan, options.sectors, reader, writer) {
+    match run_plan(rt, alloc, plan, options, reader, writer) {
         Ok(()) => DONE,
         Err(fault) => tell(alloc, fault, errors),
     }
 }
 
-// Runs the script on what the plan says.
-fn run_plan<F: Files<File = File> + Threads + Wait + Sync, R: Read, W: Write>(
+// Runs the script on what the plan of these options says.
+fn run_plan<'a, F: Files<File = File> + Threads + Wait + Sync, R: Read, W: Write>(
     rt: &F,
     alloc: Global,
-    plan: Plan<'_>,
-    sectors: u64,
+    plan: Plan<'a>,
+    options: Options<'a>,
     reader: &mut R,
     writer: &mut W,
-) -> Result<(), ProgramFault>
+) -> Result<(), ProgramFault<'a>>
     requires { HasSlots plan }
     ensures sound { OnOk result (IfSome (R.remaining reader.old) (λ bytes.
         first_fault 1 (lines bytes) ≡ None)) }
 {
     match plan {
         Plan::Memory => {
-            let device = MemoryDevice::new(alloc, sectors).map_err(ScriptFault::from)?;
+            let device = MemoryDevice::new(alloc, options.sectors).map_err(ScriptFault::from)?;
             run_script(rt, alloc, reader, writer, device)?;
         }
         Plan::File(path) => {
-            let device = FileDevice::open(rt, alloc, path, sectors)?;
+            let device = open_device(rt, alloc, path, options)?;
             run_script(rt, alloc, reader, writer, device)?;
         }
         Plan::Upgraded(upgrade) => {
-            let device = upgraded(rt, alloc, upgrade, sectors)?;
+            let device = upgraded(rt, alloc, upgrade, options)?;
             write_migrated(alloc, upgrade.slots, writer)?;
             run_script(rt, alloc, reader, writer, device)?;
         }
@@ -94,19 +94,40 @@ fn run_plan<F: Files<File = File> + Threads + Wait + Sync, R: Read, W: Write>(
 }
 
 // The file that an older one was copied onto. That one is opened first, so that no other is made where it can't be.
-fn upgraded<F: Files<File = File>>(
+fn upgraded<'a, F: Files<File = File>>(
     rt: &F,
     alloc: Global,
-    upgrade: Upgrade<'_>,
-    sectors: u64,
-) -> Result<FileDevice, ProgramFault>
+    upgrade: Upgrade<'a>,
+    options: Options<'a>,
+) -> Result<FileDevice, ProgramFault<'a>>
     requires { 1 ≤ upgrade.slots }
 {
-    let old = FileDevice::open(rt, alloc, upgrade.old, 0)?;
-    let device = FileDevice::open(rt, alloc, upgrade.path, sectors)?;
+    let old = match FileDevice::open_with_cause(rt, alloc, upgrade.old, 0) {
+        Ok(old) => old,
+        Err(refusal) => return Err(ProgramFault::of_device(upgrade.old, refusal)),
+    };
+    let device = open_device(rt, alloc, upgrade.path, options)?;
     let (device, migrated) = migrate_onto(alloc, old, device, upgrade.slots);
     migrated?;
     Ok(device)
+}
+
+// The file or the disk at this path, as the options ask for it.
+fn open_device<'a, F: Files<File = File>>(
+    rt: &F,
+    alloc: Global,
+    path: &'a str,
+    options: Options<'_>,
+) -> Result<FileDevice, ProgramFault<'a>> {
+    let opened = if options.overwrite {
+        FileDevice::overwrite(rt, alloc, path, options.sectors)
+    } else {
+        FileDevice::open_with_cause(rt, alloc, path, options.sectors)
+    };
+    match opened {
+        Ok(device) => Ok(device),
+        Err(refusal) => Err(ProgramFault::of_device(path, refusal)),
+    }
 }
 
 // Says that a device was migrated, by the rule of the output.
@@ -130,7 +151,7 @@ fn tell_wrong_words<E: Write>(alloc: Global, wrong: WrongWords, errors: &mut E) 
 }
 
 /// Tells a fault on one line of its own, and gives the status that it ends with. A fault of `errors` is ignored.
-pub fn tell<E: Write>(alloc: Global, fault: ProgramFault, errors: &mut E) -> u8
+pub fn tell<E: Write>(alloc: Global, fault: ProgramFault<'_>, errors: &mut E) -> u8
     ensures { result ≡ 1 }
 {
     let _ = match format!(in alloc; "{fault}\n") {

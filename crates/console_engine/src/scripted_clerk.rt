@@ -70,15 +70,17 @@ impl<D: Device> ScriptedClerk<D> {
         }
     }
 
-    /// Takes the turn of a station with what it holds, which is empty then. A refused turn leaves what is held.
-    pub fn turn(&mut self, station: u64) -> Result<Turn, TurnRefusal> {
+    /// Takes the turn of a station with what it holds, which is empty then; the turn is the last of the history. A refused
+    /// turn leaves what is held.
+    pub fn turn(&mut self, station: u64) -> Result<(), TurnRefusal> {
         let station = station_number(station);
         let Some(held) = self.held.get_mut(station as usize) else {
-            return self.clerk.turn(station, &[]);
+            self.clerk.take_turn(station, &[])?;
+            return Ok(());
         };
-        let turn = self.clerk.turn(station, held.as_slice())?;
+        self.clerk.take_turn(station, held.as_slice())?;
         held.clear();
-        Ok(turn)
+        Ok(())
     }
 
     /// Whether the device has failed.

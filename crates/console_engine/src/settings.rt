@@ -1,5 +1,5 @@
 //! What the program is asked for.
-ghost use Rattle.std.specs.Prelude.{◌≡◌, ◌≤◌, ◌↔◌, ◌⊎◌, ◌≢◌, Option, None, Some, IsSome, IfOk, Err};
+ghost use Rattle.std.specs.Prelude.{◌≡◌, ◌≤◌, ◌↔◌, ◌⊎◌, ◌≢◌, Option, None, Some, IsSome, IsTrue, IfOk, Err};
 ghost use Rattle.console_engine.specs.Settings.{IsPlanOf, NamesOnePath};
 
 use thiserror::Error;
@@ -15,6 +15,8 @@ pub struct Options<'a> {
     pub migrate: Option<&'a str>,
     /// How many slots each bank of the device then has: 1 to 1,000,000.
     pub slots: Option<u64>,
+    /// Whether the device is a disk that is taken whatever it holds.
+    pub overwrite: bool,
 }
 
 /// Why words that are well read don't go together. The first that holds is answered.
@@ -29,6 +31,9 @@ pub enum WrongWords {
     /// A file can't be copied onto itself.
     #[error("--migrate needs another path")]
     OnePath,
+    /// There is no disk to write over.
+    #[error("--overwrite needs --device")]
+    OverwriteAlone,
 }
 
 /// A file of an older layout that is copied onto another one, and the slots that each bank of that gets.
@@ -67,8 +72,12 @@ impl<'a> Options<'a> {
             ↔ ((self.entry.migrate ≡ None) × IsSome self.entry.slots) }
         ensures one_path { (result ≡ Err WrongWords.OnePath)
             ↔ (NamesOnePath self.entry × IsSome self.entry.slots) }
+        ensures overwrite_alone { (result ≡ Err WrongWords.OverwriteAlone)
+            ↔ (IsTrue self.entry.overwrite × (self.entry.device ≡ None)
+            × (self.entry.migrate ≡ None) × (self.entry.slots ≡ None)) }
     {
         let upgrade = match (self.migrate, self.device, self.slots) {
+            (None, None, None) if self.overwrite => return Err(WrongWords::OverwriteAlone),
             (None, None, None) => return Ok(Plan::Memory),
             (None, Some(path), None) => return Ok(Plan::File(path)),
             (None, _, Some(_)) => return Err(WrongWords::SlotsAlone),

@@ -52,6 +52,7 @@ fn options_that_do_not_go_together_are_told(rt: HostRuntime) {
         (Some("old"), Some("new"), None, WrongWords::MigrateAlone),
         (None, Some("new"), Some(1), WrongWords::SlotsAlone),
         (Some("one"), Some("one"), Some(1), WrongWords::OnePath),
+        (None, None, None, WrongWords::OverwriteAlone),
     ];
     let sectors = 64;
     for (migrate, device, slots, wrong) in table {
@@ -60,6 +61,7 @@ fn options_that_do_not_go_together_are_told(rt: HostRuntime) {
             sectors,
             migrate,
             slots,
+            overwrite: true,
         };
         assert!(rt; options.plan().err() == Some(wrong));
     }
@@ -68,6 +70,7 @@ fn options_that_do_not_go_together_are_told(rt: HostRuntime) {
         sectors,
         migrate: Some("old"),
         slots: Some(4),
+        overwrite: true,
     };
     let upgrade = match options.plan() {
         Ok(Plan::Upgraded(upgrade)) => (upgrade.old, upgrade.path, upgrade.slots),
@@ -80,6 +83,17 @@ fn options_that_do_not_go_together_are_told(rt: HostRuntime) {
 fn without_words_the_device_has_64_sectors_in_memory(rt: HostRuntime) {
     let alone = options(rt.alloc(), &["console"]).ok();
     assert!(rt; alone.map(|options| (options.sectors, options.device)) == Some((64, None)));
+}
+
+// Whether these words ask for a disk to be written over.
+#[test]
+fn a_disk_is_written_over_where_it_is_asked_for(rt: HostRuntime) {
+    let asked = options(rt.alloc(), &["console", "--overwrite", "--device", "disk"]).ok();
+    assert!(rt;
+        asked.map(|options| (options.overwrite, options.device)) == Some((true, Some("disk")))
+    );
+    let asked = options(rt.alloc(), &["console", "--device", "disk"]).ok();
+    assert!(rt; asked.map(|options| options.overwrite) == Some(false));
 }
 
 #[test]

@@ -1,3 +1,4 @@
+pub mod Disks
 pub mod FailStop
 pub mod ReadBuffer
 pub mod RealFile

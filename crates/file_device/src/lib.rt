@@ -1,8 +1,9 @@
 //! Sectors in a file.
 //!
-//! `FileDevice` is a device on a file of the system. No contract speaks of what a real file holds. What is promised is
-//! that every call is safe and ends, that failures are counted, and that after a failed sync every later call fails.
-//! `ReadAhead` is the buffer that its reads go through: over any device it gives what that device gives.
+//! `FileDevice` is a device on a file of the system, or on a block device, here called a disk. No contract speaks of what
+//! these hold. What is promised is that every call is safe and ends, that failures are counted, and that after a failed
+//! sync every later call fails. `ReadAhead` is the buffer that its reads go through: over any device it gives what that
+//! device gives.
 //!
 //! The test `reads_see_what_was_written` in `src/tests.rt` is an example.
 #![tactic(auto)]
@@ -10,6 +11,8 @@
 mod buffer;
 mod device;
 mod device_file;
+mod disk;
+mod disk_tables;
 mod fail_stop;
 mod growth;
 mod opening;
@@ -23,7 +26,7 @@ pub use device::FileDevice;
 pub use fail_stop::FailStop;
 pub use read_ahead::ReadAhead;
 pub use read_run::ReadRun;
-pub use refusal::FileRefusal;
+pub use refusal::{DeviceRefusal, DiskFault, FileRefusal};
 pub use sector_device::{Device, DeviceFault, SECTOR, Sector};
 pub use sector_file::SectorFile;
 

@@ -10,6 +10,7 @@ use std::process::Abort;
 use std::test::Fail;
 
 mod disk;
+mod disks;
 mod failing;
 mod growth;
 mod opening;

@@ -2,8 +2,10 @@
 ghost use Rattle.std.specs.Prelude.{◌+◌, ◌≤◌, IsErr};
 
 use crate::device_file::DeviceFile;
-use crate::opening::open_sectors;
-use crate::{FileRefusal, SECTOR, SectorFile};
+use crate::disk::Disk as BlockDevice;
+use crate::disk_tables::DeviceNumber;
+use crate::opening::{Wanted, open_sectors};
+use crate::{DeviceRefusal, FileRefusal, SECTOR, SectorFile};
 use std::alloc::{Allocator, Global};
 use std::cell::Cell;
 use std::fs::{Files, Metadata, OpenFile, OpenOptions};
@@ -26,6 +28,8 @@ pub enum Asked {
     Lock,
     /// Tell the file's length.
     Look,
+    /// Tell where the end of a block device is.
+    End,
     /// Give the file this length.
     Length(u64),
     /// Write so many bytes from this one on.
@@ -62,6 +66,8 @@ pub struct Limits {
     pub bytes_a_call: usize,
     /// The number that an opened file has.
     pub number: RawFd,
+    /// Whether the file is a block device.
+    pub is_disk: bool,
 }
 
 /// A disk that fails nowhere.
@@ -70,6 +76,7 @@ pub const WHOLE: Limits = Limits {
     reason: ErrorKind::TimedOut,
     bytes_a_call: usize::MAX,
     number: 3,
+    is_disk: false,
 };
 
 impl<'a> Disk<'a> {
@@ -88,7 +95,22 @@ impl<'a> Disk<'a> {
 
     /// Opens a file with five sectors, which grows by pieces of two.
     pub fn open_five(&'a self, path: &str) -> Result<SectorFile<Opened<'a>>, FileRefusal> {
-        open_sectors(&OnDisk { disk: self }, path, 5, &[[0; SECTOR]; 2])
+        Ok(self.open_any(path, false)?)
+    }
+
+    /// Opens a file or a disk with five sectors, or a disk that may be written over, and looks at the first two of it.
+    pub fn open_any(
+        &'a self,
+        path: &str,
+        overwrite: bool,
+    ) -> Result<SectorFile<Opened<'a>>, DeviceRefusal> {
+        let wanted = Wanted {
+            path,
+            sectors: 5,
+            overwrite,
+        };
+        let files = OnDisk { disk: self };
+        open_sectors(&files, self.alloc, wanted, &mut [[0; SECTOR]; 2])
     }
 
     /// The disk with a file of these bytes.
@@ -159,6 +181,13 @@ fn unsupported<T>() -> io::Result<T>
     Err(io::Error::from(ErrorKind::Unsupported))
 }
 
+// Of what a system tells there is nothing.
+fn missing<T>() -> io::Result<T>
+    ensures { IsErr result }
+{
+    Err(io::Error::from(ErrorKind::NotFound))
+}
+
 impl<'a> Files for OnDisk<'a> {
     type File = Opened<'a>;
 
@@ -166,6 +195,9 @@ impl<'a> Files for OnDisk<'a> {
 
     fn open_file(&self, how: &OpenOptions, path: &str) -> io::Result<Opened<'a>> {
         how.check()?;
+        if path.starts_with("/proc/") || path.starts_with("/sys/") {
+            return missing();
+        }
         let disk = self.disk;
         let is_folder = path == disk.folder && !how.asks_write();
         if is_folder {
@@ -178,7 +210,7 @@ impl<'a> Files for OnDisk<'a> {
         } else {
             disk.ask(Asked::Open)?;
             if !disk.there.get() {
-                return Err(io::Error::from(ErrorKind::NotFound));
+                return missing();
             }
         }
         Ok(Opened {
@@ -189,7 +221,7 @@ impl<'a> Files for OnDisk<'a> {
     }
 
     fn open_dir(&self, _path: &str) -> io::Result<Opened<'a>> {
-        unsupported()
+        missing()
     }
 
     fn metadata(&self, _path: &str) -> io::Result<Metadata> {
@@ -304,6 +336,18 @@ impl AsRawFd for Opened<'_> {
 impl DeviceFile for Opened<'_> {
     fn try_lock(&self) -> io::Result<()> {
         self.ask(Asked::Lock)
+    }
+
+    fn disk(&self, metadata: &Metadata) -> io::Result<Option<BlockDevice>> {
+        if !self.disk.limits.get().is_disk {
+            return Ok(None);
+        }
+        self.ask(Asked::End)?;
+        let number = DeviceNumber::from(0x701);
+        Ok(Some(BlockDevice {
+            length: metadata.len(),
+            number,
+        }))
     }
 }
 

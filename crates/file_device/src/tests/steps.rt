@@ -1,7 +1,8 @@
 // What an opening asks of a disk, step by step, and what it does where a step fails.
 use super::disk::{Asked, Disk, Limits, OnDisk, WHOLE};
 use crate::device::open_device;
-use crate::{Device, FileRefusal};
+use crate::opening::Wanted;
+use crate::{Device, DeviceRefusal, FileRefusal};
 use std::alloc::Global;
 use std::io::ErrorKind;
 use std::process::Abort;
@@ -304,11 +305,19 @@ fn without_another_number_the_file_is_refused(rt: HostRuntime) -> Result<(), Fai
 #[test]
 fn memory_is_taken_before_the_disk_is_asked(rt: HostRuntime) -> Result<(), Fail> {
     let disk = Disk::new(rt.alloc(), "ledger", ".", WHOLE);
-    let opened = open_device(&OnDisk { disk: &disk }, rt.alloc(), "ledger", 5);
+    let wanted = Wanted {
+        path: "ledger",
+        sectors: 5,
+        overwrite: false,
+    };
+    let opened = open_device(&OnDisk { disk: &disk }, rt.alloc(), wanted);
     let asked = disk.take_asked().len();
     match opened {
         Ok(device) => assert!(rt; (device.sectors(), asked) == (5, 9)),
-        Err(refusal) => assert!(rt; (refusal, asked) == (FileRefusal::Memory, 0)),
+        Err(refusal) => {
+            let memory = DeviceRefusal::File(FileRefusal::Memory);
+            assert!(rt; (refusal, asked) == (memory, 0));
+        }
     }
     Ok(())
 }

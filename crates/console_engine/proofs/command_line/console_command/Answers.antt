@@ -8,4 +8,5 @@ returns-clause-words c =
     let first_is = c.in_ok-arg.ensures.shape c.option-device.ensures.own ∙ ap₂ with_rule start_is c.option-device.ensures.rule in
     let second_is = c.in_ok-arg-2.ensures.shape c.sectors_of.ensures.own ∙ ap₂ with_rule first_is c.sectors_of.ensures.rule in
     let third_is = c.in_ok-arg-3.ensures.shape c.option-migrate.ensures.own ∙ ap₂ with_rule second_is c.option-migrate.ensures.rule in
-    c.in_ok-command.ensures.shape c.slots_of.ensures.own ∙ ap₂ with_rule third_is c.slots_of.ensures.rule
+    let fourth_is = c.in_ok-arg-4.ensures.shape c.slots_of.ensures.own ∙ ap₂ with_rule third_is c.slots_of.ensures.rule in
+    c.in_ok-command.ensures.shape c.overwrite_of.ensures.own ∙ ap₂ with_rule fourth_is c.overwrite_of.ensures.rule

@@ -37,6 +37,18 @@ returns-clause-migrate c =
     (c.in_ok-matches.ensures.ok.2 (ap is_simple c.in_ok-command.ensures.words ∙ console_is_simple)).0 ∙ ap (λ (a : App). matches_of a words) c.in_ok-command.ensures.words in
     c.get_str-migrate.ensures ∙ first_value-rows (found_of c.in_ok-matches.matches) (codes "migrate") ∙ ap (first_of (codes "migrate")) rows_are
 
+pub returns-clause-overwrite : goal.returns-clause-overwrite
+returns-clause-overwrite c =
+    let words : List Text = map (λ word. word.now) c.args.words.now in
+    let rows_are : rows_of (found_of c.in_ok-matches.matches) ≡ matches_of console words =
+    (c.in_ok-matches.ensures.ok.2 (ap is_simple c.in_ok-command.ensures.words ∙ console_is_simple)).0 ∙ ap (λ (a : App). matches_of a words) c.in_ok-command.ensures.words in
+    let text_is = one_text-rows (found_of c.in_ok-matches.matches) (codes "overwrite") ∙ ap (one_of (codes "overwrite")) rows_are in
+    record {
+      used = λ e. c.get_flag-overwrite.ensures.value (text_is ∙ e);
+      unused = λ e. c.get_flag-overwrite.ensures.other (text_is ∙ e);
+      none = λ e. c.get_flag-overwrite.ensures.none (text_is ∙ e);
+    }
+
 pub returns-clause-slots : goal.returns-clause-slots
 returns-clause-slots c =
     let words : List Text = map (λ word. word.now) c.args.words.now in
