@@ -13,10 +13,10 @@ use std::sync::atomic::{AtomicBool, Ordering};
 use std::thread;
 
 /// How often a held sync looks for its leave.
-const LOOKS: u32 = 10_000_000;
+const LOOKS: u32 = 100_000_000;
 
 /// After how many looks it lets other threads run. On a busy machine that takes milliseconds, and a look nanoseconds.
-const LOOKS_IN_A_ROW: u32 = 10_000;
+const LOOKS_IN_A_ROW: u32 = 1_000;
 
 /// The two flags between a held sync and whoever lets it go. Nothing is claimed of them.
 #[derive(Debug, Default, Drop)]
@@ -49,7 +49,7 @@ impl HeldFlags {
 }
 
 /// A device whose k-th sync, counted from 0 since it was made, waits for a leave: it raises the flag `begun`, and looks
-/// for the flag `go` at most 10,000,000 times. Where it sees it the sync is passed on, else it fails without reaching
+/// for the flag `go` at most 100,000,000 times. Where it sees it the sync is passed on, else it fails without reaching
 /// the inner device. Every other call is passed on. The device is honest exactly if the inner device is.
 #[derive(Debug, Drop)]
 pub struct Held<D: Device> {

@@ -24,7 +24,8 @@ const NEVER: u64 = 5;
 /// More than `ask` makes, so that a call too many is noted.
 const ROOM: usize = 16;
 
-const LOOKS: u32 = 10_000_000;
+/// How often a thread is looked for. On a busy machine it may start some hundred milliseconds late.
+const LOOKS: u32 = 100_000_000;
 
 type Behind = Noting<Fuse<MemoryDevice>>;
 
@@ -191,7 +192,7 @@ fn give_leave(flags: &HeldFlags) -> bool {
             flags.go.store(true, Ordering::SeqCst);
             return true;
         }
-        if look % 10_000 == 0 {
+        if look % 1_000 == 0 {
             yield_now();
         }
     }

@@ -11,7 +11,7 @@ use std::test::Fail;
 use std::thread::yield_now;
 use test_scenes::{deposit, formatted, line};
 
-const LOOKS: u32 = 10_000_000;
+const LOOKS: u32 = 100_000_000;
 
 // Gives leave to the held sync when station 1 has gathered for the first time, and then looks whether it has begun.
 #[derive(Drop)]
@@ -33,7 +33,7 @@ impl Gate for BesideSync {
                 self.seen.store(true, Ordering::SeqCst);
                 return;
             }
-            if look % 10_000 == 0 {
+            if look % 1_000 == 0 {
                 yield_now();
             }
         }
