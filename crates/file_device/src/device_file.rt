@@ -11,6 +11,9 @@ pub(crate) trait DeviceFile: OpenFile + FileExt + AsRawFd {
     /// Locks the file, if nobody else has it, for as long as it is open.
     fn try_lock(&self) -> io::Result<()>;
 
+    /// Keeps off those who would lock it so, for as long as it is open. Others may do the same.
+    fn try_lock_shared(&self) -> io::Result<()>;
+
     /// The block device that it is, if it is one. Its metadata have no length of it: that is where its end is.
     fn disk(&self, metadata: &Metadata) -> io::Result<Option<Disk>>;
 }
@@ -18,6 +21,10 @@ pub(crate) trait DeviceFile: OpenFile + FileExt + AsRawFd {
 impl DeviceFile for File {
     fn try_lock(&self) -> io::Result<()> {
         File::try_lock(self).map_err(io::Error::from)
+    }
+
+    fn try_lock_shared(&self) -> io::Result<()> {
+        File::try_lock_shared(self).map_err(io::Error::from)
     }
 
     fn disk(&self, metadata: &Metadata) -> io::Result<Option<Disk>> {

@@ -49,7 +49,7 @@ pub(crate) fn open_disk<F: DeviceFile + Drop, R: Files<File = F>>(
 }
 
 /// How many sectors a disk of so many bytes has, if it has as many as are asked for.
-fn disk_sectors(length: u64, asked: u64) -> Result<u64, DeviceRefusal>
+pub(crate) fn disk_sectors(length: u64, asked: u64) -> Result<u64, DeviceRefusal>
     ensures sectors { IfOk result (λ sectors. sectors ≡ length / 512) }
     ensures enough { IfOk result (λ sectors. asked ≤ sectors) }
     ensures fits { IfOk result (λ sectors. sectors * 512 < 2 ^ 63) }

@@ -13,6 +13,7 @@ mod disk;
 mod disks;
 mod failing;
 mod growth;
+mod looking;
 mod opening;
 mod steps;
 mod transfers;

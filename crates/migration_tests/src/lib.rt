@@ -1,11 +1,13 @@
-//! Tests of devices of layouts 1 and 2: what they are read as, and what they are copied to. The devices are written by the
-//! tables of the formats, and in no word of the crates that are tested.
+//! Tests of devices of layouts 1 and 2: what they are read as, and what they are copied to; and of what is listed of each
+//! layout. The older devices are written by the tables of the formats, and in no word of the crates that are tested.
 #![tactic(auto)]
 
 #[cfg(test)]
 mod faults;
 #[cfg(test)]
 mod liar;
+#[cfg(test)]
+mod listings;
 #[cfg(test)]
 mod old_devices;
 #[cfg(test)]

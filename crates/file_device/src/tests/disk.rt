@@ -4,8 +4,11 @@ ghost use Rattle.std.specs.Prelude.{◌+◌, ◌≤◌, IsErr};
 use crate::device_file::DeviceFile;
 use crate::disk::Disk as BlockDevice;
 use crate::disk_tables::DeviceNumber;
+use crate::looking::open_to_look;
 use crate::opening::{Wanted, open_sectors};
-use crate::{DeviceRefusal, FileRefusal, SECTOR, SectorFile};
+use crate::{
+    DeviceRefusal, FileRefusal, Locking, LookRefusal, ReadAhead, ReadOnly, SECTOR, SectorFile,
+};
 use std::alloc::{Allocator, Global};
 use std::cell::Cell;
 use std::fs::{Files, Metadata, OpenFile, OpenOptions};
@@ -19,6 +22,8 @@ use std::os::unix::fs::FileExt;
 pub enum Asked {
     /// Open the file, which is there or not.
     Open,
+    /// Open the file, which is there or not, for reading alone.
+    OpenToRead,
     /// Open the file, and make it where it isn't there.
     Make,
     /// Open its folder.
@@ -26,6 +31,7 @@ pub enum Asked {
     /// Give the file another number.
     Move,
     Lock,
+    LockShared,
     /// Tell the file's length.
     Look,
     /// Tell where the end of a block device is.
@@ -111,6 +117,14 @@ impl<'a> Disk<'a> {
         };
         let files = OnDisk { disk: self };
         open_sectors(&files, self.alloc, wanted, &mut [[0; SECTOR]; 2])
+    }
+
+    /// Opens its file for reading alone.
+    pub fn look(
+        &'a self,
+        locking: Locking,
+    ) -> Result<ReadOnly<ReadAhead<SectorFile<Opened<'a>>>>, LookRefusal> {
+        open_to_look(&OnDisk { disk: self }, self.alloc, self.path, locking)
     }
 
     /// The disk with a file of these bytes.
@@ -202,13 +216,17 @@ impl<'a> Files for OnDisk<'a> {
         let is_folder = path == disk.folder && !how.asks_write();
         if is_folder {
             disk.ask(Asked::OpenFolder)?;
-        } else if path != disk.path || !how.asks_read() || !how.asks_write() {
+        } else if path != disk.path || !how.asks_read() {
             return unsupported();
         } else if how.asks_create() {
             disk.ask(Asked::Make)?;
             disk.there.set(true);
         } else {
-            disk.ask(Asked::Open)?;
+            disk.ask(if how.asks_write() {
+                Asked::Open
+            } else {
+                Asked::OpenToRead
+            })?;
             if !disk.there.get() {
                 return missing();
             }
@@ -224,8 +242,11 @@ impl<'a> Files for OnDisk<'a> {
         missing()
     }
 
-    fn metadata(&self, _path: &str) -> io::Result<Metadata> {
-        unsupported()
+    fn metadata(&self, path: &str) -> io::Result<Metadata> {
+        if path != self.disk.path || !self.disk.there.get() {
+            return missing();
+        }
+        Ok(Metadata::of_file(0))
     }
 
     fn symlink_metadata(&self, _path: &str) -> io::Result<Metadata> {
@@ -336,6 +357,10 @@ impl AsRawFd for Opened<'_> {
 impl DeviceFile for Opened<'_> {
     fn try_lock(&self) -> io::Result<()> {
         self.ask(Asked::Lock)
+    }
+
+    fn try_lock_shared(&self) -> io::Result<()> {
+        self.ask(Asked::LockShared)
     }
 
     fn disk(&self, metadata: &Metadata) -> io::Result<Option<BlockDevice>> {
