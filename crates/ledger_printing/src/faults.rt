@@ -1,0 +1,34 @@
+//! Why printing ends early.
+use ledger_reading::ReadRefusal;
+use script_streams::StreamFault;
+use std::alloc::AllocError;
+use thiserror::Error;
+
+/// Why a journal wasn't printed to its end. What was printed stands.
+#[derive(Clone, Copy, Debug, PartialEq, Eq, Error)]
+pub enum PrintFault {
+    /// The ledger couldn't be read again, or isn't what it was.
+    #[error("{0}")]
+    Read(ReadRefusal),
+    /// The output couldn't be written, or there was no memory for it.
+    #[error("{0}")]
+    Stream(StreamFault),
+}
+
+impl From<ReadRefusal> for PrintFault {
+    fn from(refusal: ReadRefusal) -> Self {
+        PrintFault::Read(refusal)
+    }
+}
+
+impl From<StreamFault> for PrintFault {
+    fn from(fault: StreamFault) -> Self {
+        PrintFault::Stream(fault)
+    }
+}
+
+impl From<AllocError> for PrintFault {
+    fn from(_: AllocError) -> Self {
+        PrintFault::Stream(StreamFault::Memory)
+    }
+}

@@ -1,0 +1,80 @@
+//! The parts of an entry.
+use crate::kind::Kind;
+use ledger_reading::{Batch, Entry};
+use std::alloc::{AllocError, Global};
+
+/// The parts of an entry; those that its kind hasn't are `None`.
+#[derive(Clone, Copy, Debug, PartialEq, Eq)]
+pub(crate) struct Parts {
+    pub(crate) kind: Kind,
+    /// The account that it takes from or seals.
+    pub(crate) from: Option<u32>,
+    /// The account that it brings to.
+    pub(crate) to: Option<u32>,
+    pub(crate) amount: Option<u64>,
+    pub(crate) reference: u64,
+}
+
+impl From<&Entry> for Parts {
+    fn from(entry: &Entry) -> Parts {
+        match *entry {
+            Entry::Deposit {
+                to,
+                amount,
+                reference,
+            } => Parts {
+                kind: Kind::Deposit,
+                from: None,
+                to: Some(to),
+                amount: Some(amount),
+                reference,
+            },
+            Entry::Withdraw {
+                from,
+                amount,
+                reference,
+            } => Parts {
+                kind: Kind::Withdraw,
+                from: Some(from),
+                to: None,
+                amount: Some(amount),
+                reference,
+            },
+            Entry::Transfer {
+                from,
+                to,
+                amount,
+                reference,
+            } => Parts {
+                kind: Kind::Transfer,
+                from: Some(from),
+                to: Some(to),
+                amount: Some(amount),
+                reference,
+            },
+            Entry::Seal { account, reference } => Parts {
+                kind: Kind::Seal,
+                from: Some(account),
+                to: None,
+                amount: None,
+                reference,
+            },
+        }
+    }
+}
+
+/// The accounts that entries name, ascending, each once.
+pub(crate) fn accounts_named(alloc: Global, entries: &Batch) -> Result<Vec<u32>, AllocError> {
+    let mut accounts = Vec::new(alloc);
+    for entry in entries {
+        let parts = Parts::from(entry);
+        for account in [parts.from, parts.to] {
+            if let Some(account) = account {
+                accounts.push(account)?;
+            }
+        }
+    }
+    accounts.sort()?;
+    accounts.dedup();
+    Ok(accounts)
+}

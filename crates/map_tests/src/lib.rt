@@ -1,0 +1,22 @@
+//! Tests of where damage is found, and of the picture of a device. The devices are written by the tables of the formats, and
+//! in no word of the crates that are tested.
+#![tactic(auto)]
+
+#[cfg(test)]
+mod banks;
+#[cfg(test)]
+mod drawings;
+#[cfg(test)]
+mod faults;
+#[cfg(test)]
+mod images;
+#[cfg(test)]
+mod older;
+#[cfg(test)]
+mod places;
+#[cfg(test)]
+mod slots;
+#[cfg(test)]
+mod superblocks;
+#[cfg(test)]
+mod sweeps;

@@ -1,0 +1,48 @@
+//! A writer that tells whether its reader went away.
+use std::io;
+use std::io::{ErrorKind, Write};
+
+/// A writer of which is known whether it failed since nobody reads it any more.
+#[derive(Drop)]
+pub struct Watched<'a, W: Write> {
+    writer: &'a mut W,
+    closed: bool,
+}
+
+impl<'a, W: Write> Watched<'a, W> {
+    /// A writer that hasn't failed yet.
+    pub fn over(writer: &'a mut W) -> Watched<'a, W> {
+        Watched {
+            writer,
+            closed: false,
+        }
+    }
+
+    /// Whether a call was answered that the reader has closed its end.
+    pub fn is_closed(&self) -> bool {
+        self.closed
+    }
+
+    // Takes note of a call's answer.
+    fn note<T>(&mut self, answer: &io::Result<T>) {
+        if let Err(error) = answer {
+            if error.kind() == ErrorKind::BrokenPipe {
+                self.closed = true;
+            }
+        }
+    }
+}
+
+impl<W: Write> Write for Watched<'_, W> {
+    fn write(&mut self, buf: &[u8]) -> io::Result<usize> {
+        let answer = self.writer.write(buf);
+        self.note(&answer);
+        answer
+    }
+
+    fn flush(&mut self) -> io::Result<()> {
+        let answer = self.writer.flush();
+        self.note(&answer);
+        answer
+    }
+}
