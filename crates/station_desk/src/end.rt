@@ -12,6 +12,8 @@ pub enum End {
     Stopped,
     /// It had no privilege in as many tries in a row as it was given.
     Tries,
+    /// It was sent home.
+    Closed,
     /// Its last turn was refused for this reason.
     Refused(TurnRefusal),
 }

@@ -9,6 +9,7 @@
 
 mod desk_end;
 mod end;
+mod errand;
 mod feed;
 mod gate;
 mod giving;
@@ -21,6 +22,7 @@ mod stations;
 
 pub use desk_end::Desk;
 pub use end::End;
+pub use errand::Errand;
 pub use feed::Feed;
 pub use gate::Gate;
 pub use line_lock::{Count, Office, Opening, Seat};

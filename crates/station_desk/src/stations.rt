@@ -8,6 +8,7 @@ ghost use Rattle.station_desk.specs.Run.{HasRun, HaveRun};
 
 use crate::desk_end::Desk;
 use crate::end::End;
+use crate::errand::Errand;
 use crate::gate::Gate;
 use line_lock::{Count, Office, Opening, Seat, WithinRefusal};
 use sector_device::Device;
@@ -53,6 +54,7 @@ fn round<D: Device, L: Count + Opening, G: Gate, R: Wait>(
     let refusal = match office.turn_within(rt, seat, entries, moves) {
         Ok(_) => {
             desk.settle(newest(seat));
+            gate.took(newest(seat));
             gate.answered(seat.station());
             return Ok(());
         }
@@ -86,6 +88,7 @@ fn end_of(refusal: WithinRefusal) -> Option<End>
         → refusal ≡ WithinRefusal.Turn why }
     ensures stopped { result ≢ Some End.Stopped }
     ensures tries { result ≢ Some End.Tries }
+    ensures closed { result ≢ Some End.Closed }
 {
     match refusal {
         WithinRefusal::Reached => Some(End::Reached),
@@ -119,11 +122,15 @@ fn work<D: Device, L: Count + Opening, G: Gate, R: Wait>(
     ensures refused { result ≢ End.Refused TurnRefusal.NotPrivileged }
     ensures there { result ≢ End.Refused TurnRefusal.NoStation }
     ensures started { result ≢ End.NotStarted }
+    ensures closed { result ≡ End.Closed → G.closes gate.now }
 {
     let mut refused = 0;
     for _ in rt.forever() {
         if stop.load(Ordering::SeqCst) {
             return End::Stopped;
+        }
+        if gate.errand(rt, seat.station()) == Errand::Close {
+            return End::Closed;
         }
         let Err(refusal) = round(rt, office, seat, desk, gate, moves) else {
             refused = 0;
@@ -141,7 +148,7 @@ fn work<D: Device, L: Count + Opening, G: Gate, R: Wait>(
     unreachable!()
 }
 
-// The run of one station; one that ends otherwise than as Reached stops the others.
+// The run of one station; one that ends otherwise than as Reached or Closed stops the others.
 fn run_station<D: Device, L: Count + Opening, G: Gate, R: Wait>(
     rt: &R,
     office: &Office<D, L>,
@@ -151,20 +158,21 @@ fn run_station<D: Device, L: Count + Opening, G: Gate, R: Wait>(
     moves: u64,
     tries: u64,
 )
-    ensures { HasRun L.device L.line station.old.seat station.new.seat station.old.desk station.new.desk station.new.end moves }
+    ensures { HasRun L.device L.line station.old.seat station.new.seat station.old.desk station.new.desk station.new.end moves (G.closes gate.now) }
 {
     let Station { seat, desk, end } = station;
     *end = work(rt, office, seat, desk, gate, stop, moves, tries);
-    if *end != End::Reached {
+    if *end != End::Reached && *end != End::Closed {
         stop.store(true, Ordering::SeqCst);
     }
+    gate.ended(seat.station());
 }
 
-/// Runs the stations of an office, one thread for each, until the history holds so many turns. A station repeats: it
-/// gathers, asks for its turn within `moves`, and answers. Where it isn't its turn it lets other threads go on and asks
+/// Runs the stations of an office, one thread for each, until the history holds so many turns. A station repeats what the
+/// gate tells it: it gathers, asks for its turn within `moves`, and answers; or it is sent home. Where it isn't its turn it lets other threads go on and asks
 /// again, at most `tries` times in a row. Where the device fails it answers what it holds that it is undecided; after
 /// any other refusal what it holds stays held, for it was never written. A station that ends otherwise than as
-/// [`End::Reached`] makes the others end as [`End::Stopped`] at their next round. Where the system refuses a thread,
+/// [`End::Reached`] or [`End::Closed`] makes the others end as [`End::Stopped`] at their next round. Where the system refuses a thread,
 /// stations run one after another. The call may wait.
 pub fn run_stations<
     D: Device + Send,
@@ -172,7 +180,7 @@ pub fn run_stations<
     G: Gate + Sync,
     R: Threads + Wait + Sync,
 >(rt: &R, office: &Office<D, L>, stations: &mut [Station<L>], gate: &G, moves: u64, tries: u64)
-    ensures { HaveRun L.device L.line stations.old stations.new moves }
+    ensures { HaveRun L.device L.line stations.old stations.new moves (G.closes gate.now) }
 {
     if stations.is_empty() {
         return;

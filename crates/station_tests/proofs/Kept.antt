@@ -38,13 +38,13 @@ kept-feeds {n = n} {m = m} {feeds = feeds} {new = new} {stations = stations} kep
     })
 
 -- the stations were lent, and have run
-pub kept-stations : {X : Type 0} {device : DeviceState} {from : Configuration} {n m moves : ℕ} {feeds : List FeedState} {stations slice new : List (Station X)} → Kept n m feeds stations
-    → slice ≡ stations → HaveRun device from slice new moves → Kept n m feeds (lent m stations new)
-kept-stations {device = device} {from = from} {n = n} {m = m} {moves = moves} {feeds = feeds} {stations = stations} {new = new} kept is ran =
-    let ran : HaveRun device from stations new moves = subst (λ stations. HaveRun device from stations new moves) is ran in
+pub kept-stations : {X : Type 0} {device : DeviceState} {from : Configuration} {n m moves : ℕ} {closes : Type 0} {feeds : List FeedState} {stations slice new : List (Station X)} → Kept n m feeds stations
+    → slice ≡ stations → HaveRun device from slice new moves closes → Kept n m feeds (lent m stations new)
+kept-stations {device = device} {from = from} {n = n} {m = m} {moves = moves} {closes = closes} {feeds = feeds} {stations = stations} {new = new} kept is ran =
+    let ran : HaveRun device from stations new moves closes = subst (λ stations. HaveRun device from stations new moves closes) is ran in
     let back = sym (lent-whole m stations new kept.all_stations ran.as_many) in
     subst (λ stations. Kept n m feeds stations) back (record {
       all_feeds = kept.all_feeds;
       all_stations = kept.all_stations ∙ sym ran.as_many;
-      paired = stay_paired feeds stations new moves ran kept.paired;
+      paired = stay_paired feeds stations new moves closes ran kept.paired;
     })

@@ -104,7 +104,7 @@ fn run_beside<D: Device + Send, L: Count + Opening + Send + Sync, R: Wait + Thre
     stations: &mut [Station<L>],
     clients: &mut [Client],
 )
-    ensures ran { HaveRun L.device L.line stations.old stations.new MOVES }
+    ensures ran { HaveRun L.device L.line stations.old stations.new MOVES (Unit {0}) }
     ensures stand { AllStandAt (map (λ client. client.feed) clients.old) (map (λ client. client.feed) clients.new) }
 {
     let ended = AtomicBool::new(false);
@@ -115,7 +115,7 @@ fn run_beside<D: Device + Send, L: Count + Opening + Send + Sync, R: Wait + Thre
             ensures { AllStandAt (map (λ client. client.feed) clients.entry.now) (map (λ client. client.feed) clients.exit.now) }
         { work_all(rt, clients, &ended) },
         &mut ||
-            ensures { HaveRun L.device L.line stations.entry.now stations.exit.now MOVES }
+            ensures { HaveRun L.device L.line stations.entry.now stations.exit.now MOVES (Unit {0}) }
         {
             run_stations(rt, office, stations, &NoGate, MOVES, TRIES);
             ended.store(true, Ordering::SeqCst);
