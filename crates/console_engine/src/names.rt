@@ -13,7 +13,9 @@ impl fmt::Display for EndName {
         let end = self.0;
         match end {
             End::Refused(refusal) => write!(f, "{refusal:?}"),
-            End::NotStarted | End::Reached | End::Stopped | End::Tries => write!(f, "{end:?}"),
+            End::NotStarted | End::Reached | End::Stopped | End::Tries | End::Closed => {
+                write!(f, "{end:?}")
+            }
         }
     }
 }

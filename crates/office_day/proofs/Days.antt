@@ -35,12 +35,12 @@ pub record Parts : Type 0 where
   pub days : List StationDay
 
 -- How a day went in an office that was opened on that device with that line: what each station holds is handed in, it runs
--- from a new seat and a fresh desk, the history bears out what its seat then holds, and its requests are reconciled.
+-- from a new seat and a fresh desk, nobody sends it home, the history bears out what its seat then holds, and its requests are reconciled.
 pub record Went (device : DeviceState) (from opening : Configuration) (history : List Turn) (moves : ℕ) (parts : Parts) : Type 0 where
   pub handed : AllZip HasHandedIn parts.held parts.feeds
   pub together : AllZip AreTogether parts.feeds parts.desks
   pub fresh : All IsFresh parts.desks
-  pub served : HaveServed device from (new_seats (length parts.held)) parts.desks parts.after parts.left moves
+  pub served : HaveServed device from (new_seats (length parts.held)) parts.desks parts.after parts.left moves ⊥
   pub borne_out : All (IsBorneOut opening history) parts.after
   pub reconciled : AreReconciled parts.feeds parts.left parts.days
 
@@ -64,7 +64,7 @@ record One (device : DeviceState) (from opening : Configuration) (history : List
   sat : seat ≡ new_seat i
   handed : HasHandedIn entries feed
   fresh : IsFresh before
-  ran : HasRun device from seat after before left.desk left.end moves
+  ran : HasRun device from seat after before left.desk left.end moves ⊥
   out : IsBorneOut opening history after
   done : IsReconciled feed left day
 
@@ -93,6 +93,7 @@ had_day {history = history} {moves = moves} {i = i} one =
       within = subst (All (λ turn. turn.index < moves)) turns worked.within;
       reached = λ is. omega (arith, one.ran.reached (sym one.done.end ∙ is), one.out.reached);
       started = λ is. one.ran.started (sym one.done.end ∙ is);
+      not_sent_home = λ is. one.ran.closed (sym one.done.end ∙ is);
     }
 
 pub had_their_day : {device : DeviceState} {from opening : Configuration} {history : List Turn} {moves : ℕ} {parts : Parts}

@@ -4,3 +4,4 @@ pub mod Limits
 pub mod Pairing
 pub mod Served
 pub mod RefusedOpening
+pub mod SpanLaws

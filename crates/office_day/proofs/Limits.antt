@@ -17,7 +17,7 @@ use Rattle.line_lock.specs.Seat.{SeatState}
 use Rattle.line_lock.specs.Lent.{new_seats}
 use Rattle.line_lock.specs.Account.{turns_of}
 use Rattle.station_desk.specs.declared.end.End.{End}
-use Rattle.station_desk.specs.declared.end.End.TheVariants.{NotStarted, Reached, Stopped, Tries, Refused}
+use Rattle.station_desk.specs.declared.end.End.TheVariants.{NotStarted, Reached, Stopped, Tries, Closed, Refused}
 use Rattle.station_desk.specs.Rings.{AreTogether}
 use Rattle.office_day.specs.declared.reconciled.StationDay.{StationDay}
 use Rattle.office_day.specs.declared.seated.Left.{Left}
@@ -26,7 +26,7 @@ use Rattle.office_day.specs.Day.{HadTheirDay, failures, failures_told}
 use Rattle.office_day.proofs.Days.{Parts, Went, length-new_seats, new_seat_at}
 use Rattle.office_day.proofs.Lists.{sum_by-alike, first}
 
-abbrev IsBelow : ℕ → Turn → Type 0
+abbrev pub IsBelow : ℕ → Turn → Type 0
 IsBelow moves turn = turn.index < moves
 
 -- a turn that is one of its station's
@@ -42,7 +42,7 @@ rest_below true moves turn turns all = λ k d lt. all (suc k) d (omega (arith, l
 rest_below false moves turn turns all = all
 
 -- where those of each station are below the limit
-all_below : (moves n : ℕ) (history : List Turn) → All (λ turn. turn.station < n) history
+pub all_below : (moves n : ℕ) (history : List Turn) → All (λ turn. turn.station < n) history
     → ((s : ℕ) → s < n → All (IsBelow moves) (turns_of s history)) → All (IsBelow moves) history
 all_below moves n [] there each = All-nil (IsBelow moves)
 all_below moves n (turn ∷ turns) there each =
@@ -51,7 +51,7 @@ all_below moves n (turn ∷ turns) there each =
     (λ s low. rest_below (turn.station == s) moves turn (turns_of s turns) (each s low)))
 
 -- a legal history with no index beyond the limit
-short : (line : Configuration) (state : State) (history : List Turn) (moves : ℕ) → IsLegal line state history → All (IsBelow moves) history → length history ≤ moves
+pub short : (line : Configuration) (state : State) (history : List Turn) (moves : ℕ) → IsLegal line state history → All (IsBelow moves) history → length history ≤ moves
 short line state [] moves legal all = omega arith
 short line state (turn ∷ turns) moves legal all =
     let last = length turns in
@@ -72,6 +72,7 @@ failures_are NotStarted n one none = none (λ is. absurd (cc))
 failures_are Reached n one none = none (λ is. absurd (cc))
 failures_are Stopped n one none = none (λ is. absurd (cc))
 failures_are Tries n one none = none (λ is. absurd (cc))
+failures_are Closed n one none = none (λ is. absurd (cc))
 failures_are (Refused Faulted) n one none = none (λ is. absurd (cc))
 failures_are (Refused NoStation) n one none = none (λ is. absurd (cc))
 failures_are (Refused NotPrivileged) n one none = none (λ is. absurd (cc))

@@ -9,7 +9,7 @@ use Rattle.turn_clerk.specs.declared.refusals.TurnRefusal.TheVariants.{Device}
 use Rattle.line_lock.specs.Account.{turns_of}
 use Rattle.station_desk.specs.declared.messages.Ask.{Ask}
 use Rattle.station_desk.specs.declared.end.End.{End}
-use Rattle.station_desk.specs.declared.end.End.TheVariants.{NotStarted, Reached, Refused}
+use Rattle.station_desk.specs.declared.end.End.TheVariants.{NotStarted, Reached, Refused, Closed}
 use Rattle.station_desk.specs.Messages.{entries_of, asks_of, outcomes_in, AreNumberedFrom}
 use Rattle.station_desk.specs.Outcomes.{undecided}
 use Rattle.station_desk.specs.Rings.{FeedState, DeskState}
@@ -31,12 +31,14 @@ pub record IsAccountedFor (entries : List Entry) (turns : List Turn) (day : Stat
   pub none_else : day.end ≢ Refused Device → given_up ≡ []
 
 -- A station had its day: all that it held is accounted for by the turns that the history has of it, each of which it took
--- while the history had fewer than `moves`; it ended as Reached only where the history has so many, and it was started.
+-- while the history had fewer than `moves`; it ended as Reached only where the history has so many, it was started, and
+-- nobody sent it home.
 pub record HadDay (history : List Turn) (moves station : ℕ) (entries : List Entry) (day : StationDay) : Type 0 where
   pub account : IsAccountedFor entries (turns_of station history) day
   pub within : All (λ turn. turn.index < moves) (turns_of station history)
   pub reached : day.end ≡ Reached → moves ≤ length history
   pub started : day.end ≢ NotStarted
+  pub not_sent_home : day.end ≢ Closed
 
 -- Each station had its day, with what it held.
 pub record HadTheirDay (history : List Turn) (moves : ℕ) (held : List (List Entry)) (days : List StationDay) : Type 0 where
@@ -67,8 +69,8 @@ pub record AreReconciled (feeds : List FeedState) (left : List Left) (days : Lis
       → IsReconciled (slice_index_or feeds i feed) (slice_index_or left i part) (slice_index_or days i day)
 
 -- The stations at these seats and desks have run, and left what they then had.
-pub record HaveServed (device : DeviceState) (from : Configuration) (seats : List SeatState) (desks : List DeskState) (after : List SeatState) (left : List Left) (moves : ℕ) : Type 0 where
+pub record HaveServed (device : DeviceState) (from : Configuration) (seats : List SeatState) (desks : List DeskState) (after : List SeatState) (left : List Left) (moves : ℕ) (closes : Type 0) : Type 0 where
   pub seats_as_many : length after ≡ length seats
   pub left_as_many : length left ≡ length seats
   pub each : (i : ℕ) (seat : SeatState) (desk : DeskState) (part : Left) → i < length seats
-      → HasRun device from (slice_index_or seats i seat) (slice_index_or after i seat) (slice_index_or desks i desk) (slice_index_or left i part).desk (slice_index_or left i part).end moves
+      → HasRun device from (slice_index_or seats i seat) (slice_index_or after i seat) (slice_index_or desks i desk) (slice_index_or left i part).desk (slice_index_or left i part).end moves closes

@@ -2,3 +2,4 @@ pub mod Counters
 pub mod Left
 pub mod Refusal
 pub mod Day
+pub mod Spans

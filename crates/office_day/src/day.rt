@@ -41,6 +41,8 @@ pub struct Day<D: Device> {
 struct NobodyLooks;
 
 impl Gate for NobodyLooks {
+    ghost closes = { λ _. ⊥ };
+
     fn gathered(&self, _station: u8) {}
 
     fn answered(&self, _station: u8) {}

@@ -11,6 +11,7 @@ mod office_run;
 mod reconciled;
 mod refusals;
 mod seated;
+mod spans;
 
 pub use day::{Day, run_day};
 pub use held_entries::{HELD_LIMIT, HeldEntries};
@@ -21,4 +22,7 @@ pub use office_run::{OfficeRun, run_office};
 pub use reconciled::StationDay;
 pub use refusals::DayRefusal;
 pub use seated::Left;
-pub use station_desk::{Answer, Ask, Desk, End, Entry, EntryRefusal, Gate, Outcome, TurnRefusal};
+pub use spans::{Adjourned, Life, run_spans};
+pub use station_desk::{
+    Answer, Ask, Desk, End, Entry, EntryRefusal, Errand, Gate, Outcome, TurnRefusal,
+};

@@ -40,7 +40,7 @@ all_reconciled-requires g c =
     let ran = c.in-Ok-run.ensures.ran in
     let count = stations c.args.line in
     let alike = desk_for_each c.args.held.now c.in-Ok.feeds.items c.in-Ok.desks.items count c.in-Ok.ensures.handed_in c.in-Ok.ensures.together c.requires.held in
-    stay_together c.in-Ok.feeds.items (new_seats count) c.in-Ok.desks.items ran.0 c.in-Ok-run.run'.1.items c.args.moves
+    stay_together c.in-Ok.feeds.items (new_seats count) c.in-Ok.desks.items ran.0 c.in-Ok-run.run'.1.items c.args.moves ⊥
     c.in-Ok.ensures.together (alike ∙ sym (length-new_seats count)) ran.1
 
 -- the lists of the day
@@ -62,7 +62,7 @@ went g c =
       handed = c.in-Ok.ensures.handed_in;
       together = c.in-Ok.ensures.together;
       fresh = c.in-Ok.ensures.fresh;
-      served = subst (λ (count : ℕ). HaveServed (g.D.Device.state c.args.device) c.args.line (new_seats count) c.in-Ok.desks.items ran.0 c.in-Ok-run.run'.1.items c.args.moves) (sym c.requires.held) ran.1;
+      served = subst (λ (count : ℕ). HaveServed (g.D.Device.state c.args.device) c.args.line (new_seats count) c.in-Ok.desks.items ran.0 c.in-Ok-run.run'.1.items c.args.moves ⊥) (sym c.requires.held) ran.1;
       borne_out = ran.2.borne_out;
       reconciled = c.in-Ok-all_reconciled.ensures;
     }

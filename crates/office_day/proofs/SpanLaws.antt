@@ -1,0 +1,157 @@
+-- Spans of a live office, one after another.
+use Rattle.std.specs.Prelude.{◌≡◌, ◌<◌, ◌≤◌, ℕ, List, [], ◌∷◌, ◌++◌, length, map, All, refl}
+use Rattle.std.specs.List.{slice_index_or}
+use Rattle.std.proofs.Common.{sym, ◌∙◌, ap, subst, arith}
+use Rattle.std.proofs.lemmas.List.{append-nil, length-map, get_or-map}
+use Rattle.std.proofs.lemmas.Grind.{flat_map-append}
+use Rattle.sector_device.specs.Device.{DeviceState}
+use Rattle.four_state.specs.Configuration.{Configuration, stations}
+use Rattle.journal_recovery.specs.State.{State}
+use Rattle.turn_clerk.specs.declared.turns.Turn.{Turn}
+use Rattle.turn_clerk.specs.History.{IsLegal}
+use Rattle.turn_clerk.specs.declared.refusals.TurnRefusal.TheVariants.{Device}
+use Rattle.line_lock.specs.Account.{turns_of, IsBorneOut}
+use Rattle.line_lock.specs.Lent.{new_seats}
+use Rattle.line_lock.specs.Seat.{SeatState, new_seat}
+use Rattle.station_desk.specs.declared.messages.Ask.{Ask}
+use Rattle.station_desk.specs.declared.end.End.TheVariants.{Reached, Refused}
+use Rattle.station_desk.specs.Rings.{DeskState}
+use Rattle.station_desk.specs.Served.{HasServed}
+use Rattle.station_desk.specs.ServedLaws.{served-nothing}
+use Rattle.station_desk.specs.WorkedLaws.{served-joined}
+use Rattle.station_desk.specs.Worked.{HasWorked}
+use Rattle.office_day.specs.declared.seated.Left.{Left}
+use Rattle.office_day.specs.Day.{HaveServed}
+use Rattle.office_day.specs.Spans.{Span, turns_in, IsSpan, AreSpans, LeftAfter, HaveLeft, Adjournment, HasComeTo, HasLived}
+use Rattle.office_day.proofs.Days.{length-new_seats, new_seat_at}
+use Rattle.office_day.proofs.Lists.{first}
+use Rattle.office_day.proofs.Limits.{IsBelow, all_below, short}
+
+-- In an office whose history bears out what its seats hold, a station's own turns are those of the history.
+module _ {device : DeviceState} {from opening : Configuration} {history : List Turn} {moves : ℕ} {closes : Type 0} (count : ℕ) {desks : List DeskState} {after : List SeatState} {left : List Left}
+    (served : HaveServed device from (new_seats count) desks after left moves closes) (out : All (IsBorneOut opening history) after) where
+
+  in_seats : (i : ℕ) → i < count → i < length (new_seats count)
+  in_seats i low = subst (λ n. i < n) (sym (length-new_seats count)) low
+
+  abbrev worked : (i : ℕ) (desk : DeskState) (part : Left) (low : i < count) → let seat = new_seat 0 in
+      HasWorked (slice_index_or (new_seats count) i seat) (slice_index_or after i seat) (slice_index_or desks i desk) (slice_index_or left i part).desk moves ((slice_index_or left i part).end ≡ Refused Device)
+  worked i desk part low = (served.each i (new_seat 0) desk part (in_seats i low)).worked
+
+  own_turns : (i : ℕ) (desk : DeskState) (part : Left) (low : i < count) → (worked i desk part low).turns ≡ turns_of i history
+  own_turns i desk part low =
+      let seat = new_seat 0 in
+      let old = slice_index_or (new_seats count) i seat in
+      let new = slice_index_or after i seat in
+      let did = worked i desk part low in
+      let sat : old ≡ new_seat i = new_seat_at count i seat low in
+      let borne = out i seat (subst (λ n. i < n) (sym served.seats_as_many) (in_seats i low)) in
+      let station : new.station ≡ i = did.station ∙ ap (λ (s : SeatState). s.station) sat in
+      let none : old.turns ≡ [] = ap (λ (s : SeatState). s.turns) sat in
+      sym (did.listed ∙ ap (λ (l : List Turn). l ++ did.turns) none) ∙ borne.turns ∙ ap (λ s. turns_of s history) station
+
+  own_within : (part : Left) (desk : DeskState) → All (λ turn. turn.station < count) history → (s : ℕ) → s < count → All (IsBelow moves) (turns_of s history)
+  own_within part desk there s low = subst (All (IsBelow moves)) (own_turns s desk part low) (worked s desk part low).within
+
+  -- and so the history has no more than were wanted
+  pub is-span : (line : Configuration) (state : State) → All (λ turn. turn.station < count) history → IsLegal line state history → length history ≤ moves
+  is-span line state there legal = short line state history moves legal (all_below moves count history there (λ s low.
+      let some : 0 < length left = omega (arith, low, served.left_as_many, length-new_seats count) in
+      let part = first left some in
+      own_within part part.desk there s low))
+
+  pub own_served : {D : Type 0} (span : Span D) → span.clerk.history ≡ history → (i : ℕ) (desk : DeskState) (part : Left) (low : i < count) → LeftAfter i (span ∷ []) (slice_index_or desks i desk) (slice_index_or left i part)
+  own_served span is i desk part low =
+      let did = worked i desk part low in
+      let turns : did.turns ≡ turns_in i (span ∷ []) = own_turns i desk part low ∙ ap (turns_of i) (sym is) ∙ sym (append-nil (turns_of i span.clerk.history)) in
+      record {
+        given_up = did.given_up;
+        served = subst (λ (l : List Turn). HasServed (slice_index_or desks i desk) (slice_index_or left i part).desk l did.given_up) turns did.served;
+        none_else = λ not. did.undecided not;
+      }
+
+-- the turns of one more span
+turns-more : {D : Type 0} (i : ℕ) (spans : List (Span D)) (span : Span D) → turns_in i spans ++ turns_in i (span ∷ []) ≡ turns_in i (spans ++ span ∷ [])
+turns-more i spans span = sym (flat_map-append (λ (s : Span _). turns_of i s.clerk.history) spans (span ∷ []))
+
+module _ {D : Type 0} (state : D → DeviceState) (moves : ℕ) where
+  -- one more span in a row
+  pub spans-more : (device : D) (from : Configuration) (spans : List (Span D)) (mid : D) (between : Configuration) (span : Span D)
+      → AreSpans state moves device from spans mid between → IsSpan state moves (state mid) between span
+      → AreSpans state moves device from (spans ++ span ∷ []) span.clerk.journal.device span.clerk.line
+  spans-more device from [] mid between span row is =
+      (
+        subst (λ (d : D). IsSpan state moves (state d) from span) row.0
+        (subst (λ (l : Configuration). IsSpan state moves (state mid) l span) row.1 is),
+        (refl, refl),
+      )
+  spans-more device from (before ∷ spans) mid between span row is =
+      (row.0, spans-more before.clerk.journal.device before.clerk.line spans mid between span row.1 is)
+
+  pub nothing_lived : (from : Adjournment D) → HasComeTo state moves from from
+  nothing_lived from = record {
+    spans = [];
+    joined = (refl, refl);
+    given = record { as_many = refl; each = λ i desk low. served-nothing (slice_index_or from.desks i desk) };
+  }
+
+  -- each station left, after one span more, what it gave in all
+  pub left-more : (from mid : Adjournment D) (earlier : HasComeTo state moves from mid) (span : Span D) (parts : List Left)
+      → HaveLeft (span ∷ []) mid.desks parts → HaveLeft (earlier.spans ++ span ∷ []) from.desks parts
+  left-more from mid earlier span parts left = record {
+    as_many = left.as_many ∙ earlier.given.as_many;
+    each = λ i desk part low.
+        let last = left.each i desk part (subst (λ n. i < n) (sym earlier.given.as_many) low) in
+        let far = earlier.given.each i desk low in
+        record {
+          given_up = last.given_up;
+          served = subst (λ (l : List Turn). HasServed (slice_index_or from.desks i desk) (slice_index_or parts i part).desk l last.given_up) (turns-more i earlier.spans span)
+              (served-joined (slice_index_or from.desks i desk) (slice_index_or mid.desks i desk) (slice_index_or parts i part).desk (turns_in i earlier.spans) (turns_in i (span ∷ [])) last.given_up far last.served);
+          none_else = last.none_else;
+        };
+  }
+
+  pub lived : (from before : Adjournment D) → HasComeTo state moves from before → (clerk : Span D) (parts : List Left)
+      → IsSpan state moves (state before.device) before.line clerk → HaveLeft (clerk ∷ []) before.desks parts → HasLived state moves from clerk parts
+  lived from before earlier span parts closed left = record {
+    before = before;
+    earlier = earlier;
+    closed = closed;
+    left = left-more from before earlier span parts left;
+  }
+
+  -- where all turns were taken, the office comes to the next span
+  pub come-further : (from before after : Adjournment D) (earlier : HasComeTo state moves from before) (span : Span D) (parts : List Left)
+      → IsSpan state moves (state before.device) before.line span → HaveLeft (span ∷ []) before.desks parts → All (λ (part : Left). part.end ≡ Reached) parts
+      → after.device ≡ span.clerk.journal.device → after.line ≡ span.audit.last → after.desks ≡ map (λ (part : Left). part.desk) parts
+      → HasComeTo state moves from after
+  come-further from before after earlier span parts closed left reached device line desks =
+      let far = left-more from before earlier span parts left in
+      let desk_of : Left → DeskState = λ part. part.desk in
+      let line_is : span.clerk.line ≡ after.line = sym (line ∙ closed.closed.last) in
+      record {
+        spans = earlier.spans ++ span ∷ [];
+        joined = subst (λ (d : D). AreSpans state moves from.device from.line (earlier.spans ++ span ∷ []) d after.line) (sym device)
+            (subst (λ (l : Configuration). AreSpans state moves from.device from.line (earlier.spans ++ span ∷ []) span.clerk.journal.device l) line_is
+            (spans-more from.device from.line earlier.spans before.device before.line span earlier.joined closed));
+        given = record {
+          as_many = ap length desks ∙ length-map parts desk_of ∙ far.as_many;
+          each = λ i desk low.
+              let there : i < length parts = subst (λ n. i < n) (sym far.as_many) low in
+              let part = first parts (omega (arith, there)) in
+              let gave = far.each i desk part low in
+              let ended = reached i part there in
+              let none : gave.given_up ≡ [] = gave.none_else (λ failed. absurd (cc)) in
+              let at : desk_of (slice_index_or parts i part) ≡ slice_index_or after.desks i desk =
+              sym (get_or-map desk_of parts i part desk there) ∙ ap (λ (l : List DeskState). slice_index_or l i desk) (sym desks) in
+              subst (λ (d : DeskState). HasServed (slice_index_or from.desks i desk) d (turns_in i (earlier.spans ++ span ∷ [])) []) at
+              (subst (λ (asks : List Ask). HasServed (slice_index_or from.desks i desk) (slice_index_or parts i part).desk (turns_in i (earlier.spans ++ span ∷ [])) asks) none gave.served);
+        };
+      }
+
+  -- there is a desk for each station of the line
+  pub desks_enough : (before after : Adjournment D) (span : Span D) (parts : List Left) → length before.desks ≡ stations before.line
+      → IsSpan state moves (state before.device) before.line span → HaveLeft (span ∷ []) before.desks parts
+      → after.line ≡ span.audit.last → after.desks ≡ map (λ (part : Left). part.desk) parts → length after.desks ≡ stations after.line
+  desks_enough before after span parts many closed left line desks =
+      ap length desks ∙ length-map parts (λ (part : Left). part.desk) ∙ left.as_many ∙ many ∙ sym closed.closed.stations ∙ ap stations (sym (line ∙ closed.closed.last))

@@ -1,0 +1,12 @@
+use Rattle.std.proofs.Common.{◌≡◌, length}
+use Rattle.four_state.specs.Configuration.{stations}
+use Rattle.office_day.specs.Spans.{adjourned_to, HasComeTo}
+use Rattle.office_day.proofs.spans.run_spans.Given as goal
+
+-- the spans so far came to the office that is opened next, with a desk for each station
+abbrev pub invariant-loop : goal.invariant-loop
+invariant-loop g l =
+    HasComeTo g.D.Device.state l.moves
+    (adjourned_to l.initial.office.device l.initial.office.line l.initial.office.desks.items)
+    (adjourned_to l.office.device l.office.line l.office.desks.items)
+    × (length l.office.desks.items ≡ stations l.office.line)

@@ -1,0 +1,95 @@
+-- A live office: it is opened, its stations take turns, and it is closed, again and again on one device.
+use Rattle.std.specs.Prelude.{◌≡◌, ◌≢◌, ◌<◌, ◌≤◌, ℕ, List, [], ◌∷◌, ◌++◌, length}
+use Rattle.std.specs.List.{flat_map, slice_index_or}
+use Rattle.sector_device.specs.Device.{DeviceState}
+use Rattle.four_state.specs.Configuration.{Configuration}
+use Rattle.sweep_auditor.specs.declared.moves.Audit.{Audit}
+use Rattle.turn_clerk.specs.declared.turns.Turn.{Turn}
+use Rattle.turn_clerk.specs.declared.refusals.TurnRefusal.TheVariants.{Device}
+use Rattle.turn_clerk.specs.Clerk.{ClerkState}
+use Rattle.line_lock.specs.Account.{turns_of}
+use Rattle.line_lock.specs.declared.lent.OfficeRefusal.{OfficeRefusal}
+use Rattle.line_lock.specs.Lent.{IsClosed, IsRefused, IfOpening, UnlessOpening}
+use Rattle.line_lock.specs.Opening.{WasLeftByClerk}
+use Rattle.station_desk.specs.declared.messages.Ask.{Ask}
+use Rattle.station_desk.specs.declared.end.End.TheVariants.{Refused}
+use Rattle.station_desk.specs.Rings.{DeskState}
+use Rattle.station_desk.specs.Served.{HasServed}
+use Rattle.office_day.specs.declared.seated.Left.{Left}
+
+-- a span: the clerk of a closed office, and the audit
+pub record Span (D : Type 0) : Type 0 where
+  pub clerk : ClerkState D
+  pub audit : Audit
+
+-- the span of that clerk and that audit
+abbrev pub span_of : {D : Type 0} → ClerkState D → Audit → Span D
+span_of clerk audit = record { clerk = clerk; audit = audit }
+
+-- the turns of a station in these spans, in order
+abbrev pub turns_in : {D : Type 0} → ℕ → List (Span D) → List Turn
+turns_in station spans = flat_map (λ span. turns_of station span.clerk.history) spans
+
+-- The span was opened on that device with that line, and closed: what is promised of a closed office holds of it, and it
+-- has at most so many turns.
+pub record IsSpan {D : Type 0} (state : D → DeviceState) (moves : ℕ) (device : DeviceState) (from : Configuration) (span : Span D) : Type 0 where
+  pub closed : IsClosed state device from span.clerk span.audit
+  pub within : length span.clerk.history ≤ moves
+
+-- Spans in a row, from that device and that line on: each was opened on the device and the line that the one before it
+-- left. The last one left `after` and the line `to`.
+module _ {D : Type 0} (state : D → DeviceState) (moves : ℕ) where
+  abbrev pub AreSpans : D → Configuration → List (Span D) → D → Configuration → Type 0
+  AreSpans device from [] after to = (after ≡ device) × (to ≡ from)
+  AreSpans device from (span ∷ spans) after to =
+      IsSpan state moves (state device) from span × AreSpans span.clerk.journal.device span.clerk.line spans after to
+
+-- Each desk gave, behind its earlier answers and in order, what became of the entries of its station's turns in these spans.
+pub record HaveGiven {D : Type 0} (spans : List (Span D)) (before after : List DeskState) : Type 0 where
+  pub as_many : length after ≡ length before
+  pub each : (i : ℕ) (desk : DeskState) → i < length before
+      → HasServed (slice_index_or before i desk) (slice_index_or after i desk) (turns_in i spans) []
+
+-- What a station left of the last of these spans: its desk gave, in order, what became of the entries of its turns in all
+-- of them, and then that those given up are undecided, which happens only where the station ended by a failed device.
+pub record LeftAfter {D : Type 0} (station : ℕ) (spans : List (Span D)) (before : DeskState) (left : Left) : Type 0 where
+  pub given_up : List Ask
+  pub served : HasServed before left.desk (turns_in station spans) given_up
+  pub none_else : left.end ≢ Refused Device → given_up ≡ []
+
+-- Each station left that.
+pub record HaveLeft {D : Type 0} (spans : List (Span D)) (before : List DeskState) (left : List Left) : Type 0 where
+  pub as_many : length left ≡ length before
+  pub each : (i : ℕ) (desk : DeskState) (part : Left) → i < length before
+      → LeftAfter i spans (slice_index_or before i desk) (slice_index_or left i part)
+
+-- an office that is to be opened: its device and line, and the desks of its stations
+pub record Adjournment (D : Type 0) : Type 0 where
+  pub device : D
+  pub line : Configuration
+  pub desks : List DeskState
+
+abbrev pub adjourned_to : {D : Type 0} → D → Configuration → List DeskState → Adjournment D
+adjourned_to device line desks = record { device = device; line = line; desks = desks }
+
+-- From there on an office was open for these spans, each of which left the next one its device, line and desks, and came to
+-- this.
+pub record HasComeTo {D : Type 0} (state : D → DeviceState) (moves : ℕ) (from to : Adjournment D) : Type 0 where
+  pub spans : List (Span D)
+  pub joined : AreSpans state moves from.device from.line spans to.device to.line
+  pub given : HaveGiven spans from.desks to.desks
+
+-- From there on an office was open for some spans and this last one, and each station left what it gave in them all.
+pub record HasLived {D : Type 0} (state : D → DeviceState) (moves : ℕ) (from : Adjournment D) (last : Span D) (parts : List Left) : Type 0 where
+  pub before : Adjournment D
+  pub earlier : HasComeTo state moves from before
+  pub closed : IsSpan state moves (state before.device) before.line last
+  pub left : HaveLeft (earlier.spans ++ last ∷ []) from.desks parts
+
+-- From there on an office was open for some spans, and the next one wasn't opened, or wasn't closed: the device is as the
+-- refused opening left it, or comes from a clerk that took turns on it.
+pub record WasBrokenOff {D F : Type 0} (state : D → DeviceState) (moves : ℕ) (from : Adjournment D) (after : D) (refusal : OfficeRefusal F) : Type 0 where
+  pub before : Adjournment D
+  pub earlier : HasComeTo state moves from before
+  pub opening : IfOpening refusal (IsRefused state before.device after)
+  pub left : UnlessOpening refusal (WasLeftByClerk state (state before.device) before.line after)
