@@ -11,3 +11,4 @@ pub mod WorkedLaws
 pub mod Run
 pub mod Pairs
 pub mod PairLaws
+pub mod Asked

@@ -1,10 +1,57 @@
 //! What a station is to do.
+ghost use Rattle.std.specs.Prelude.{◌≡◌};
+ghost use Rattle.station_desk.specs.Asked.{IsReportOn};
+
+use line_lock::{BalanceRefusal, Count, FindRefusal, Found, Office, Opening, Seat};
+use sector_device::Device;
+use std::sync::Wait;
 
 /// What a station does next.
 #[derive(Clone, Copy, Debug, PartialEq, Eq)]
 pub enum Errand {
     /// It gathers, and asks for its turn.
     Turn,
+    /// It asks the office this, and reports the answer.
+    Ask(Question),
     /// It ends.
     Close,
+}
+
+/// What a client wants to know of the ledger.
+#[derive(Clone, Copy, Debug, PartialEq, Eq)]
+pub enum Question {
+    /// What the account of this number holds.
+    Balance(u32),
+    /// Which is the first record with an entry of this reference, from the record of a number on.
+    Find {
+        /// The entry's reference.
+        reference: u64,
+        /// The number of the first record that is looked at.
+        from: u64,
+    },
+}
+
+/// What the office answered.
+#[derive(Clone, Copy, Debug, PartialEq, Eq)]
+pub enum Report {
+    /// What the account holds, or why that isn't told.
+    Balance(Result<u64, BalanceRefusal>),
+    /// What one step of the search found, or why it wasn't made.
+    Found(Result<Found, FindRefusal>),
+}
+
+// What the office answers to a question of the station at this seat.
+pub(crate) fn put_question<D: Device, L: Count + Opening, R: Wait>(
+    rt: &R,
+    office: &Office<D, L>,
+    seat: &mut Seat<L>,
+    question: Question,
+) -> Report
+    ensures right { IsReportOn D.state L.device L.line seat.old question result }
+    ensures seat { seat.new ≡ seat.old }
+{
+    match question {
+        Question::Balance(account) => Report::Balance(office.balance(rt, seat, account)),
+        Question::Find { reference, from } => Report::Found(office.find(rt, reference, from)),
+    }
 }

@@ -1,7 +1,7 @@
 //! Who tells a station what to do, and is told how far it is.
 ghost use Rattle.std.specs.Prelude.{◌≡◌};
 
-use crate::errand::Errand;
+use crate::errand::{Errand, Report};
 use std::sync::Wait;
 use turn_clerk::Turn;
 
@@ -20,6 +20,9 @@ pub trait Gate {
     {
         Errand::Turn
     }
+
+    /// What the office answered to the question of the station's last errand.
+    fn reported<R: Wait>(&self, _rt: &R, _station: u8, _report: Report) {}
 
     /// The station has gathered, and asks for its turn next.
     fn gathered(&self, station: u8);

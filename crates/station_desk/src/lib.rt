@@ -22,10 +22,10 @@ mod stations;
 
 pub use desk_end::Desk;
 pub use end::End;
-pub use errand::Errand;
+pub use errand::{Errand, Question, Report};
 pub use feed::Feed;
 pub use gate::Gate;
-pub use line_lock::{Count, Office, Opening, Seat};
+pub use line_lock::{BalanceRefusal, Count, FindRefusal, Found, Office, Opening, Seat};
 pub use messages::{Answer, Ask, Outcome};
 pub use reconciling::{Reconciled, reconcile};
 pub use rings::desk;

@@ -8,7 +8,7 @@ ghost use Rattle.station_desk.specs.Run.{HasRun, HaveRun};
 
 use crate::desk_end::Desk;
 use crate::end::End;
-use crate::errand::Errand;
+use crate::errand::{Errand, put_question};
 use crate::gate::Gate;
 use line_lock::{Count, Office, Opening, Seat, WithinRefusal};
 use sector_device::Device;
@@ -129,8 +129,14 @@ fn work<D: Device, L: Count + Opening, G: Gate, R: Wait>(
         if stop.load(Ordering::SeqCst) {
             return End::Stopped;
         }
-        if gate.errand(rt, seat.station()) == Errand::Close {
-            return End::Closed;
+        match gate.errand(rt, seat.station()) {
+            Errand::Turn => {}
+            Errand::Ask(question) => {
+                let report = put_question(rt, office, seat, question);
+                gate.reported(rt, seat.station(), report);
+                continue;
+            }
+            Errand::Close => return End::Closed,
         }
         let Err(refusal) = round(rt, office, seat, desk, gate, moves) else {
             refused = 0;

@@ -1,0 +1,16 @@
+-- What an office answers to a question of a station's client.
+use Rattle.std.specs.Prelude.{ℕ}
+use Rattle.sector_device.specs.Device.{DeviceState}
+use Rattle.four_state.specs.Configuration.{Configuration}
+use Rattle.line_lock.specs.Seat.{SeatState}
+use Rattle.line_lock.specs.Asked.{WasToldBalance, WasSearched}
+use Rattle.station_desk.specs.declared.errand.Question.{Question}
+use Rattle.station_desk.specs.declared.errand.Question.TheVariants as question
+use Rattle.station_desk.specs.declared.errand.Report.{Report}
+use Rattle.station_desk.specs.declared.errand.Report.TheVariants as report
+
+-- An office that was opened on that device with that line was asked this by a seat, and what is reported is its answer.
+abbrev pub IsReportOn : {D : Type 0} → (D → DeviceState) → DeviceState → Configuration → SeatState → Question → Report → Type 0
+IsReportOn state device from seat (question.Balance account) (report.Balance answer) = WasToldBalance state device from seat account answer
+IsReportOn state device from seat (question.Find reference first) (report.Found answer) = WasSearched state device from reference first answer
+IsReportOn state device from seat _ _ = ⊥
