@@ -2,3 +2,4 @@ pub mod ScriptLemmas
 pub mod BitLemmas
 pub mod GrammarLemmas
 pub mod TestLemmas
+pub mod RequestLemmas

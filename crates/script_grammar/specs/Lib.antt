@@ -1,3 +1,5 @@
 pub mod Script
 pub mod Bits
 pub mod Grammar
+pub mod Given
+pub mod Requests

@@ -9,10 +9,13 @@
 mod commands;
 mod faults;
 mod numbers;
+mod places;
+mod requests;
 mod words;
 
 pub use commands::{Command, DAY_LIMIT, read_command};
 pub use faults::LineFault;
 pub use numbers::Bits;
+pub use requests::{Request, read_request};
 pub use turn_ledger::Entry;
 pub use words::Lines;
