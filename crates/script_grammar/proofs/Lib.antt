@@ -3,3 +3,4 @@ pub mod BitLemmas
 pub mod GrammarLemmas
 pub mod TestLemmas
 pub mod RequestLemmas
+pub mod CuttingLemmas

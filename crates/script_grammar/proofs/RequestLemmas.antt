@@ -1,5 +1,5 @@
 -- What the grammar says of a counter's line whose last word, the reference of an entry, may be left out.
-use Rattle.std.proofs.Common.{◌≡◌, ◌≢◌, ◌∙◌, ◌⊎◌, inl, inr, ℕ, ◌+◌, suc, Bool, true, false, Option, Some, None, Result, List, [], ◌∷◌, ◌++◌, length, ◌==◌, arith, refl, sym, ap, subst, codes}
+use Rattle.std.proofs.Common.{◌≡◌, ◌≢◌, ◌∙◌, ◌⊎◌, inl, inr, ℕ, ◌+◌, suc, true, false, Option, Some, None, Result, List, [], ◌∷◌, ◌++◌, length, ◌==◌, arith, refl, sym, ap, subst, codes}
 use Rattle.std.specs.Prelude.{slice_index, MatchOption}
 use Rattle.std.specs.Str.{bytes_eq}
 use Rattle.std.specs.Str.Parse.{digits_value}
@@ -8,7 +8,7 @@ use Rattle.std.proofs.lemmas.Bool.{eq-eqb, ne_eqb}
 use Rattle.std.proofs.lemmas.Bool.Decides.{eqb_tells}
 use Rattle.std.proofs.lemmas.List.{append-nil, length-append}
 use Rattle.script_grammar.specs.Given.{word_given}
-use Rattle.script_grammar.specs.Grammar.{Fills, Field, Value, first_wrong, takes, told_as, told_of_named, values}
+use Rattle.script_grammar.specs.Grammar.{Fills, Field, Value, first_wrong, takes, told_of_named, values}
 use Rattle.script_grammar.specs.Grammar.{Name, Number, NumberIs}
 use Rattle.script_grammar.specs.Requests.{FillsEntry, IsRequestRead, request_fault, told_of_entry, with_reference}
 use Rattle.script_grammar.specs.declared.faults.LineFault.{LineFault}

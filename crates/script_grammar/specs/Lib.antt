@@ -3,3 +3,4 @@ pub mod Bits
 pub mod Grammar
 pub mod Given
 pub mod Requests
+pub mod Cutting

@@ -1,4 +1,4 @@
-use Rattle.std.proofs.Common.{◌≡◌, ◌∙◌, ℕ, List, [], ◌∷◌, ap, arith, codes, length, refl, rules}
+use Rattle.std.proofs.Common.{◌∙◌, ℕ, List, [], ◌∷◌, ap, arith, length, refl, rules}
 use Rattle.script_grammar.specs.Grammar.{Field}
 use Rattle.script_grammar.specs.Grammar.{Account, Number}
 use Rattle.script_grammar.proofs.GrammarLemmas.{taken, told, wrong}

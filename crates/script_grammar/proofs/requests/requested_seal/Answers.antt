@@ -1,4 +1,4 @@
-use Rattle.std.proofs.Common.{◌≡◌, ◌∙◌, ℕ, List, [], ◌∷◌, ap, arith, codes, length, refl, rules}
+use Rattle.std.proofs.Common.{◌≡◌, ◌∙◌, ℕ, List, [], ◌∷◌, arith, codes, refl, rules}
 use Rattle.script_grammar.specs.Grammar.{Field}
 use Rattle.script_grammar.specs.Grammar.{Account}
 use Rattle.script_grammar.specs.Requests.{IsRequestRead, SpellsRequest, request_fault, told_of_entry}
