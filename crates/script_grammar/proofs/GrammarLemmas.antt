@@ -9,13 +9,13 @@ use Rattle.std.proofs.lemmas.List.Sums.{AllPass-from_list_all}
 use Rattle.std.proofs.lemmas.Slice.Eq.{bytes_eq-Decides}
 use Rattle.std.proofs.lemmas.Str.{IsUtf8-from_ascii}
 use Rattle.std.proofs.lemmas.Str.Ascii.{IsAscii-from_all}
-use Rattle.script_grammar.specs.Grammar.{Fills, IsRead, Field, Value, first_wrong, line_fault, takes, told_as, told_of_one, values}
+use Rattle.script_grammar.specs.Grammar.{Fills, IsRead, Field, Value, fault_by, first_wrong, is_skipped, line_fault, takes, told_as, told_of_one, values}
 use Rattle.script_grammar.specs.Grammar.{Name, Number}
 use Rattle.script_grammar.specs.declared.commands.Command.{Command}
 use Rattle.script_grammar.specs.declared.faults.LineFault.{LineFault}
 use Rattle.script_grammar.specs.declared.faults.LineFault.TheVariants.{UnknownCommand, WrongNumberOfWords}
 
-abbrev Word : Type 0
+abbrev pub Word : Type 0
 Word = List ℕ
 
 -- ---- the first word that may not stand at its place
@@ -152,13 +152,9 @@ unfolding line_fault first_wrong takes
 unnamed name rest no_comment names =
     rw (no_comment, names.not_format, names.not_open, names.not_post, names.not_turn, names.not_bits, names.not_balances, names.not_crash, names.not_day) refl
 
-pub no_words : (words : List Word) → words ≡ [] → line_fault words ≡ None
-unfolding line_fault
-no_words words e = rw e refl
-
-pub comment : (words rest : List Word) (name : Word) → words ≡ name ∷ rest → (slice_index name 0 == 35) ≡ true → line_fault words ≡ None
-unfolding line_fault
-comment words rest name e is = rw (e, is) refl
+-- nothing is wrong with a line that says nothing
+pub skipped : (table : List (List Field)) (words : List Word) → is_skipped words ≡ true → fault_by table words ≡ None
+skipped table words e = rw e refl
 
 -- the words of a line whose first word is told to be a name
 pub named : (text word name : Word) (words : List Word)

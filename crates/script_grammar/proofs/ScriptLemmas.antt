@@ -24,6 +24,9 @@ one_part ys some =
     let test : (length ys == 0) ≡ false = ne_eqb _ _ (λ none. omega arith) in
     rw test refl
 
+pub only_line : (xs : List ℕ) → All (λ byte. (byte == 10) ≡ false) xs → 0 < length xs → lines xs ≡ xs ∷ []
+only_line xs none some = ap lines_of_parts (slice_split_none (λ byte. byte == 10) xs none) ∙ one_part xs some
+
 pub last_line : (xs : List ℕ) (r : Option (Bor (List ℕ))) → All (λ byte. (byte == 10) ≡ false) xs
     → MatchOption r (xs ≡ []) (λ piece. (piece.now ≡ xs) × (0 < length piece.now))
     → MatchOption r (lines xs ≡ []) (λ piece. lines xs ≡ piece.now ∷ [])

@@ -95,21 +95,26 @@ told_of [] _ words = Some UnknownCommand
 told_of _ [] words = Some WrongNumberOfWords
 told_of _ (form ∷ _) words = first_wrong form words
 
+-- what is told of words that have the names of all these forms
+abbrev pub told_of_named : List (List Field) → List (List ℕ) → Option LineFault
+told_of_named named words = told_of named (filter (λ form. length form == length words) named) words
+
 -- what is told of words whose names, or the lack of them, leave this form alone
 abbrev pub told_of_one : List Field → List (List ℕ) → Option LineFault
-told_of_one form words = told_of (form ∷ []) (filter (λ other. length other == length words) (form ∷ [])) words
+told_of_one form words = told_of_named (form ∷ []) words
 
 -- a line that says nothing: it has no words, or is a comment
 abbrev pub is_skipped : List (List ℕ) → Bool
 is_skipped [] = true
 is_skipped (name ∷ _) = slice_index name 0 == 35
 
--- what is wrong with a line of these words, the first that holds
+-- what is wrong with a line of these words, which may have one of these forms; the first that holds
+abbrev pub fault_by : List (List Field) → List (List ℕ) → Option LineFault
+fault_by table words = if is_skipped words then None else told_of_named (filter (λ form. has_names form words) table) words
+
+-- what is wrong with a script's line of these words, the first that holds
 unfoldable pub line_fault : List (List ℕ) → Option LineFault
-line_fault words =
-    let named = filter (λ form. has_names form words) forms in
-    let as_long = filter (λ form. length form == length words) named in
-    if is_skipped words then None else told_of named as_long words
+line_fault words = fault_by forms words
 
 -- what a word writes at a place: a number, or bits
 pub data Value : Type 0 where
@@ -145,7 +150,11 @@ Spells words line Balances = Fills words balances_form []
 Spells words line Crash = Fills words crash_form []
 Spells words line (Day moves) = Fills words day_form (NumberIs moves ∷ [])
 
--- what reading a line of these words answers: what is wrong with it, or else the command that it spells
+-- what reading a line answers: what is wrong with it, or else what its words spell
+abbrev pub IsAnswer : {T : Type 0} → Option LineFault → (T → Type 0) → Result T LineFault → Type 0
+IsAnswer wrong Spelled (Err fault) = wrong ≡ Some fault
+IsAnswer wrong Spelled (Ok this) = (wrong ≡ None) × Spelled this
+
+-- what reading a script's line of these words answers
 unfoldable pub IsRead : List (List ℕ) → ℕ → Result Command LineFault → Type 0
-IsRead words line (Err fault) = line_fault words ≡ Some fault
-IsRead words line (Ok command) = (line_fault words ≡ None) × Spells words line command
+IsRead words line answer = IsAnswer (line_fault words) (Spells words line) answer

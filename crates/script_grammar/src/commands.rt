@@ -1,15 +1,18 @@
 //! The lines of a script as commands.
-ghost use Rattle.std.specs.Prelude.{◌≡◌, ◌≢◌, ℕ, ◌<◌, true, false, List, [], ◌∷◌, ◌==◌, codes, length, bytes_eq, slice_index, IfOk, IfErr, IfSome, IsUtf8, OnOk, is_none};
+ghost use Rattle.std.specs.Prelude.{◌≡◌, ℕ, true, false, [], ◌∷◌, ◌==◌, codes, slice_index, IfOk, IfErr, IfSome, OnOk, is_none};
 ghost use Rattle.std.specs.Int.NonZero.{non_zero_u64_get};
 ghost use Rattle.std.specs.Str.Parse.{digits_value};
 ghost use Rattle.script_grammar.specs.Bits.{bits_of};
 ghost use Rattle.script_grammar.specs.Grammar.{Fills, IsRead, Spells, is_skipped, line_fault, takes, told_of_one};
 ghost use Rattle.script_grammar.specs.Grammar.{Account, BitText, Moves, Number, NumberIs, Slots};
 ghost use Rattle.script_grammar.specs.Script.{bits_written, words_of};
-ghost use Rattle.script_grammar.specs.declared.faults.LineFault.TheVariants.{BadBits, BadNumber, WrongNumberOfWords};
+ghost use Rattle.script_grammar.specs.declared.faults.LineFault.TheVariants.{BadBits, BadNumber};
 
 use crate::faults::LineFault;
-use crate::numbers::{Bits, read_number};
+use crate::numbers::Bits;
+use crate::places::{
+    account, alone, first_name, number, one_word, text_of, three_words, two_words, word,
+};
 use crate::words::Words;
 use std::num::NonZeroU64;
 use turn_ledger::Entry;
@@ -51,24 +54,12 @@ pub fn read_command(line: &[u8], number: u64) -> Result<Option<Command>, LineFau
         IfSome found (λ command. Spells (words_of line.now) number command)) }
 {
     let mut words = Words::of(line);
-    let Some(name) = words.next() else {
+    let Some(name) = first_name(&mut words) else {
         return Ok(None);
     };
-    if begins_comment(name) {
-        return Ok(None);
-    }
     match read_named(name, words, number) {
         Ok(command) => Ok(Some(command)),
         Err(fault) => Err(fault),
-    }
-}
-
-fn begins_comment(name: &[u8]) -> bool
-    ensures { result ≡ (slice_index name.now 0 == 35) }
-{
-    match name {
-        [b'#', ..] => true,
-        _ => false,
     }
 }
 
@@ -87,17 +78,6 @@ fn read_named(name: &[u8], words: Words<'_>, line: u64) -> Result<Command, LineF
         "crash" => alone(Command::Crash, words),
         "day" => read_day(words),
         _ => Err(LineFault::UnknownCommand),
-    }
-}
-
-// A word as text: the empty one, which is no name, where it isn't UTF-8.
-fn text_of(word: &[u8]) -> &str
-    ensures { (name : List ℕ) → IsUtf8 name → 0 < length name
-        → bytes_eq result.now name ≡ bytes_eq word.now name }
-{
-    match std::str::from_utf8(word) {
-        Ok(text) => text,
-        Err(_) => "",
     }
 }
 
@@ -223,81 +203,6 @@ fn read_day(words: Words<'_>) -> Result<Command, LineFault>
     })
 }
 
-// The command, where there are no more words.
-fn alone(command: Command, words: Words<'_>) -> Result<Command, LineFault>
-    ensures fault { IfErr result (λ fault. told_of_one [] words.entry ≡ Some fault) }
-    ensures ok { IfOk result (λ same. Fills words.entry [] [] × (same ≡ command)) }
-{
-    end(words)?;
-    Ok(command)
-}
-
-// The one word that is left.
-fn one_word<'a>(mut words: Words<'a>) -> Result<&'a [u8], LineFault>
-    ensures ok { IfOk result (λ word. words.entry ≡ word.now ∷ []) }
-    ensures err { IfErr result (λ fault. (length words.entry ≢ 1) × (fault ≡ WrongNumberOfWords)) }
-{
-    let only = word(&mut words)?;
-    end(words)?;
-    Ok(only)
-}
-
-// The two words that are left.
-fn two_words<'a>(mut words: Words<'a>) -> Result<(&'a [u8], &'a [u8]), LineFault>
-    ensures ok { IfOk result (λ pair. words.entry ≡ pair.0.now ∷ pair.1.now ∷ []) }
-    ensures err { IfErr result (λ fault. (length words.entry ≢ 2) × (fault ≡ WrongNumberOfWords)) }
-{
-    let first = word(&mut words)?;
-    let second = word(&mut words)?;
-    end(words)?;
-    Ok((first, second))
-}
-
-// The three words that are left.
-fn three_words<'a>(mut words: Words<'a>) -> Result<(&'a [u8], &'a [u8], &'a [u8]), LineFault>
-    ensures ok { IfOk result (λ three. words.entry ≡ three.0.now ∷ three.1.now ∷ three.2.now ∷ []) }
-    ensures err { IfErr result (λ fault. (length words.entry ≢ 3) × (fault ≡ WrongNumberOfWords)) }
-{
-    let first = word(&mut words)?;
-    let second = word(&mut words)?;
-    let third = word(&mut words)?;
-    end(words)?;
-    Ok((first, second, third))
-}
-
-// The next word, which has to be there.
-fn word<'a>(words: &mut Words<'a>) -> Result<&'a [u8], LineFault>
-    ensures ok { IfOk result (λ word. words.old ≡ word.now ∷ words.new) }
-    ensures err { IfErr result (λ fault. (words.old ≡ []) × (fault ≡ WrongNumberOfWords)) }
-{
-    match words.next() {
-        Some(word) => Ok(word),
-        None => Err(LineFault::WrongNumberOfWords),
-    }
-}
-
-// That there are no more words.
-fn end(mut words: Words<'_>) -> Result<(), LineFault>
-    ensures ok { OnOk result (words.entry ≡ []) }
-    ensures err { IfErr result (λ fault. (0 < length words.entry) × (fault ≡ WrongNumberOfWords)) }
-{
-    match words.next() {
-        Some(_) => Err(LineFault::WrongNumberOfWords),
-        None => Ok(()),
-    }
-}
-
-fn number(word: &[u8]) -> Result<u64, LineFault>
-    ensures ok { IfOk result (λ number.
-        (takes Number word.now ≡ true) × (number ≡ digits_value 10 word.now)) }
-    ensures err { IfErr result (λ fault. (takes Number word.now ≡ false) × (fault ≡ BadNumber)) }
-{
-    match read_number(word) {
-        Some(number) => Ok(number),
-        None => Err(LineFault::BadNumber),
-    }
-}
-
 fn above_zero(word: &[u8]) -> Result<NonZeroU64, LineFault>
     ensures ok { IfOk result (λ slots.
         (takes Slots word.now ≡ true) × (non_zero_u64_get slots ≡ digits_value 10 word.now)) }
@@ -322,17 +227,6 @@ fn moves_of_a_day(word: &[u8]) -> Result<u64, LineFault>
         return Err(LineFault::BadNumber);
     }
     Ok(moves)
-}
-
-fn account(word: &[u8]) -> Result<u32, LineFault>
-    ensures ok { IfOk result (λ account.
-        (takes Account word.now ≡ true) × (account ≡ digits_value 10 word.now)) }
-    ensures err { IfErr result (λ fault. (takes Account word.now ≡ false) × (fault ≡ BadNumber)) }
-{
-    match u32::try_from(number(word)?) {
-        Ok(account) => Ok(account),
-        Err(_) => Err(LineFault::BadNumber),
-    }
 }
 
 fn bits(word: &[u8]) -> Result<Bits, LineFault>

@@ -50,7 +50,8 @@ impl<'a> Iterator for Lines<'a> {
     }
 }
 
-fn without_return(line: &[u8]) -> &[u8]
+/// The line without the one carriage return at its end, if it has one.
+pub fn without_return(line: &[u8]) -> &[u8]
     ensures { result.now ≡ strip_carriage_return line.now }
 {
     match line {

@@ -2,7 +2,7 @@ use Rattle.std.proofs.Common.{refl}
 use Rattle.std.proofs.lemmas.Bool.{false_from_ne_true}
 use Rattle.script_grammar.specs.Grammar.{takes}
 use Rattle.script_grammar.proofs.TestLemmas.{numeral}
-use Rattle.script_grammar.proofs.commands.number.Goals as goal
+use Rattle.script_grammar.proofs.places.number.Goals as goal
 
 pub returns-in-Some-clause-ok : goal.returns-in-Some-clause-ok
 unfolding takes

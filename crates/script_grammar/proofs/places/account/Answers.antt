@@ -3,7 +3,7 @@ use Rattle.std.proofs.lemmas.Bool.{and_left, and_right, and_from, lt-ltb, le-ltb
 use Rattle.std.specs.Str.Parse.{digits_value}
 use Rattle.script_grammar.specs.Grammar.{takes, Account}
 use Rattle.script_grammar.specs.Script.{is_number}
-use Rattle.script_grammar.proofs.commands.account.Goals as goal
+use Rattle.script_grammar.proofs.places.account.Goals as goal
 
 pub returns-in_err-number-clause-err : goal.returns-in_err-number-clause-err
 unfolding takes
