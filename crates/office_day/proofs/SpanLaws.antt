@@ -1,9 +1,10 @@
 -- Spans of a live office, one after another.
-use Rattle.std.specs.Prelude.{◌≡◌, ◌<◌, ◌≤◌, ℕ, List, [], ◌∷◌, ◌++◌, length, map, All, refl}
-use Rattle.std.specs.List.{slice_index_or}
+use Rattle.std.specs.Prelude.{◌≡◌, ◌≢◌, ◌<◌, ◌≤◌, ℕ, List, [], ◌∷◌, ◌++◌, length, map, All, refl}
+use Rattle.std.specs.List.{AllZip, slice_index_or}
 use Rattle.std.proofs.Common.{sym, ◌∙◌, ap, subst, arith}
 use Rattle.std.proofs.lemmas.List.{append-nil, length-map, get_or-map}
 use Rattle.std.proofs.lemmas.Grind.{flat_map-append}
+use Rattle.std.proofs.lemmas.Slice.Zip.{AllZip-long}
 use Rattle.sector_device.specs.Device.{DeviceState}
 use Rattle.four_state.specs.Configuration.{Configuration, stations}
 use Rattle.journal_recovery.specs.State.{State}
@@ -14,23 +15,29 @@ use Rattle.line_lock.specs.Account.{turns_of, IsBorneOut}
 use Rattle.line_lock.specs.Lent.{new_seats}
 use Rattle.line_lock.specs.Seat.{SeatState, new_seat}
 use Rattle.station_desk.specs.declared.messages.Ask.{Ask}
-use Rattle.station_desk.specs.declared.end.End.TheVariants.{Reached, Refused}
-use Rattle.station_desk.specs.Rings.{DeskState}
+use Rattle.station_desk.specs.declared.end.End.TheVariants.{NotStarted, Reached, Refused}
+use Rattle.station_desk.specs.declared.messages.Answer.{Answer}
+use Rattle.station_desk.specs.Messages.{entries_of, asks_of, outcomes_in, AreNumberedFrom}
+use Rattle.station_desk.specs.PairLaws.{AllStandAt}
+use Rattle.station_desk.specs.Rings.{FeedState, DeskState, AreTogether}
 use Rattle.station_desk.specs.Served.{HasServed}
 use Rattle.station_desk.specs.ServedLaws.{served-nothing}
 use Rattle.station_desk.specs.WorkedLaws.{served-joined}
 use Rattle.station_desk.specs.Worked.{HasWorked}
 use Rattle.office_day.specs.declared.seated.Left.{Left}
-use Rattle.office_day.specs.Day.{HaveServed}
-use Rattle.office_day.specs.Spans.{Span, turns_in, IsSpan, AreSpans, LeftAfter, HaveLeft, Adjournment, HasComeTo, HasLived}
+use Rattle.line_lock.specs.declared.lent.OfficeRefusal.{OfficeRefusal}
+use Rattle.office_day.specs.declared.reconciled.StationDay.{StationDay}
+use Rattle.office_day.specs.Counters.{IsFresh}
+use Rattle.office_day.specs.Day.{HaveServed, IsReconciled, AreReconciled}
+use Rattle.office_day.specs.Spans.{Span, turns_in, IsSpan, AreSpans, HaveGiven, LeftAfter, HaveLeft, Adjournment, adjourned_to, HasComeTo, HasLived, WasBrokenOff, WasServed, HaveBeenServed, WasKeptOpen, WasAbandoned}
 use Rattle.office_day.proofs.Days.{length-new_seats, new_seat_at}
-use Rattle.office_day.proofs.Lists.{first}
+use Rattle.office_day.proofs.Lists.{first, AllZip-at, AllZip-each}
+use Rattle.office_day.proofs.Pairing.{stands_with}
 use Rattle.office_day.proofs.Limits.{IsBelow, all_below, short}
 
 -- In an office whose history bears out what its seats hold, a station's own turns are those of the history.
 module _ {device : DeviceState} {from opening : Configuration} {history : List Turn} {moves : ℕ} {closes : Type 0} (count : ℕ) {desks : List DeskState} {after : List SeatState} {left : List Left}
     (served : HaveServed device from (new_seats count) desks after left moves closes) (out : All (IsBorneOut opening history) after) where
-
   in_seats : (i : ℕ) → i < count → i < length (new_seats count)
   in_seats i low = subst (λ n. i < n) (sym (length-new_seats count)) low
 
@@ -79,12 +86,11 @@ module _ {D : Type 0} (state : D → DeviceState) (moves : ℕ) where
   pub spans-more : (device : D) (from : Configuration) (spans : List (Span D)) (mid : D) (between : Configuration) (span : Span D)
       → AreSpans state moves device from spans mid between → IsSpan state moves (state mid) between span
       → AreSpans state moves device from (spans ++ span ∷ []) span.clerk.journal.device span.clerk.line
-  spans-more device from [] mid between span row is =
-      (
-        subst (λ (d : D). IsSpan state moves (state d) from span) row.0
+  spans-more device from [] mid between span row is = (
+    subst (λ (d : D). IsSpan state moves (state d) from span) row.0
         (subst (λ (l : Configuration). IsSpan state moves (state mid) l span) row.1 is),
-        (refl, refl),
-      )
+    (refl, refl),
+  )
   spans-more device from (before ∷ spans) mid between span row is =
       (row.0, spans-more before.clerk.journal.device before.clerk.line spans mid between span row.1 is)
 
@@ -155,3 +161,69 @@ module _ {D : Type 0} (state : D → DeviceState) (moves : ℕ) where
       → after.line ≡ span.audit.last → after.desks ≡ map (λ (part : Left). part.desk) parts → length after.desks ≡ stations after.line
   desks_enough before after span parts many closed left line desks =
       ap length desks ∙ length-map parts (λ (part : Left). part.desk) ∙ left.as_many ∙ many ∙ sym closed.closed.stations ∙ ap stations (sym (line ∙ closed.closed.last))
+
+-- what a station's client was told, from what its feed and its desk have in the end
+was_served : (turns : List Turn) (before : DeskState) (feed : FeedState) (part : Left) (given_up : List Ask) (day : StationDay) → IsFresh before
+    → HasServed before part.desk turns given_up → (part.end ≢ Refused Device → given_up ≡ []) → IsReconciled feed part day → WasServed turns day
+was_served turns before feed part given_up day fresh served none done =
+    let more : feed.collected ++ day.answers.items ≡ served.more = sym done.given ∙ served.given ∙ ap (λ (l : List Answer). l ++ served.more) fresh in
+    record {
+      collected = feed.collected;
+      given_up = given_up;
+      tickets = subst (AreNumberedFrom 0) done.asked done.tickets;
+      answered = ap (λ (l : List Answer). entries_of (asks_of l)) more ∙ served.entries;
+      outcomes = ap outcomes_in more ∙ served.outcomes;
+      none_else = λ not. none (λ is. not (done.end ∙ is));
+    }
+
+module _ {D : Type 0} (state : D → DeviceState) (moves : ℕ) where
+  pub kept_open : (device : D) (line : Configuration) (desks : List DeskState) (last : Span D) (left : List Left) (feeds : List FeedState) (days : List StationDay)
+      → HasLived state moves (adjourned_to device line desks) last left → All IsFresh desks → length desks ≡ stations line → length feeds ≡ stations line
+      → AreReconciled feeds left days → WasKeptOpen state moves device line last days
+  kept_open device line desks last left feeds days lived fresh many fed done = record {
+    earlier = lived.earlier.spans;
+    between = lived.before.device;
+    stood = lived.before.line;
+    joined = lived.earlier.joined;
+    closed = lived.closed;
+    served = record {
+      as_many = done.as_many ∙ fed;
+      each = λ i day low.
+          let in_desks : i < length desks = subst (λ n. i < n) (sym many) low in
+          let in_feeds : i < length feeds = subst (λ n. i < n) (sym fed) low in
+          let desk = first desks (omega (arith, in_desks)) in
+          let feed = first feeds (omega (arith, in_feeds)) in
+          let part : Left = record { desk = desk; end = NotStarted } in
+          let gave = lived.left.each i desk part in_desks in
+          was_served (turns_in i (lived.earlier.spans ++ last ∷ [])) (slice_index_or desks i desk) (slice_index_or feeds i feed) (slice_index_or left i part) gave.given_up (slice_index_or days i day)
+          (fresh i desk in_desks) gave.served gave.none_else (done.each i feed part day in_feeds);
+    };
+  }
+
+  pub abandoned : {F : Type 0} (device : D) (line : Configuration) (desks : List DeskState) (after : D) (refusal : OfficeRefusal F)
+      → WasBrokenOff state moves (adjourned_to device line desks) after refusal → WasAbandoned state moves device line after refusal
+  abandoned device line desks after refusal broken = record {
+    earlier = broken.earlier.spans;
+    between = broken.before.device;
+    stood = broken.before.line;
+    joined = broken.earlier.joined;
+    opening = broken.opening;
+    left = broken.left;
+  }
+
+-- feeds that were together with fresh desks are together with what their stations left
+pub left_together : {D : Type 0} (spans : List (Span D)) (feeds new : List FeedState) (desks : List DeskState) (left : List Left)
+    → AllZip AreTogether feeds desks → AllStandAt feeds new → HaveLeft spans desks left → AllZip stands_with new left
+left_together spans feeds new desks left together stand gave =
+    let as_many : length desks ≡ length feeds = AllZip-long AreTogether feeds desks together in
+    AllZip-each stands_with new left (gave.as_many ∙ as_many ∙ sym stand.as_many)
+    (λ i feed part low.
+    let in_feeds : i < length feeds = subst (λ n. i < n) stand.as_many low in
+    let in_desks : i < length desks = subst (λ n. i < n) (sym as_many) in_feeds in
+    let stands = stand.each i feed in_feeds in
+    let before = AllZip-at AreTogether feeds desks i feed part.desk together in_feeds in
+    let served = (gave.each i part.desk part in_desks).served in
+    record {
+      asks = stands.0 ∙ before.asks ∙ sym served.asks;
+      answers = stands.1 ∙ before.answers ∙ sym served.answers;
+    })

@@ -2,7 +2,7 @@
 use Rattle.std.specs.Prelude.{◌≡◌, ◌≢◌, ◌<◌, ◌≤◌, ℕ, List, [], ◌∷◌, ◌++◌, length}
 use Rattle.std.specs.List.{flat_map, slice_index_or}
 use Rattle.sector_device.specs.Device.{DeviceState}
-use Rattle.four_state.specs.Configuration.{Configuration}
+use Rattle.four_state.specs.Configuration.{Configuration, stations}
 use Rattle.sweep_auditor.specs.declared.moves.Audit.{Audit}
 use Rattle.turn_clerk.specs.declared.turns.Turn.{Turn}
 use Rattle.turn_clerk.specs.declared.refusals.TurnRefusal.TheVariants.{Device}
@@ -12,9 +12,13 @@ use Rattle.line_lock.specs.declared.lent.OfficeRefusal.{OfficeRefusal}
 use Rattle.line_lock.specs.Lent.{IsClosed, IsRefused, IfOpening, UnlessOpening}
 use Rattle.line_lock.specs.Opening.{WasLeftByClerk}
 use Rattle.station_desk.specs.declared.messages.Ask.{Ask}
+use Rattle.station_desk.specs.declared.messages.Answer.{Answer}
 use Rattle.station_desk.specs.declared.end.End.TheVariants.{Refused}
+use Rattle.station_desk.specs.Messages.{entries_of, asks_of, outcomes_in, AreNumberedFrom}
+use Rattle.station_desk.specs.Outcomes.{undecided}
 use Rattle.station_desk.specs.Rings.{DeskState}
-use Rattle.station_desk.specs.Served.{HasServed}
+use Rattle.station_desk.specs.Served.{HasServed, entries_of_turns, outcomes_of_turns}
+use Rattle.office_day.specs.declared.reconciled.StationDay.{StationDay}
 use Rattle.office_day.specs.declared.seated.Left.{Left}
 
 -- a span: the clerk of a closed office, and the audit
@@ -93,3 +97,40 @@ pub record WasBrokenOff {D F : Type 0} (state : D → DeviceState) (moves : ℕ)
   pub earlier : HasComeTo state moves from before
   pub opening : IfOpening refusal (IsRefused state before.device after)
   pub left : UnlessOpening refusal (WasLeftByClerk state (state before.device) before.line after)
+
+-- What became of all that a station's client asked while these turns of the station were taken: each request stands, in
+-- order and under its ticket, in an answer that was collected, in one that wasn't, or is unanswered; the answers are, in
+-- order, what became of the entries of the turns, and then Undecided for requests that were given up, which happens only
+-- where the station ended by a failed device.
+pub record WasServed (turns : List Turn) (day : StationDay) : Type 0 where
+  pub collected : List Answer
+  pub given_up : List Ask
+  pub tickets : AreNumberedFrom 0 (asks_of collected ++ asks_of day.answers.items ++ day.unanswered.items)
+  pub answered : entries_of (asks_of (collected ++ day.answers.items)) ≡ entries_of_turns turns ++ entries_of given_up
+  pub outcomes : outcomes_in (collected ++ day.answers.items) ≡ outcomes_of_turns turns ++ undecided given_up
+  pub none_else : day.end ≢ Refused Device → given_up ≡ []
+
+-- Each of so many stations was served by its turns in these spans.
+pub record HaveBeenServed {D : Type 0} (count : ℕ) (spans : List (Span D)) (days : List StationDay) : Type 0 where
+  pub as_many : length days ≡ count
+  pub each : (i : ℕ) (day : StationDay) → i < count → WasServed (turns_in i spans) (slice_index_or days i day)
+
+-- An office was kept open on that device and that line for some spans in a row, of which this is the last one, and its
+-- clients were served so.
+pub record WasKeptOpen {D : Type 0} (state : D → DeviceState) (moves : ℕ) (device : D) (line : Configuration) (last : Span D) (days : List StationDay) : Type 0 where
+  pub earlier : List (Span D)
+  pub between : D
+  pub stood : Configuration
+  pub joined : AreSpans state moves device line earlier between stood
+  pub closed : IsSpan state moves (state between) stood last
+  pub served : HaveBeenServed (stations line) (earlier ++ last ∷ []) days
+
+-- The device comes from an office that was kept open on that one with that line, and isn't told of: behind some spans the
+-- next wasn't opened, and the device is as that left it, or a clerk took turns on it.
+pub record WasAbandoned {D F : Type 0} (state : D → DeviceState) (moves : ℕ) (device : D) (line : Configuration) (after : D) (refusal : OfficeRefusal F) : Type 0 where
+  pub earlier : List (Span D)
+  pub between : D
+  pub stood : Configuration
+  pub joined : AreSpans state moves device line earlier between stood
+  pub opening : IfOpening refusal (IsRefused state between after)
+  pub left : UnlessOpening refusal (WasLeftByClerk state (state between) stood after)

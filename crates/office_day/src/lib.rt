@@ -19,10 +19,10 @@ pub use line_lock::{
     Audit, Clerk, CloseRefusal, Closing, Device, Line, OfficeRefusal, OpenRefusal,
 };
 pub use office_run::{OfficeRun, run_office};
-pub use reconciled::StationDay;
+pub use reconciled::{StationDay, all_reconciled};
 pub use refusals::DayRefusal;
 pub use seated::Left;
 pub use spans::{Adjourned, Life, run_spans};
 pub use station_desk::{
-    Answer, Ask, Desk, End, Entry, EntryRefusal, Errand, Gate, Outcome, TurnRefusal,
+    Answer, Ask, Desk, End, Entry, EntryRefusal, Errand, Feed, Gate, Outcome, TurnRefusal,
 };
