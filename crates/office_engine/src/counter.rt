@@ -1,0 +1,137 @@
+//! Counters, and the threads that serve them.
+ghost use Rattle.std.specs.Prelude.{◌≡◌, IfOk};
+
+use crate::reader::Reader;
+use crate::scheduler::Scheduler;
+use crate::session::{CAPACITY, Session};
+use crate::wakers::Wakers;
+use crate::writer::Writer;
+use rtrb::RingBuffer;
+use script_grammar::LineCutter;
+use station_desk::Feed;
+use std::alloc::{AllocError, Global};
+use std::io::{Read, Write};
+use std::sync::{Arc, Wait};
+use std::thread::{Threads, spawn};
+
+/// What is written to a terminal where a line is awaited.
+const PROMPT: &str = "office> ";
+
+/// What kind of client stands at a counter.
+#[derive(Clone, Copy, Debug, PartialEq, Eq)]
+pub enum Kind {
+    /// A program, by two pipes: nothing ends where it hangs up.
+    Pipes,
+    /// A terminal: it is prompted, and the office closes where its input ends.
+    Terminal,
+}
+
+/// A client of the office, that of the station at its place.
+#[derive(Drop)]
+pub struct Counter<I: Read, O: Write> {
+    /// What it says.
+    pub input: I,
+    /// What it is told.
+    pub output: O,
+    pub kind: Kind,
+}
+
+/// Why a counter isn't served.
+#[derive(Clone, Copy, Debug, PartialEq, Eq)]
+pub(crate) enum Unserved {
+    /// There is no memory.
+    Memory,
+    /// The system refused a thread.
+    Threads,
+}
+
+impl From<AllocError> for Unserved {
+    fn from(_: AllocError) -> Unserved {
+        Unserved::Memory
+    }
+}
+
+/// Starts the threads of a counter, and begins its session at the station of that number.
+pub(crate) fn begin_session<
+    R: Threads + Wait + Send + Clone + Drop + 'static,
+    I: Read + Send + Drop + 'static,
+    O: Write + Send + Drop + 'static,
+>(
+    rt: &R,
+    alloc: Global,
+    station: u8,
+    counter: Counter<I, O>,
+    feed: Feed,
+    scheduler: &Arc<Scheduler>,
+) -> Result<Session, Unserved>
+    ensures { IfOk result (λ session. session.feed ≡ feed) }
+{
+    let Counter {
+        input,
+        output,
+        kind,
+    } = counter;
+    let prompt = match kind {
+        Kind::Pipes => "",
+        Kind::Terminal => PROMPT,
+    };
+    let (said, messages) = RingBuffer::new(alloc, CAPACITY)?;
+    let (responses, told) = RingBuffer::new(alloc, CAPACITY)?;
+    let wakers = new_wakers(alloc)?;
+    let reader = Reader::new(input, LineCutter::new(alloc)?, said);
+    start_reader(rt, reader, &wakers, scheduler)?;
+    let writer = Writer::new(alloc, output, prompt, told)?;
+    start_writer(rt, writer, &wakers, scheduler)?;
+    let closes_at_end = kind == Kind::Terminal;
+    Ok(Session::new(station, messages, responses, feed, wakers, closes_at_end))
+}
+
+// What wakes the threads of one counter.
+fn new_wakers(alloc: Global) -> Result<Arc<Wakers>, AllocError> {
+    Ok(Arc::new(alloc, Wakers::new())?)
+}
+
+/// A session at a station that has no counter.
+pub(crate) fn empty_session(alloc: Global, station: u8, feed: Feed) -> Result<Session, AllocError>
+    ensures { IfOk result (λ session. session.feed ≡ feed) }
+{
+    let (_, messages) = RingBuffer::new(alloc, 1)?;
+    let (responses, _) = RingBuffer::new(alloc, CAPACITY)?;
+    let wakers = new_wakers(alloc)?;
+    Ok(Session::new(station, messages, responses, feed, wakers, false))
+}
+
+// Starts the thread that reads; nobody waits for its end.
+fn start_reader<R: Threads + Wait + Send + Clone + Drop + 'static, I: Read + Send + Drop + 'static>(
+    rt: &R,
+    reader: Reader<I>,
+    wakers: &Arc<Wakers>,
+    scheduler: &Arc<Scheduler>,
+) -> Result<(), Unserved> {
+    let (own, wakers) = (rt.clone()?, Arc::try_clone(wakers)?);
+    let scheduler = Arc::try_clone(scheduler)?;
+    let mut reader = reader;
+    match spawn(rt, move || reader.read_all(&own, &wakers, &scheduler)) {
+        Ok(_) => Ok(()),
+        Err(_) => Err(Unserved::Threads),
+    }
+}
+
+// Starts the thread that writes; nobody waits for its end.
+fn start_writer<
+    R: Threads + Wait + Send + Clone + Drop + 'static,
+    O: Write + Send + Drop + 'static,
+>(
+    rt: &R,
+    writer: Writer<O>,
+    wakers: &Arc<Wakers>,
+    scheduler: &Arc<Scheduler>,
+) -> Result<(), Unserved> {
+    let (own, wakers) = (rt.clone()?, Arc::try_clone(wakers)?);
+    let scheduler = Arc::try_clone(scheduler)?;
+    let mut writer = writer;
+    match spawn(rt, move || writer.write_all(&own, &wakers, &scheduler)) {
+        Ok(_) => Ok(()),
+        Err(_) => Err(Unserved::Threads),
+    }
+}

@@ -1,0 +1,50 @@
+//! The thread that holds every feed.
+ghost use Rattle.std.specs.Prelude.{◌≡◌, map};
+ghost use Rattle.station_desk.specs.PairLaws.{AllStandAt};
+
+use crate::scheduler::Scheduler;
+use crate::session::Session;
+use std::snapshot::Snapshot;
+use std::sync::Wait;
+use std::thread::Promise;
+
+/// That each session's feed is the one that it was.
+#[derive(Drop)]
+pub(crate) struct SameFeeds(pub Snapshot<Vec<Session>>);
+
+impl Promise<Vec<Session>> for SameFeeds {
+    ghost use Rattle.std.specs.Prelude.{map};
+    ghost use Rattle.station_desk.specs.PairLaws.{AllStandAt};
+
+    ghost kept_by = { λ promise sessions. AllStandAt (map (λ session. session.feed) promise.0.value.items) (map (λ session. session.feed) sessions.items) };
+}
+
+/// Attends to the counters until the office's life is over.
+pub(crate) fn dispatch<R: Wait>(
+    rt: &R,
+    scheduler: &Scheduler,
+    sessions: Vec<Session>,
+) -> Vec<Session>
+    ensures { AllStandAt (map (λ session. session.feed) sessions.items) (map (λ session. session.feed) result.items) }
+{
+    let mut sessions = sessions;
+    for _ in rt.forever() {
+        // looked at first: what came before it is over is attended to below
+        let is_over = scheduler.is_over();
+        attend_all(rt, scheduler, sessions.as_mut_slice());
+        if is_over {
+            return sessions;
+        }
+        scheduler.wait_for_work(rt);
+    }
+    unreachable!()
+}
+
+// Attends to each counter once.
+fn attend_all<R: Wait>(rt: &R, scheduler: &Scheduler, sessions: &mut [Session])
+    ensures { AllStandAt (map (λ session. session.feed) sessions.old) (map (λ session. session.feed) sessions.new) }
+{
+    for session in sessions.iter_mut() {
+        session.attend(rt, scheduler);
+    }
+}

@@ -1,0 +1,85 @@
+//! What counters are told.
+use crate::messages::WrongLine;
+use line_lock::{BalanceRefusal, FindRefusal};
+use station_desk::{Answer, Outcome};
+use std::fmt;
+use turn_ledger::EntryRefusal;
+
+const HELP: &str = "\
+deposit A M [R]       M units to account A
+withdraw A M [R]      M units from account A
+transfer A B M [R]    M units from account A to account B
+seal A [R]            account A keeps what it holds for good, and no later entry may name it
+balance A             what account A holds, after all that was asked here before
+find R                under which numbers entries of reference R were posted
+close                 the office closes
+Accounts have numbers from 1 to 1024. R is the entry's reference, and without it the line's number.";
+
+/// What is told of a line.
+#[derive(Clone, Copy, Debug, PartialEq, Eq)]
+pub enum Response {
+    /// The entry of this reference is posted, in the batch of this number.
+    Posted {
+        number: u64,
+        reference: u64,
+    },
+    /// A rule refused the entry.
+    Refused {
+        refusal: EntryRefusal,
+        reference: u64,
+    },
+    /// The device failed while the entry was written: the next opening tells whether it stands.
+    Undecided {
+        reference: u64,
+    },
+    /// What an account holds.
+    Balance {
+        account: u32,
+        amount: u64,
+    },
+    /// Why a balance isn't told.
+    NoBalance(BalanceRefusal),
+    /// No entry of the reference was found in any batch from this number on.
+    Unknown {
+        since: u64,
+    },
+    /// Why a reference wasn't looked for to the end.
+    NotFound(FindRefusal),
+    /// The line is no request.
+    Wrong(WrongLine),
+    /// The requests that there are.
+    Help,
+    /// The office closes.
+    Closing,
+}
+
+impl From<Answer> for Response {
+    fn from(answer: Answer) -> Response {
+        let reference = answer.entry.reference();
+        match answer.outcome {
+            Outcome::Posted(number) => Response::Posted { number, reference },
+            Outcome::Refused(refusal) => Response::Refused { refusal, reference },
+            Outcome::Undecided => Response::Undecided { reference },
+        }
+    }
+}
+
+/// Its line, or lines, without the end of the last.
+impl fmt::Display for Response {
+    fn fmt<W: fmt::Write>(&self, f: &mut fmt::Formatter<W>) -> fmt::Result {
+        match self {
+            Response::Posted { number, reference } => write!(f, "posted {number} {reference}"),
+            Response::Refused { refusal, reference } => {
+                write!(f, "refused {refusal:?} {reference}")
+            }
+            Response::Undecided { reference } => write!(f, "undecided {reference}"),
+            Response::Balance { account, amount } => write!(f, "balance {account} {amount}"),
+            Response::NoBalance(refusal) => write!(f, "refused {refusal:?}"),
+            Response::Unknown { since } => write!(f, "unknown since {since}"),
+            Response::NotFound(refusal) => write!(f, "refused {refusal:?}"),
+            Response::Wrong(wrong) => write!(f, "wrong {wrong}"),
+            Response::Help => f.write_str(HELP),
+            Response::Closing => f.write_str("closing"),
+        }
+    }
+}

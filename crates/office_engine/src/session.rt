@@ -1,0 +1,310 @@
+//! What the dispatcher does for one counter.
+ghost use Rattle.std.specs.Prelude.{◌≡◌, ◌≤◌, ◌<◌};
+ghost use Rattle.rtrb.specs.Ring.{known_free};
+ghost use Rattle.station_desk.specs.Rings.{StandsAt};
+
+use crate::messages::Message;
+use crate::responses::Response;
+use crate::scheduler::Scheduler;
+use crate::search::{Search, Step};
+use crate::wakers::Wakers;
+use rtrb::{Consumer, Producer};
+use script_grammar::Request;
+use station_desk::{Feed, Question, Report};
+use std::alloc::AllocError;
+use std::sync::{Arc, Wait};
+use turn_ledger::Entry;
+
+/// How many messages and responses lie at most between the dispatcher and one counter, each way.
+pub(crate) const CAPACITY: usize = 256;
+
+/// A counter as the dispatcher sees it. For each request that is submitted a place is kept for the response to it, so that
+/// a counter that reads nothing holds up nobody but itself.
+#[derive(Drop)]
+pub(crate) struct Session {
+    station: u8,
+    messages: Consumer<Message>,
+    responses: Producer<Response>,
+    pub(crate) feed: Feed,
+    wakers: Arc<Wakers>,
+    // Whether the office closes where nothing comes any more.
+    closes_at_end: bool,
+    // What is handled next, once all before it is answered.
+    next: Option<Message>,
+    // Whether the station was asked for it.
+    is_asked: bool,
+    search: Search,
+    // How many requests are submitted, and not answered.
+    unanswered: usize,
+    ghost kept_places: { unanswered ≤ known_free responses },
+}
+
+/// An entry that a counter asked for, and that came too late to be submitted.
+#[derive(Clone, Copy, Debug, PartialEq, Eq)]
+pub struct Unheard {
+    /// The number of the counter's station.
+    pub station: u8,
+    /// The entry's reference.
+    pub reference: u64,
+}
+
+impl Session {
+    /// A counter that has said nothing yet.
+    pub(crate) fn new(
+        station: u8,
+        messages: Consumer<Message>,
+        responses: Producer<Response>,
+        feed: Feed,
+        wakers: Arc<Wakers>,
+        closes_at_end: bool,
+    ) -> Session
+        ensures { result.feed ≡ feed }
+    {
+        Session {
+            station,
+            messages,
+            responses,
+            feed,
+            wakers,
+            closes_at_end,
+            next: None,
+            is_asked: false,
+            search: Search::BEGINNING,
+            unanswered: 0,
+        }
+    }
+
+    /// What wakes its threads.
+    pub(crate) fn wakers(&self) -> Result<Arc<Wakers>, AllocError> {
+        Arc::try_clone(&self.wakers)
+    }
+
+    /// Hands on the answers that have come, and takes what the counter has said, as far as there is room.
+    pub(crate) fn attend<R: Wait>(&mut self, rt: &R, scheduler: &Scheduler)
+        ensures { StandsAt self.old.feed self.new.feed }
+    {
+        self.collect();
+        self.take_messages(rt, scheduler);
+    }
+
+    // Hands on the answers that have come.
+    fn collect(&mut self)
+        ensures { StandsAt self.old.feed self.new.feed }
+    {
+        for _ in 0..CAPACITY {
+            if self.unanswered == 0 {
+                return;
+            }
+            let Some(answer) = self.feed.answer() else {
+                return;
+            };
+            self.unanswered -= 1;
+            self.responses.push_reserved(Response::from(answer));
+            self.wakers.note_given();
+        }
+    }
+
+    // Takes what the counter has said, one message after another.
+    fn take_messages<R: Wait>(&mut self, rt: &R, scheduler: &Scheduler)
+        ensures { StandsAt self.old.feed self.new.feed }
+    {
+        for _ in 0..CAPACITY {
+            if !self.take_next(rt, scheduler) {
+                return;
+            }
+        }
+    }
+
+    // Takes the next message, if there is one that can be handled now; false if not.
+    fn take_next<R: Wait>(&mut self, rt: &R, scheduler: &Scheduler) -> bool
+        ensures { StandsAt self.old.feed self.new.feed }
+    {
+        if self.responses.slots() <= self.unanswered {
+            return false;
+        }
+        let Some(message) = self.next_message(scheduler) else {
+            return false;
+        };
+        if !self.handle(rt, scheduler, message) {
+            return false;
+        }
+        self.next = None;
+        true
+    }
+
+    // What is handled next. Of an office that closes nothing more is taken.
+    fn next_message(&mut self, scheduler: &Scheduler) -> Option<Message>
+        ensures feed { self.new.feed ≡ self.old.feed }
+        ensures room { self.new.responses ≡ self.old.responses }
+        ensures unanswered { self.new.unanswered ≡ self.old.unanswered }
+    {
+        if self.next.is_none() && !scheduler.is_closing() {
+            self.next = self.messages.pop().ok();
+            self.wakers.reader.unpark();
+        }
+        self.next
+    }
+
+    // Handles a message, for whose response there is a place; false if that can't be done yet.
+    fn handle<R: Wait>(&mut self, rt: &R, scheduler: &Scheduler, message: Message) -> bool
+        requires { self.old.unanswered < known_free self.old.responses }
+        ensures { StandsAt self.old.feed self.new.feed }
+    {
+        if let Message::Asked(Request::Post(entry)) = message {
+            return self.submit(scheduler, entry);
+        }
+        if self.unanswered > 0 {
+            return false;
+        }
+        match message {
+            Message::Asked(request) => self.answer_request(rt, scheduler, request),
+            Message::Wrong(wrong) => self.respond(Response::Wrong(wrong)),
+            Message::Ended => {
+                if self.closes_at_end {
+                    scheduler.close();
+                }
+                true
+            }
+        }
+    }
+
+    // Answers a request that posts nothing; false if it isn't answered yet.
+    fn answer_request<R: Wait>(&mut self, rt: &R, scheduler: &Scheduler, request: Request) -> bool
+        requires { self.old.unanswered < known_free self.old.responses }
+        ensures { StandsAt self.old.feed self.new.feed }
+    {
+        match request {
+            Request::Post(entry) => self.submit(scheduler, entry),
+            Request::Balance { account } => self.tell_balance(rt, scheduler, account),
+            Request::Find { reference } => self.tell_found(rt, scheduler, reference),
+            Request::Help => self.respond(Response::Help),
+            Request::Close => {
+                scheduler.close();
+                self.respond(Response::Closing)
+            }
+        }
+    }
+
+    // Submits an entry, for whose response there is a place.
+    fn submit(&mut self, scheduler: &Scheduler, entry: Entry) -> bool
+        requires { self.old.unanswered < known_free self.old.responses }
+        ensures { StandsAt self.old.feed self.new.feed }
+    {
+        scheduler.expect_one();
+        match self.feed.submit(entry) {
+            Ok(_) => {
+                self.unanswered += 1;
+                true
+            }
+            Err(_) => {
+                scheduler.expect_one_less();
+                false
+            }
+        }
+    }
+
+    // Tells the counter something, for which there is a place.
+    fn respond(&mut self, response: Response) -> bool
+        requires { self.old.unanswered < known_free self.old.responses }
+        ensures { self.new.feed ≡ self.old.feed }
+    {
+        self.responses.push_reserved(response);
+        self.wakers.note_given();
+        true
+    }
+
+    // What the station reports on a question, which is put to it once.
+    fn report<R: Wait>(
+        &mut self,
+        rt: &R,
+        scheduler: &Scheduler,
+        question: Question,
+    ) -> Option<Report>
+        ensures feed { self.new.feed ≡ self.old.feed }
+        ensures room { self.new.responses ≡ self.old.responses }
+        ensures unanswered { self.new.unanswered ≡ self.old.unanswered }
+    {
+        if !self.is_asked {
+            self.is_asked = true;
+            scheduler.put_question(rt, self.station, question);
+            return None;
+        }
+        let report = scheduler.take_report(rt, self.station)?;
+        self.is_asked = false;
+        Some(report)
+    }
+
+    // Tells what an account holds; false if that isn't known yet.
+    fn tell_balance<R: Wait>(&mut self, rt: &R, scheduler: &Scheduler, account: u32) -> bool
+        requires { self.old.unanswered < known_free self.old.responses }
+        ensures { self.new.feed ≡ self.old.feed }
+    {
+        match self.report(rt, scheduler, Question::Balance(account)) {
+            Some(Report::Balance(Ok(amount))) => {
+                self.respond(Response::Balance { account, amount })
+            }
+            Some(Report::Balance(Err(refusal))) => self.respond(Response::NoBalance(refusal)),
+            Some(Report::Found(_)) | None => false,
+        }
+    }
+
+    // Tells under which numbers a reference was posted, one after another; false until the last is told.
+    fn tell_found<R: Wait>(&mut self, rt: &R, scheduler: &Scheduler, reference: u64) -> bool
+        requires { self.old.unanswered < known_free self.old.responses }
+        ensures { self.new.feed ≡ self.old.feed }
+    {
+        let question = self.search.question(reference);
+        let Some(Report::Found(found)) = self.report(rt, scheduler, question) else {
+            return false;
+        };
+        let step = self.search.go_on(reference, found);
+        self.tell_step(step);
+        if step.is_last {
+            self.search = Search::BEGINNING;
+            return true;
+        }
+        let question = self.search.question(reference);
+        let _ = self.report(rt, scheduler, question);
+        false
+    }
+
+    // Tells what comes of a step of a search, if anything.
+    fn tell_step(&mut self, step: Step)
+        requires { self.old.unanswered < known_free self.old.responses }
+        ensures { self.new.feed ≡ self.old.feed }
+    {
+        if let Some(response) = step.response {
+            self.respond(response);
+        }
+    }
+
+    // What the counter said that nobody handled, one message after another.
+    fn take_unhandled(&mut self) -> Option<Message>
+        ensures { self.new.feed ≡ self.old.feed }
+    {
+        match self.next.take() {
+            Some(message) => Some(message),
+            None => self.messages.pop().ok(),
+        }
+    }
+
+    /// Lists the entries that the counter asked for and nobody submitted, as far as there is memory, and gives back the feed.
+    pub(crate) fn end(self, unheard: &mut Vec<Unheard>) -> Feed
+        ensures { result ≡ self.feed }
+    {
+        let mut session = self;
+        for _ in 0..=CAPACITY {
+            let Some(message) = session.take_unhandled() else {
+                break;
+            };
+            if let Message::Asked(Request::Post(entry)) = message {
+                let _ = unheard.push(Unheard {
+                    station: session.station,
+                    reference: entry.reference(),
+                });
+            }
+        }
+        let Session { feed, .. } = session;
+        feed
+    }
+}
