@@ -1,12 +1,12 @@
 -- What the bytes that a cutter keeps tell of all bytes since the last line feed.
-use Rattle.std.proofs.Common.{◌≡◌, ◌≢◌, ◌∙◌, ◌⊎◌, inl, inr, ℕ, ◌+◌, ◌-◌, ◌<◌, ◌≤◌, Bool, true, false, Option, Some, None, List, [], ◌∷◌, ◌++◌, length, take, ◌==◌, nat_lt, cond, min, arith, refl, sym, ap}
+use Rattle.std.proofs.Common.{◌≡◌, ◌≢◌, ◌∙◌, ◌⊎◌, inl, inr, ℕ, ◌+◌, ◌-◌, ◌<◌, ◌≤◌, Bool, true, false, Option, Some, None, List, [], ◌∷◌, ◌++◌, length, take, ◌==◌, nat_lt, cond, min, arith, refl, sym, ap, subst}
 use Rattle.std.specs.Prelude.{All, slice_index}
 use Rattle.std.specs.Str.Lines.{lines, strip_carriage_return}
 use Rattle.std.proofs.lemmas.Bool.{cases_lt, le-ltb, lt-ltb, ne_eqb}
 use Rattle.std.proofs.lemmas.List.{length-take, length-take-le, length-append, take_all, take-append-le}
 use Rattle.std.proofs.lemmas.List.Elements.{All-push}
 use Rattle.std.proofs.Math.Seq.{take-length}
-use Rattle.script_grammar.specs.Cutting.{Cutting, cut_of}
+use Rattle.script_grammar.specs.Cutting.{Cutting, HasSeen, cut_of}
 use Rattle.script_grammar.specs.declared.cutting.Cut.{Cut}
 use Rattle.script_grammar.specs.declared.cutting.Cut.TheVariants.{Line, TooLong}
 use Rattle.script_grammar.proofs.ScriptLemmas.{lines_cut, only_line}
@@ -23,6 +23,18 @@ goes_on false kept shown is none = (refl, ap (λ (c : Cutting). c.since) is)
 goes_on true kept shown is none =
     let e : Some kept ≡ None = ap (λ (c : Cutting). c.ended) is ∙ none in
     cc
+
+itself : (bytes : List ℕ) (shown : Cutting) → bytes ≡ shown.since → length bytes ≤ 258 → NoFeed bytes → HasSeen shown shown.since
+itself bytes shown e few none =
+    let P : List ℕ → Type 0 = λ l. (l ≡ take 258 l) × NoFeed l in
+    subst P e (sym (take_all 258 bytes few), none)
+
+-- a cutter has seen what it keeps, if nothing else
+pub seen_itself : (has_ended : Bool) (kept : List ℕ) (shown : Cutting)
+    → (let shape : Cutting = record { since = cond has_ended [] kept; ended = cond has_ended (Some kept) None } in shape ≡ shown)
+    → length kept ≤ 258 → NoFeed kept → HasSeen shown shown.since
+seen_itself false kept shown is few none = itself kept shown (ap (λ (c : Cutting). c.since) is) few none
+seen_itself true kept shown is few none = itself [] shown (ap (λ (c : Cutting). c.since) is) (omega arith) (λ k d below. absurd (omega arith))
 
 -- ---- a carriage return
 

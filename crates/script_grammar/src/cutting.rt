@@ -32,7 +32,7 @@ pub enum Cut {
 }
 
 /// Cuts a stream, which comes byte after byte, into lines. A line ends with a line feed, and one carriage return before
-/// it is dropped; it has at most 256 bytes, among which neither of the two counts. Of a longer one no more than the
+/// it is dropped. It has at most 256 bytes, the line feed and that carriage return not counted; of a longer one the
 /// first 258 bytes are kept, and only until it ends. Every other byte is one of its line, a zero byte too.
 #[derive(Debug, Drop)]
 pub struct LineCutter {
@@ -41,7 +41,7 @@ pub struct LineCutter {
 }
 
 impl Model for LineCutter {
-    ghost use Rattle.std.specs.Prelude.{◌≤◌, Some, None, [], cond, vec_len, vec_capacity};
+    ghost use Rattle.std.specs.Prelude.{◌≡◌, ◌≤◌, ◌==◌, Some, None, [], false, All, cond, vec_len, vec_capacity};
     ghost use Rattle.script_grammar.specs.Cutting.{Cutting};
 
     ghost Value = { Cutting };
@@ -51,8 +51,8 @@ impl Model for LineCutter {
       ended = cond cutter.has_ended (Some cutter.kept.items) None;
     } };
 
-    ghost invariant = { λ cutter.
-        (vec_len cutter.kept ≤ 258) × (258 ≤ vec_capacity cutter.kept) };
+    ghost invariant = { λ cutter. (vec_len cutter.kept ≤ 258) × (258 ≤ vec_capacity cutter.kept)
+        × All (λ byte. (byte == 10) ≡ false) cutter.kept.items };
 }
 
 impl LineCutter {
@@ -119,7 +119,9 @@ impl LineCutter {
 
     /// The line that the last call ended, if it answered [`Cut::Line`], and else nothing.
     pub fn line(&self) -> &[u8]
-        ensures { MatchOption self.now.ended (result.now ≡ []) (λ line. result.now ≡ line) }
+        ensures lent { MatchOption self.now.ended (result.now ≡ []) (λ line. result.now ≡ line) }
+        // whatever cutter it is, there are bytes that it has seen
+        ensures seen { HasSeen self.now self.now.since }
     {
         if self.has_ended { &self.kept } else { &[] }
     }
