@@ -12,6 +12,13 @@ use Rattle.turn_ledger.specs.State.{LedgerState, balance_of, total_of, is_accoun
 abbrev pub Verdict : Type 0
 Verdict = Result (Unit {0}) EntryRefusal
 
+-- the number that the caller gave the entry
+abbrev pub reference_of : Entry → ℕ
+reference_of (Deposit to amount reference) = reference
+reference_of (Withdraw from amount reference) = reference
+reference_of (Transfer from to amount reference) = reference
+reference_of (Seal account reference) = reference
+
 -- it moves nothing; a seal has no amount
 abbrev pub is_zero_amount : Entry → Bool
 is_zero_amount (Deposit to amount reference) = amount == 0
