@@ -5,6 +5,7 @@ mod Prefixes
 mod AfterTurn
 mod AfterAnswer
 mod AfterOpening
+mod AfterLooks
 mod Standing
 mod Running
 mod Lives

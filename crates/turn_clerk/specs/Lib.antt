@@ -8,6 +8,8 @@ pub mod Reply
 pub mod Opened
 pub mod Answered
 pub mod Journaled
+pub mod Found
+pub mod Searched
 pub mod Lives
 pub mod View
 pub mod Equality

@@ -11,6 +11,7 @@ mod events;
 mod journaling;
 mod laws;
 mod refusals;
+mod searching;
 mod turns;
 
 pub use clerk::Clerk;
@@ -18,7 +19,8 @@ pub use events::{Event, Reply};
 pub use four_state::{Line, Rule};
 pub use journal_recovery::{Cause, OpenRefusal};
 pub use laws::{lives_in_a_row, lives_join};
-pub use refusals::TurnRefusal;
+pub use refusals::{FindRefusal, TurnRefusal};
+pub use searching::{Found, SEARCH_STEP};
 pub use sector_device::Device;
 pub use sweep_auditor::Move;
 pub use turn_ledger::{BATCH_LIMIT, Batch, Entry, EntryRefusal, Ledger, Verdicts};

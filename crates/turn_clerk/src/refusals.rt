@@ -1,5 +1,6 @@
-//! Why a turn is not taken.
+//! Why a turn is not taken, and why a search isn't answered.
 
+use gate_journal::ReadRefusal;
 use thiserror::Error;
 
 /// Why a turn was not taken: the first, in this order, that holds.
@@ -27,4 +28,32 @@ pub enum TurnRefusal {
     /// The device failed while the accepted entries were journaled. Whether they stand is told by opening it again.
     #[error("the device failed")]
     Device,
+}
+
+/// Why a search for a reference was not answered: the first, in this order, that holds.
+#[derive(Clone, Copy, Debug, PartialEq, Eq, Error)]
+pub enum FindRefusal {
+    /// A device fault was met in an earlier turn. The clerk answers so until its device is opened again.
+    #[error("a device fault was met and the device must be opened again")]
+    Faulted,
+    /// What is read isn't what was posted any more, which never happens on an honest device.
+    #[error("the record is no longer there")]
+    Changed,
+    /// A read of the device failed.
+    #[error("the device failed")]
+    Device,
+}
+
+impl From<ReadRefusal> for FindRefusal {
+    ghost use Rattle.turn_clerk.specs.Searched.{find_refusal_of};
+    ghost use Rattle.std.specs.Prelude.{◌≡◌};
+
+    ghost from_gives = { λ refusal found. found ≡ find_refusal_of refusal };
+
+    fn from(refusal: ReadRefusal) -> Self {
+        match refusal {
+            ReadRefusal::Changed => FindRefusal::Changed,
+            ReadRefusal::Device => FindRefusal::Device,
+        }
+    }
 }
