@@ -3,3 +3,4 @@ pub mod Account
 pub mod Opening
 pub mod Told
 pub mod Lent
+pub mod Asked

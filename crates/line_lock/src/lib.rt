@@ -17,10 +17,12 @@ pub use four_state::{Line, Rule};
 pub use lent::{OfficeRefusal, OfficeWork, with_office};
 pub use office::Office;
 pub use opening::Opening;
-pub use refusals::WithinRefusal;
+pub use refusals::{BalanceRefusal, WithinRefusal};
 pub use seat::Seat;
 pub use sector_device::Device;
 pub use std::sync::ledger::{Blank, Ledger as Count};
 pub use sweep_auditor::Audit;
-pub use turn_clerk::{Clerk, OpenRefusal, Taken, Turn, TurnRefusal};
+pub use turn_clerk::{
+    Clerk, FindRefusal, Found, OpenRefusal, SEARCH_STEP, Taken, Turn, TurnRefusal,
+};
 pub use turn_ledger::{BATCH_LIMIT, Entry};

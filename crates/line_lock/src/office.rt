@@ -14,18 +14,20 @@ ghost use Rattle.journal_recovery.specs.Refused.{RecoveryRefuses};
 ghost use Rattle.line_lock.specs.Opening.{Names, WasOpenedOn, WasLeftByClerk};
 ghost use Rattle.line_lock.specs.Seat.{new_seat, HasReached};
 ghost use Rattle.line_lock.specs.Told.{WasTold};
+ghost use Rattle.line_lock.specs.Asked.{WasToldBalance, WasSearched};
+ghost use Rattle.turn_ledger.specs.State.{IsAccount};
 
 use crate::closing::{CloseRefusal, Closing, audited, gathered, look_at};
 use crate::locked::{Locked, LockedTurn};
 use crate::opening::Opening;
-use crate::refusals::WithinRefusal;
+use crate::refusals::{BalanceRefusal, WithinRefusal};
 use crate::seat::Seat;
 use four_state::Line;
 use sector_device::Device;
 use std::alloc::Global;
 use std::sync::ledger::{Blank, Ledger as Count};
 use std::sync::{Mutex, Wait};
-use turn_clerk::{Clerk, OpenRefusal, Taken, Turn, TurnRefusal};
+use turn_clerk::{Clerk, FindRefusal, Found, OpenRefusal, Taken, Turn, TurnRefusal};
 use turn_ledger::Entry;
 
 /// One clerk that several stations share, one turn at a time.
@@ -155,6 +157,38 @@ impl<D: Device, L: Count + Opening> Office<D, L> {
             Ok(taken) => Ok(taken),
             Err(refusal) => Err(WithinRefusal::Turn(refusal)),
         }
+    }
+
+    /// What an account holds; it may wait for the lock. The history that the balance comes from has at least as many turns
+    /// as the seat lists.
+    ///
+    /// # Errors
+    /// [`BalanceRefusal`], the first that holds.
+    pub fn balance<R: Wait>(
+        &self,
+        rt: &R,
+        seat: &mut Seat<L>,
+        account: u32,
+    ) -> Result<u64, BalanceRefusal>
+        ensures told { WasToldBalance D.state L.device L.line seat.old account result }
+        ensures there { OnOk result (IsAccount account) }
+        ensures no_account { result ≡ Err BalanceRefusal.NoAccount → IsAccount account → ⊥ }
+        ensures seat { seat.new ≡ seat.old }
+    {
+        self.locked.lock(rt).balance(seat, account)
+    }
+
+    /// Looks for an entry with that reference in the records of the live bank, as [`Clerk::find`] does; it may wait for
+    /// the lock. A call takes the lock for one step, of [`turn_clerk::SEARCH_STEP`] records at most: between the calls of a
+    /// long search others may take turns.
+    ///
+    /// # Errors
+    /// [`FindRefusal`], the first that holds.
+    pub fn find<R: Wait>(&self, rt: &R, reference: u64, from: u64) -> Result<Found, FindRefusal>
+        ensures told { WasSearched D.state L.device L.line reference from result }
+        ensures never_changed { L.device.honest → result ≢ Err FindRefusal.Changed }
+    {
+        self.locked.lock(rt).find(reference, from)
     }
 
     /// Closes the office, if the list has the seat of each station and the history bears out what each one holds:

@@ -1,4 +1,4 @@
-//! Why a turn within a limit was not taken.
+//! Why a turn within a limit was not taken, and why a balance isn't told.
 
 use thiserror::Error;
 use turn_clerk::TurnRefusal;
@@ -13,4 +13,15 @@ pub enum WithinRefusal {
     /// The turn was refused.
     #[error("{0}")]
     Turn(#[from] TurnRefusal),
+}
+
+/// Why an account's balance was not told: the first, in this order, that holds.
+#[derive(Clone, Copy, Debug, PartialEq, Eq, Error)]
+pub enum BalanceRefusal {
+    /// A device fault was met in an earlier turn, so that whether that turn stands isn't known.
+    #[error("a device fault was met and the device must be opened again")]
+    Faulted,
+    /// There is no account of this number.
+    #[error("there is no such account")]
+    NoAccount,
 }

@@ -1,0 +1,46 @@
+-- What an office is asked of its ledger while it is open.
+use Rattle.std.specs.Prelude.{◌≡◌, ◌≤◌, ◌↔◌, ℕ, true, false, length, IsTrue, Result, Ok, Err, IfOk}
+use Rattle.sector_device.specs.Device.{DeviceState, AreCalls}
+use Rattle.sector_device.specs.Crash.{LooksOnly}
+use Rattle.four_state.specs.Configuration.{Configuration}
+use Rattle.turn_ledger.specs.State.{IsAccount, balance_of}
+use Rattle.turn_clerk.specs.Clerk.{ClerkState, KeepsHistory}
+use Rattle.turn_clerk.specs.Found.{IsNumbered, HasFound}
+use Rattle.turn_clerk.specs.declared.searching.Found.{Found}
+use Rattle.turn_clerk.specs.declared.refusals.FindRefusal.{FindRefusal}
+use Rattle.turn_clerk.specs.declared.refusals.FindRefusal.TheVariants as find
+use Rattle.line_lock.specs.Opening.{WasOpenedOn}
+use Rattle.line_lock.specs.Seat.{SeatState}
+use Rattle.line_lock.specs.declared.refusals.BalanceRefusal.{BalanceRefusal}
+use Rattle.line_lock.specs.declared.refusals.BalanceRefusal.TheVariants.{Faulted, NoAccount}
+
+-- What a clerk answers of an account: what it holds, if the clerk works and there is such an account, and else which of
+-- both isn't so, first that the clerk doesn't work.
+abbrev pub IsBalance : {D : Type 0} → ClerkState D → ℕ → Result ℕ BalanceRefusal → Type 0
+IsBalance clerk account (Ok amount) = (clerk.journal.faulted ≡ false) × IsAccount account × (amount ≡ balance_of clerk.ledger account)
+IsBalance clerk account (Err Faulted) = clerk.journal.faulted ≡ true
+IsBalance clerk account (Err NoAccount) = (clerk.journal.faulted ≡ false) × (IsAccount account → ⊥)
+
+-- An office that was opened on that device with that line was asked for an account's balance by a seat, and a clerk of it
+-- answered: its turns are a legal history, which ends in its ledger, and while it works they are as many as the seat lists,
+-- or more.
+pub record WasToldBalance {D : Type 0} (state : D → DeviceState) (device : DeviceState) (from : Configuration) (seat : SeatState) (account : ℕ) (answer : Result ℕ BalanceRefusal) : Type 0 where
+  pub clerk : ClerkState D
+  pub opened : WasOpenedOn state device from clerk
+  pub legal : KeepsHistory clerk
+  pub turns : clerk.journal.faulted ≡ false → length seat.turns ≤ length clerk.history
+  pub is : IsBalance clerk account answer
+
+-- An office that was opened on that device with that line was asked for a reference, from the record of a number on, and a
+-- clerk of it answered, whose turns are a legal history. After it the device is another one at most by looks.
+pub record WasSearched {D : Type 0} (state : D → DeviceState) (device : DeviceState) (from : Configuration) (reference first : ℕ) (answer : Result Found FindRefusal) : Type 0 where
+  pub clerk : ClerkState D
+  pub opened : WasOpenedOn state device from clerk
+  pub legal : KeepsHistory clerk
+  pub after : D
+  pub call : AreCalls (state clerk.journal.device) (state after) (answer ≡ Err find.Device)
+  pub faulted : (answer ≡ Err find.Faulted) ↔ IsTrue clerk.journal.faulted
+  pub numbered : IfOk answer (IsNumbered clerk.journal first)
+  -- on an honest device
+  pub looks : LooksOnly (state clerk.journal.device) (state after)
+  pub found : device.honest → IfOk answer (HasFound state clerk reference first)
