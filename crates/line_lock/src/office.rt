@@ -159,7 +159,8 @@ impl<D: Device, L: Count + Opening> Office<D, L> {
         }
     }
 
-    /// What an account holds; it may wait for the lock. The turns that the seat lists are in it.
+    /// What an account holds; it may wait for the lock. The history that the balance comes from has at least as many turns
+    /// as the seat lists.
     ///
     /// # Errors
     /// [`BalanceRefusal`], the first that holds.
@@ -178,8 +179,8 @@ impl<D: Device, L: Count + Opening> Office<D, L> {
     }
 
     /// Looks for an entry with that reference in the records of the live bank, as [`Clerk::find`] does; it may wait for
-    /// the lock. A call takes the lock for one step, of [`turn_clerk::SEARCH_STEP`] records at most, so that a long search
-    /// lets others take their turns.
+    /// the lock. A call takes the lock for one step, of [`turn_clerk::SEARCH_STEP`] records at most: between the calls of a
+    /// long search others may take turns.
     ///
     /// # Errors
     /// [`FindRefusal`], the first that holds.

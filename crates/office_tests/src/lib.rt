@@ -7,3 +7,5 @@ mod clerks;
 mod desks;
 #[cfg(test)]
 mod offices;
+#[cfg(test)]
+mod searches;
