@@ -1,12 +1,24 @@
 -- What an office leaves that wasn't kept open, or isn't told of.
-use Rattle.std.specs.Prelude.{◌≡◌, ℕ}
+use Rattle.std.specs.Prelude.{◌≡◌, ℕ, List}
 use Rattle.sector_device.specs.Device.{DeviceState}
 use Rattle.four_state.specs.Configuration.{Configuration}
 use Rattle.line_lock.specs.Opening.{WasLeftByClerk}
+use Rattle.station_desk.specs.Rings.{FeedState, AreTogether}
+use Rattle.office_day.specs.declared.seated.Left.{Left}
 use Rattle.office_day.specs.Spans.{AreSpans, Span, WasAbandoned}
-use Rattle.std.specs.Prelude.{List}
+use Rattle.office_engine.specs.declared.counter.Unserved.{Unserved}
+use Rattle.office_engine.specs.declared.counter.Unserved.TheVariants as unserved
 use Rattle.office_engine.specs.declared.open_office.LiveRefusal.{LiveRefusal}
 use Rattle.office_engine.specs.declared.open_office.LiveRefusal.TheVariants.{Memory, Threads, Office, Unsettled}
+
+-- the feed stands at the rings of the desk that its station left
+abbrev pub stands_with : FeedState → Left → Type 0
+stands_with feed part = AreTogether feed part.desk
+
+-- why an office isn't kept open, one of whose counters can't be served
+abbrev pub live_refusal : Unserved → LiveRefusal
+live_refusal unserved.Memory = Memory
+live_refusal unserved.Threads = Threads
 
 -- The device comes from an office that was kept open on that one with that line, for some spans in a row and one more: a
 -- clerk took turns on it.

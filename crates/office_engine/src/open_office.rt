@@ -1,13 +1,12 @@
 //! An office that is kept open for its counters.
-ghost use Rattle.std.specs.Prelude.{◌≡◌, ◌≤◌, length, map, IfOk, IfErr};
-ghost use Rattle.four_state.specs.Configuration.{stations};
+ghost use Rattle.std.specs.Prelude.{◌≡◌, map, IfOk, IfErr};
+ghost use Rattle.std.specs.List.{AllZip};
+ghost use Rattle.office_day.specs.Day.{AreReconciled};
 ghost use Rattle.office_day.specs.Spans.{span_of, WasKeptOpen};
-ghost use Rattle.office_engine.specs.Kept.{HandsBack};
+ghost use Rattle.office_engine.specs.Kept.{HandsBack, stands_with};
 
-use crate::counter::Counter;
-use crate::dispatcher::SameFeeds;
+use crate::counter::{Counter, Unserved};
 use crate::opening::{Begun, begin};
-use crate::scheduler::Scheduler;
 use crate::session::{Session, Unheard};
 use crate::wakers::Wakers;
 use office_day::{
@@ -17,7 +16,7 @@ use office_day::{
 use std::alloc::{AllocError, Global};
 use std::io::{Read, Write};
 use std::sync::{Arc, Wait};
-use std::thread::{PromisedHandle, Threads, sleep};
+use std::thread::{Threads, sleep};
 use std::time::{Clock, Duration};
 use thiserror::Error;
 
@@ -57,6 +56,19 @@ pub enum LiveRefusal {
     /// There is no memory for what became of the last requests. All that was answered stands.
     #[error("out of memory")]
     Unsettled,
+}
+
+impl From<Unserved> for LiveRefusal {
+    ghost use Rattle.office_engine.specs.Kept.{live_refusal};
+
+    ghost from_gives = { λ unserved refusal. refusal ≡ live_refusal unserved };
+
+    fn from(unserved: Unserved) -> LiveRefusal {
+        match unserved {
+            Unserved::Memory => LiveRefusal::Memory,
+            Unserved::Threads => LiveRefusal::Threads,
+        }
+    }
 }
 
 /// Keeps an office open on the device, with this line, for these counters, that of station 0 first: each may come and go, say
@@ -103,9 +115,13 @@ pub fn keep_open<
     scheduler.note_over();
     let sessions = dispatcher.join(rt);
     await_writers(rt, wakers.as_slice());
-    match life {
-        Ok(life) => settled(alloc, life, sessions, scheduler.turns()),
-        Err((device, refusal)) => Err((device, LiveRefusal::Office(refusal))),
+    let life = match life {
+        Ok(life) => life,
+        Err((device, refusal)) => return Err((device, LiveRefusal::Office(refusal))),
+    };
+    match settled(alloc, life, sessions, scheduler.turns()) {
+        Ok(closed) => Ok(closed),
+        Err((device, refusal)) => Err((device, refusal)),
     }
 }
 
@@ -125,7 +141,15 @@ fn settled<D: Device>(
     life: Life<D>,
     sessions: Vec<Session>,
     turns: u64,
-) -> Result<Closed<D>, (D, LiveRefusal)> {
+) -> Result<Closed<D>, (D, LiveRefusal)>
+    requires together { AllZip stands_with (map (λ session. session.feed) sessions.items) life.left.items }
+    ensures clerk { IfOk result (λ closed. closed.clerk ≡ life.clerk) }
+    ensures audit { IfOk result (λ closed. closed.audit ≡ life.audit) }
+    ensures stations { IfOk result (λ closed. AreReconciled
+        (map (λ session. session.feed) sessions.items) life.left.items closed.stations.items) }
+    ensures back { IfErr result (λ e. e.0 ≡ life.clerk.journal.device) }
+    ensures unsettled { IfErr result (λ e. e.1 ≡ LiveRefusal.Unsettled) }
+{
     let Life { clerk, audit, left } = life;
     match ended(alloc, sessions, left) {
         Ok((stations, unheard)) => Ok(Closed {
@@ -144,11 +168,27 @@ fn ended(
     alloc: Global,
     sessions: Vec<Session>,
     left: Vec<Left>,
-) -> Result<(Vec<StationDay>, Vec<Unheard>), AllocError> {
+) -> Result<(Vec<StationDay>, Vec<Unheard>), AllocError>
+    requires together { AllZip stands_with (map (λ session. session.feed) sessions.items) left.items }
+    ensures { IfOk result (λ both. AreReconciled
+        (map (λ session. session.feed) sessions.items) left.items both.0.items) }
+{
     let mut unheard = Vec::new(alloc);
+    let feeds = feeds_of(alloc, sessions, &mut unheard)?;
+    Ok((all_reconciled(alloc, feeds, left)?, unheard))
+}
+
+// The feeds of the sessions. What was never submitted is listed.
+fn feeds_of(
+    alloc: Global,
+    sessions: Vec<Session>,
+    unheard: &mut Vec<Unheard>,
+) -> Result<Vec<Feed>, AllocError>
+    ensures { IfOk result (λ feeds. feeds.items ≡ map (λ session. session.feed) sessions.items) }
+{
     let mut feeds = Vec::with_capacity(alloc, sessions.len())?;
     for session in sessions {
-        feeds.push(session.end(&mut unheard))?;
+        feeds.push(session.end(unheard))?;
     }
-    Ok((all_reconciled(alloc, feeds, left)?, unheard))
+    Ok(feeds)
 }

@@ -1,5 +1,5 @@
 //! How an office opens for its counters: their sessions, and the thread that attends to them.
-ghost use Rattle.std.specs.Prelude.{◌≡◌, ◌≤◌, [], length, map, All, IfOk};
+ghost use Rattle.std.specs.Prelude.{◌≡◌, [], ◌∷◌, ◌++◌, length, map, All, IfOk, OnOk};
 ghost use Rattle.std.specs.List.{AllZip};
 ghost use Rattle.station_desk.specs.Rings.{AreTogether};
 ghost use Rattle.office_day.specs.Counters.{IsFresh};
@@ -9,7 +9,7 @@ use crate::dispatcher::{SameFeeds, dispatch};
 use crate::scheduler::Scheduler;
 use crate::session::{CAPACITY, Session};
 use crate::wakers::Wakers;
-use station_desk::{Desk, desk};
+use station_desk::{Desk, Feed, desk};
 use std::alloc::{AllocError, Global};
 use std::io::{Read, Write};
 use std::snapshot::Snapshot;
@@ -29,12 +29,37 @@ pub(crate) struct Begun {
     pub wakers: Vec<Arc<Wakers>>,
 }
 
-// The sessions of all stations, and their desks.
+// The sessions of stations, and their desks.
 #[derive(Drop)]
-struct Seated {
+struct Attended {
     sessions: Vec<Session>,
     desks: Vec<Desk>,
     wakers: Vec<Arc<Wakers>>,
+}
+
+impl Attended {
+    // No station, and places for so many.
+    fn new(alloc: Global, stations: usize) -> Result<Attended, AllocError>
+        ensures sessions { IfOk result (λ all. all.sessions.items ≡ []) }
+        ensures desks { IfOk result (λ all. all.desks.items ≡ []) }
+    {
+        Ok(Attended {
+            sessions: Vec::with_capacity(alloc, stations)?,
+            desks: Vec::with_capacity(alloc, stations)?,
+            wakers: Vec::with_capacity(alloc, stations)?,
+        })
+    }
+
+    // The next station.
+    fn add(&mut self, session: Session, desk: Desk) -> Result<(), AllocError>
+        ensures sessions { OnOk result (self.new.sessions.items ≡ self.old.sessions.items ++ session ∷ []) }
+        ensures desks { OnOk result (self.new.desks.items ≡ self.old.desks.items ++ desk ∷ []) }
+    {
+        self.wakers.push(session.wakers()?)?;
+        self.sessions.push(session)?;
+        self.desks.push(desk)?;
+        Ok(())
+    }
 }
 
 /// Begins to attend to the counters, at as many stations.
@@ -49,11 +74,11 @@ pub(crate) fn begin<
     ensures as_many { IfOk result (λ begun. length begun.desks.items ≡ stations) }
 {
     let scheduler = new_scheduler(alloc, stations)?;
-    let Seated {
+    let Attended {
         sessions,
         desks,
         wakers,
-    } = seated(rt, alloc, stations, counters, &scheduler)?;
+    } = seat_all(rt, alloc, stations, counters, &scheduler)?;
     let promise = SameFeeds(Snapshot::of(&sessions));
     let (own, theirs) = (rt.clone()?, Arc::try_clone(&scheduler)?);
     match spawn_with(rt, promise, move || dispatch(&own, &theirs, sessions)) {
@@ -72,7 +97,7 @@ fn new_scheduler(alloc: Global, stations: u8) -> Result<Arc<Scheduler>, AllocErr
 }
 
 // A session for each station, with its counter where it has one, and its desk.
-fn seated<
+fn seat_all<
     R: Threads + Wait + Send + Clone + Drop + 'static,
     I: Read + Send + Drop + 'static,
     O: Write + Send + Drop + 'static,
@@ -82,29 +107,42 @@ fn seated<
     stations: u8,
     counters: Vec<Counter<I, O>>,
     scheduler: &Arc<Scheduler>,
-) -> Result<Seated, Unserved>
+) -> Result<Attended, Unserved>
     ensures together { IfOk result (λ all. AllZip AreTogether
         (map (λ session. session.feed) all.sessions.items) all.desks.items) }
     ensures fresh { IfOk result (λ all. All IsFresh all.desks.items) }
     ensures as_many { IfOk result (λ all. length all.desks.items ≡ stations) }
 {
-    let mut sessions = Vec::with_capacity(alloc, stations as usize)?;
-    let mut desks = Vec::with_capacity(alloc, stations as usize)?;
-    let mut wakers = Vec::with_capacity(alloc, stations as usize)?;
+    let mut all = Attended::new(alloc, stations as usize)?;
     let mut waiting = counters.into_iter();
     for station in 0..stations {
         let (feed, desk) = desk(alloc, CAPACITY)?;
-        let session = match waiting.next() {
-            Some(counter) => begin_session(rt, alloc, station, counter, feed, scheduler)?,
-            None => empty_session(alloc, station, feed)?,
-        };
-        wakers.push(session.wakers()?)?;
-        sessions.push(session)?;
-        desks.push(desk)?;
+        let session = session_at(rt, alloc, station, waiting.next(), feed, scheduler)?;
+        all.add(session, desk)?;
     }
-    Ok(Seated {
-        sessions,
-        desks,
-        wakers,
-    })
+    Ok(all)
+}
+
+// The session of a station, with its counter where it has one.
+fn session_at<
+    R: Threads + Wait + Send + Clone + Drop + 'static,
+    I: Read + Send + Drop + 'static,
+    O: Write + Send + Drop + 'static,
+>(
+    rt: &R,
+    alloc: Global,
+    station: u8,
+    counter: Option<Counter<I, O>>,
+    feed: Feed,
+    scheduler: &Arc<Scheduler>,
+) -> Result<Session, Unserved>
+    ensures { IfOk result (λ session. session.feed ≡ feed) }
+{
+    match counter {
+        Some(counter) => begin_session(rt, alloc, station, counter, feed, scheduler),
+        None => match empty_session(alloc, station, feed) {
+            Ok(session) => Ok(session),
+            Err(AllocError) => Err(Unserved::Memory),
+        },
+    }
 }
