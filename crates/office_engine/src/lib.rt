@@ -1,31 +1,21 @@
-//! What the program `ledger_office` does: it keeps an office open, whose counters come and go.
+//! What the program `ledger_office` does: it keeps an office open on a file or a disk, for counters by named pipes and for
+//! the terminal.
 //!
-//! A counter is a client of one station. It says a request a line, and each is answered by a line, in order, as soon as it
-//! is durable. [`keep_open`] runs an office for counters that are handed in, over any streams; [`run_office_program`] does
-//! all that the program does with the words of its command line.
-//!
-//! Each counter has two threads, one that reads what it says and one that writes what it is told; they own ends of rings
-//! alone, and may wait for the counter forever. One thread more, the dispatcher, holds every feed, and never reads nor writes.
-//! Each station has a thread of its own. The scheduler is what they share: it wakes whom there is work for.
-//!
-//! The test `a_counter_is_answered_in_order` in `src/counters.rt` of the crate `live_tests` is an example.
+//! [`run_office_program`] does all that the program does with the words of its command line.
 #![tactic(auto)]
 
-mod counter;
-mod dispatcher;
-mod messages;
-mod open_office;
-mod opening;
-mod reader;
-mod responses;
-mod scheduler;
-mod search;
-mod session;
-mod wakers;
-mod writer;
+mod command_line;
+mod faults;
+mod pipes;
+mod program;
+mod settings;
+mod source;
+mod telling;
 
-pub use counter::{Counter, Kind};
-pub use messages::WrongLine;
-pub use open_office::{Closed, LiveRefusal, keep_open};
-pub use responses::Response;
-pub use session::Unheard;
+pub use command_line::options;
+pub use faults::{OfficeFault, PipeFault};
+pub use pipes::{Side, open_pipe};
+pub use program::{Terminal, run_office_program};
+pub use settings::{Options, WrongWords};
+pub use source::{Source, Target};
+pub use telling::{tell_no_memory, tell_not_text};

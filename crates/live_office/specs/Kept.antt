@@ -1,0 +1,38 @@
+-- What an office leaves that wasn't kept open, or isn't told of.
+use Rattle.std.specs.Prelude.{◌≡◌, ℕ, List}
+use Rattle.sector_device.specs.Device.{DeviceState}
+use Rattle.four_state.specs.Configuration.{Configuration}
+use Rattle.line_lock.specs.Opening.{WasLeftByClerk}
+use Rattle.station_desk.specs.Rings.{FeedState, AreTogether}
+use Rattle.office_day.specs.declared.seated.Left.{Left}
+use Rattle.office_day.specs.Spans.{AreSpans, Span, WasAbandoned}
+use Rattle.live_office.specs.declared.counter.Unserved.{Unserved}
+use Rattle.live_office.specs.declared.counter.Unserved.TheVariants as unserved
+use Rattle.live_office.specs.declared.open_office.LiveRefusal.{LiveRefusal}
+use Rattle.live_office.specs.declared.open_office.LiveRefusal.TheVariants.{Memory, Threads, Office, Unsettled}
+
+-- the feed stands at the rings of the desk that its station left
+abbrev pub stands_with : FeedState → Left → Type 0
+stands_with feed part = AreTogether feed part.desk
+
+-- why an office isn't kept open, one of whose counters can't be served
+abbrev pub live_refusal : Unserved → LiveRefusal
+live_refusal unserved.Memory = Memory
+live_refusal unserved.Threads = Threads
+
+-- The device comes from an office that was kept open on that one with that line, for some spans in a row and one more: a
+-- clerk took turns on it.
+pub record WasLeftOpen {D : Type 0} (state : D → DeviceState) (moves : ℕ) (device : D) (line : Configuration) (after : D) : Type 0 where
+  pub earlier : List (Span D)
+  pub between : D
+  pub stood : Configuration
+  pub joined : AreSpans state moves device line earlier between stood
+  pub left : WasLeftByClerk state (state between) stood after
+
+-- What the device is that comes back: the one that was handed in, where nothing was done; what an office left that was
+-- broken off; or what a clerk left.
+abbrev pub HandsBack : {D : Type 0} → (D → DeviceState) → ℕ → D → Configuration → D → LiveRefusal → Type 0
+HandsBack state moves device line after Memory = after ≡ device
+HandsBack state moves device line after Threads = after ≡ device
+HandsBack state moves device line after (Office refusal) = WasAbandoned state moves device line after refusal
+HandsBack state moves device line after Unsettled = WasLeftOpen state moves device line after

@@ -1,0 +1,198 @@
+//! An office that is kept open for its counters.
+ghost use Rattle.std.specs.Prelude.{◌≡◌, map, IfOk, IfErr};
+ghost use Rattle.std.specs.List.{AllZip};
+ghost use Rattle.office_day.specs.Day.{AreReconciled};
+ghost use Rattle.office_day.specs.Spans.{span_of, WasKeptOpen};
+ghost use Rattle.live_office.specs.Kept.{HandsBack, stands_with};
+
+use crate::counter::{Counter, Unserved};
+use crate::opening::{Begun, begin};
+use crate::scheduler::Scheduler;
+use crate::session::{Session, Unheard};
+use crate::wakers::Wakers;
+use office_day::{
+    Adjourned, Audit, Clerk, Device, Feed, Left, Life, Line, OfficeRefusal, StationDay,
+    all_reconciled, run_spans,
+};
+use std::alloc::{AllocError, Global};
+use std::io::{Read, Write};
+use std::sync::{Arc, Wait};
+use std::thread::{Threads, sleep};
+use std::time::{Clock, Duration};
+use thiserror::Error;
+
+/// How often it is looked whether the counters were told all, before the office is left; and how many milliseconds lie
+/// between two looks.
+const LOOKS: u64 = 400;
+
+const PAUSE: u64 = 5;
+
+/// A live office that is closed.
+#[derive(Drop)]
+pub struct Closed<D: Device> {
+    /// The clerk of its last span, with that span's history.
+    pub clerk: Clerk<D>,
+    /// The audit of the last span's opening line and all its moves.
+    pub audit: Audit,
+    /// What each station's client wasn't told yet, and how the station ended, station 0 first.
+    pub stations: Vec<StationDay>,
+    /// What counters asked for, and what came too late to be submitted.
+    pub unheard: Vec<Unheard>,
+    /// How many turns were taken in all.
+    pub turns: u64,
+    /// Whether stations ended since one of them never began, as where the system refuses a thread.
+    pub is_abandoned: bool,
+}
+
+/// Why an office wasn't kept open, or isn't told of.
+#[derive(Clone, Copy, Debug, PartialEq, Eq, Error)]
+pub enum LiveRefusal {
+    /// There is no memory; nothing was done.
+    #[error("out of memory")]
+    Memory,
+    /// The system refused a thread; nothing was done.
+    #[error("the system refused a thread")]
+    Threads,
+    /// The office wasn't opened, or wasn't closed.
+    #[error("{0}")]
+    Office(OfficeRefusal<AllocError>),
+    /// There is no memory for what became of the last requests. All that was answered stands.
+    #[error("out of memory")]
+    Unsettled,
+}
+
+impl From<Unserved> for LiveRefusal {
+    ghost use Rattle.live_office.specs.Kept.{live_refusal};
+
+    ghost from_gives = { λ unserved refusal. refusal ≡ live_refusal unserved };
+
+    fn from(unserved: Unserved) -> LiveRefusal {
+        match unserved {
+            Unserved::Memory => LiveRefusal::Memory,
+            Unserved::Threads => LiveRefusal::Threads,
+        }
+    }
+}
+
+/// Keeps an office open on the device, with this line, for these counters, that of station 0 first: each may come and go, say
+/// its requests, and is told the answers. Stations without a counter take turns that are empty. After `moves` turns the
+/// office is closed and opened again, which no counter notices. It ends once a counter asks for that, and all that was
+/// submitted is answered; where the input of a terminal ends; and where a station is refused its turns, as by a failed
+/// device. Then it is closed. The call waits for all of that; the counters' threads are left behind.
+///
+/// # Errors
+/// The device comes back with a [`LiveRefusal`].
+pub fn keep_open<
+    D: Device + Send,
+    R: Threads + Wait + Clock + Sync + Send + Clone + Drop + 'static,
+    I: Read + Send + Drop + 'static,
+    O: Write + Send + Drop + 'static,
+>(
+    rt: &R,
+    alloc: Global,
+    device: D,
+    line: Line,
+    counters: Vec<Counter<I, O>>,
+    moves: u64,
+) -> Result<Closed<D>, (D, LiveRefusal)>
+    ensures kept { IfOk result (λ closed. WasKeptOpen D.state moves device line
+        (span_of closed.clerk closed.audit) closed.stations.items) }
+    ensures left { IfErr result (λ e. HandsBack D.state moves device line e.0 e.1) }
+{
+    let begun = match begin(rt, alloc, line.stations(), counters) {
+        Ok(begun) => begun,
+        Err(unserved) => return Err((device, LiveRefusal::from(unserved))),
+    };
+    let Begun {
+        scheduler,
+        dispatcher,
+        desks,
+        wakers,
+    } = begun;
+    let office = Adjourned {
+        device,
+        line,
+        desks,
+    };
+    let life = run_spans(rt, alloc, office, &*scheduler, moves);
+    scheduler.note_over();
+    let sessions = dispatcher.join(rt);
+    await_writers(rt, wakers.as_slice());
+    let life = match life {
+        Ok(life) => life,
+        Err((device, refusal)) => return Err((device, LiveRefusal::Office(refusal))),
+    };
+    match settled(alloc, life, sessions, &scheduler) {
+        Ok(closed) => Ok(closed),
+        Err((device, refusal)) => Err((device, refusal)),
+    }
+}
+
+// Waits until the counters were told all, but not for ever: one that reads nothing holds up nobody.
+fn await_writers<C: Clock>(clock: &C, wakers: &[Arc<Wakers>]) {
+    for _ in 0..LOOKS {
+        if wakers.iter().all(|one| one.is_all_written()) {
+            return;
+        }
+        sleep(clock, Duration::from_millis(PAUSE));
+    }
+}
+
+// The office's end, with what became of what its clients weren't told yet.
+fn settled<D: Device>(
+    alloc: Global,
+    life: Life<D>,
+    sessions: Vec<Session>,
+    scheduler: &Scheduler,
+) -> Result<Closed<D>, (D, LiveRefusal)>
+    requires together { AllZip stands_with (map (λ session. session.feed) sessions.items) life.left.items }
+    ensures clerk { IfOk result (λ closed. closed.clerk ≡ life.clerk) }
+    ensures audit { IfOk result (λ closed. closed.audit ≡ life.audit) }
+    ensures stations { IfOk result (λ closed. AreReconciled
+        (map (λ session. session.feed) sessions.items) life.left.items closed.stations.items) }
+    ensures back { IfErr result (λ e. e.0 ≡ life.clerk.journal.device) }
+    ensures unsettled { IfErr result (λ e. e.1 ≡ LiveRefusal.Unsettled) }
+{
+    let Life { clerk, audit, left } = life;
+    match ended(alloc, sessions, left) {
+        Ok((stations, unheard)) => Ok(Closed {
+            clerk,
+            audit,
+            stations,
+            unheard,
+            turns: scheduler.turns(),
+            is_abandoned: scheduler.is_abandoned(),
+        }),
+        Err(AllocError) => Err((clerk.into_device(), LiveRefusal::Unsettled)),
+    }
+}
+
+// What became of the requests of all counters, and what was never submitted.
+fn ended(
+    alloc: Global,
+    sessions: Vec<Session>,
+    left: Vec<Left>,
+) -> Result<(Vec<StationDay>, Vec<Unheard>), AllocError>
+    requires together { AllZip stands_with (map (λ session. session.feed) sessions.items) left.items }
+    ensures { IfOk result (λ both. AreReconciled
+        (map (λ session. session.feed) sessions.items) left.items both.0.items) }
+{
+    let mut unheard = Vec::new(alloc);
+    let feeds = feeds_of(alloc, sessions, &mut unheard)?;
+    Ok((all_reconciled(alloc, feeds, left)?, unheard))
+}
+
+// The feeds of the sessions. What was never submitted is listed.
+fn feeds_of(
+    alloc: Global,
+    sessions: Vec<Session>,
+    unheard: &mut Vec<Unheard>,
+) -> Result<Vec<Feed>, AllocError>
+    ensures { IfOk result (λ feeds. feeds.items ≡ map (λ session. session.feed) sessions.items) }
+{
+    let mut feeds = Vec::with_capacity(alloc, sessions.len())?;
+    for session in sessions {
+        feeds.push(session.end(unheard))?;
+    }
+    Ok(feeds)
+}

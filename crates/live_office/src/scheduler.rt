@@ -1,0 +1,313 @@
+//! Who wakes the stations and the dispatcher of a live office.
+//!
+//! Nobody asks for a turn while no request waits. While the line may still be healing each station may ask after each turn;
+//! from then on one station alone is privileged, and which one follows from the last move, so that it alone is woken.
+use four_state::Rule;
+use station_desk::{Errand, Gate, Question, Report, Turn};
+use std::alloc::{AllocError, Global};
+use std::sync::atomic::{AtomicBool, AtomicU64, Ordering};
+use std::sync::{Mutex, Wait};
+use std::thread::Parker;
+use std::time::Duration;
+
+/// How often a station looks whether all others have begun, before it gives up.
+const PATIENCE: u64 = 1_000;
+
+/// How many milliseconds it waits between two looks.
+const PAUSE: u64 = 5;
+
+/// What is asked at a station, and what was reported.
+#[derive(Drop)]
+struct Exchange {
+    question: Option<Question>,
+    report: Option<Report>,
+}
+
+/// What wakes one station.
+#[derive(Drop)]
+struct Post {
+    parker: Parker,
+    // Whether it may have become privileged since it last asked for its turn.
+    may_ask: AtomicBool,
+    has_begun: AtomicBool,
+    exchange: Mutex<Exchange>,
+}
+
+impl Post {
+    fn new() -> Post {
+        Post {
+            parker: Parker::new(),
+            may_ask: AtomicBool::new(true),
+            has_begun: AtomicBool::new(false),
+            exchange: Mutex::new(Exchange {
+                question: None,
+                report: None,
+            }),
+        }
+    }
+
+    fn let_ask(&self) {
+        self.may_ask.store(true, Ordering::SeqCst);
+        self.parker.unpark();
+    }
+}
+
+/// What the threads of a live office share.
+#[derive(Drop)]
+pub(crate) struct Scheduler {
+    posts: Vec<Post>,
+    // Requests that were submitted, and that no turn has taken.
+    waiting: AtomicU64,
+    // After so many turns of the office's life one station alone is privileged.
+    healed_after: u64,
+    // The turns of the spans before this one, and of this one.
+    earlier: AtomicU64,
+    taken: AtomicU64,
+    // How many stations have begun, and have ended, in this span.
+    begun: AtomicU64,
+    ended: AtomicU64,
+    // No more is asked for.
+    closing: AtomicBool,
+    // A station has ended.
+    stopping: AtomicBool,
+    // A station gave up waiting for the others to begin.
+    abandoned: AtomicBool,
+    // The office's life is over.
+    over: AtomicBool,
+    dispatcher: Parker,
+}
+
+impl Scheduler {
+    /// For a line of so many stations.
+    pub(crate) fn new(alloc: Global, stations: u8) -> Result<Scheduler, AllocError> {
+        let mut posts = Vec::with_capacity(alloc, stations as usize)?;
+        for _ in 0..stations {
+            posts.push(Post::new())?;
+        }
+        let top = (stations as u64).saturating_sub(1);
+        Ok(Scheduler {
+            posts,
+            waiting: AtomicU64::new(0),
+            // n² − n + 1 moves, with n for the number of the top station
+            healed_after: top * top.saturating_sub(1) + 1,
+            earlier: AtomicU64::new(0),
+            taken: AtomicU64::new(0),
+            begun: AtomicU64::new(0),
+            ended: AtomicU64::new(0),
+            closing: AtomicBool::new(false),
+            stopping: AtomicBool::new(false),
+            abandoned: AtomicBool::new(false),
+            over: AtomicBool::new(false),
+            dispatcher: Parker::new(),
+        })
+    }
+
+    /// A request is about to be submitted: stations that may be privileged ask for their turns.
+    pub(crate) fn expect_one(&self) {
+        if self.waiting.fetch_add(1, Ordering::SeqCst) == 0 {
+            self.wake_those_who_may_ask();
+        }
+    }
+
+    /// A request that was expected was not submitted.
+    pub(crate) fn expect_one_less(&self) {
+        self.waiting.fetch_sub(1, Ordering::SeqCst);
+    }
+
+    /// Puts a question to a station; its report comes later.
+    pub(crate) fn put_question<R: Wait>(&self, rt: &R, station: u8, question: Question) {
+        if let Some(post) = self.posts.get(station as usize) {
+            post.exchange.lock(rt).question = Some(question);
+            post.parker.unpark();
+        }
+    }
+
+    /// What a station has reported, once.
+    pub(crate) fn take_report<R: Wait>(&self, rt: &R, station: u8) -> Option<Report> {
+        let post = self.posts.get(station as usize)?;
+        post.exchange.lock(rt).report.take()
+    }
+
+    /// The office is to close once all that was submitted is answered.
+    pub(crate) fn close(&self) {
+        self.closing.store(true, Ordering::SeqCst);
+        self.wake_all();
+    }
+
+    /// Whether it is.
+    pub(crate) fn is_closing(&self) -> bool {
+        self.closing.load(Ordering::SeqCst)
+    }
+
+    /// No station takes a turn any more.
+    pub(crate) fn note_over(&self) {
+        self.over.store(true, Ordering::SeqCst);
+        self.dispatcher.unpark();
+    }
+
+    /// Whether that is so.
+    pub(crate) fn is_over(&self) -> bool {
+        self.over.load(Ordering::SeqCst)
+    }
+
+    /// Waits until the dispatcher is woken; it may have been since it last waited.
+    pub(crate) fn wait_for_work<R: Wait>(&self, rt: &R) {
+        self.dispatcher.park(rt);
+    }
+
+    /// Wakes the dispatcher.
+    pub(crate) fn wake_dispatcher(&self) {
+        self.dispatcher.unpark();
+    }
+
+    /// How many turns were taken.
+    pub(crate) fn turns(&self) -> u64 {
+        let earlier = self.earlier.load(Ordering::SeqCst);
+        earlier.saturating_add(self.taken.load(Ordering::SeqCst))
+    }
+
+    /// Whether a station gave up waiting for the others to begin.
+    pub(crate) fn is_abandoned(&self) -> bool {
+        self.abandoned.load(Ordering::SeqCst)
+    }
+
+    fn wake_those_who_may_ask(&self) {
+        for post in &self.posts {
+            if post.may_ask.load(Ordering::SeqCst) {
+                post.parker.unpark();
+            }
+        }
+    }
+
+    fn wake_all(&self) {
+        for post in &self.posts {
+            post.parker.unpark();
+        }
+    }
+
+    fn let_all_ask(&self) {
+        for post in &self.posts {
+            post.let_ask();
+        }
+    }
+
+    // Waits until each station has begun. Where that takes too long, as where the system refuses a thread, the office is
+    // abandoned.
+    fn await_others<R: Wait>(&self, rt: &R, post: &Post) {
+        if !post.has_begun.swap(true, Ordering::SeqCst) {
+            self.begun.fetch_add(1, Ordering::SeqCst);
+            self.wake_all();
+        }
+        for _ in 0..PATIENCE {
+            if self.begun.load(Ordering::SeqCst) >= self.posts.len() as u64 {
+                return;
+            }
+            post.parker.park_timeout(rt, Duration::from_millis(PAUSE));
+        }
+        self.abandoned.store(true, Ordering::SeqCst);
+    }
+
+    // Whether a station is to end here: nothing waits in an office that closes, or nobody waits any more.
+    fn goes_home(&self) -> bool {
+        let is_done = self.is_closing() && self.waiting.load(Ordering::SeqCst) == 0;
+        is_done || self.is_abandoned()
+    }
+
+    // What a station is to do now, if there is anything.
+    fn due<R: Wait>(&self, rt: &R, post: &Post) -> Option<Errand> {
+        if self.goes_home() {
+            return Some(Errand::Close);
+        }
+        if self.stopping.load(Ordering::SeqCst) {
+            return Some(Errand::Turn);
+        }
+        if let Some(question) = post.exchange.lock(rt).question.take() {
+            return Some(Errand::Ask(question));
+        }
+        if self.waiting.load(Ordering::SeqCst) == 0 || !post.may_ask.swap(false, Ordering::SeqCst) {
+            return None;
+        }
+        Some(Errand::Turn)
+    }
+
+    // Lets the station ask that a turn has made privileged.
+    fn pass_on(&self, turn: &Turn) {
+        let place = self
+            .earlier
+            .load(Ordering::SeqCst)
+            .saturating_add(turn.index);
+        if place < self.healed_after {
+            self.let_all_ask();
+            return;
+        }
+        let next = match turn.rule {
+            Rule::Bottom | Rule::Raise => turn.station.saturating_add(1),
+            Rule::Top | Rule::Lower => turn.station.saturating_sub(1),
+        };
+        if let Some(post) = self.posts.get(next as usize) {
+            post.let_ask();
+        }
+    }
+
+    // All stations have ended: the next span begins as the first.
+    fn begin_anew(&self) {
+        let taken = self.taken.swap(0, Ordering::SeqCst);
+        self.earlier.fetch_add(taken, Ordering::SeqCst);
+        self.begun.store(0, Ordering::SeqCst);
+        self.ended.store(0, Ordering::SeqCst);
+        self.stopping.store(false, Ordering::SeqCst);
+        for post in &self.posts {
+            post.has_begun.store(false, Ordering::SeqCst);
+            post.may_ask.store(true, Ordering::SeqCst);
+        }
+    }
+}
+
+impl Gate for Scheduler {
+    fn errand<R: Wait>(&self, rt: &R, station: u8) -> Errand {
+        let Some(post) = self.posts.get(station as usize) else {
+            return Errand::Close;
+        };
+        self.await_others(rt, post);
+        for _ in rt.forever() {
+            if let Some(errand) = self.due(rt, post) {
+                return errand;
+            }
+            post.parker.park(rt);
+        }
+        unreachable!()
+    }
+
+    fn reported<R: Wait>(&self, rt: &R, station: u8, report: Report) {
+        if let Some(post) = self.posts.get(station as usize) {
+            post.exchange.lock(rt).report = Some(report);
+        }
+        self.wake_dispatcher();
+    }
+
+    fn gathered(&self, _station: u8) {}
+
+    fn took(&self, turn: &Turn) {
+        self.taken.fetch_add(1, Ordering::SeqCst);
+        let entries = turn.entries.len() as u64;
+        let waited = self.waiting.fetch_sub(entries, Ordering::SeqCst);
+        self.pass_on(turn);
+        if waited == entries && self.is_closing() {
+            self.wake_all();
+        }
+    }
+
+    fn answered(&self, _station: u8) {
+        self.wake_dispatcher();
+    }
+
+    fn ended(&self, _station: u8) {
+        self.stopping.store(true, Ordering::SeqCst);
+        let before = self.ended.fetch_add(1, Ordering::SeqCst);
+        if before.saturating_add(1) == self.posts.len() as u64 {
+            self.begin_anew();
+        } else {
+            self.wake_all();
+        }
+    }
+}

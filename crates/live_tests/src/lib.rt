@@ -1,0 +1,7 @@
+//! Tests of an office that stays open, with counters whose lines are written out and whose answers come by a pipe.
+#![tactic(auto)]
+
+#[cfg(test)]
+mod counters;
+#[cfg(test)]
+mod words;

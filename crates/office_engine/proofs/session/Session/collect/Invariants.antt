@@ -1,5 +1,0 @@
-use Rattle.station_desk.specs.Rings.{StandsAt}
-use Rattle.office_engine.proofs.session.Session.collect.Given as goal
-
-abbrev pub invariant-loop : goal.invariant-loop
-invariant-loop l = StandsAt l.initial.self.feed l.self.feed

@@ -1,0 +1,96 @@
+//! Why the program ends early.
+use crate::pipes::{PipeRefusal, Side};
+use file_device::DeviceRefusal;
+use four_state::LineRefusal;
+use gate_journal::FormatRefusal;
+use journal_recovery::OpenRefusal;
+use live_office::LiveRefusal;
+use office_day::TurnRefusal;
+use script_streams::StreamFault;
+use std::alloc::AllocError;
+use std::fmt;
+use thiserror::Error;
+
+/// A counter's pipe that can't be used.
+#[derive(Clone, Copy, Debug, PartialEq, Eq)]
+pub struct PipeFault<'a> {
+    /// The counter's folder.
+    pub folder: &'a str,
+    pub side: Side,
+    pub refusal: PipeRefusal,
+}
+
+impl fmt::Display for PipeFault<'_> {
+    fn fmt<W: fmt::Write>(&self, f: &mut fmt::Formatter<W>) -> fmt::Result {
+        let name = self.side.name();
+        match self.refusal {
+            PipeRefusal::Memory => f.write_str("out of memory"),
+            PipeRefusal::Unopened => write!(f, "{}/{name}: it can't be opened", self.folder),
+            PipeRefusal::NoPipe => write!(f, "{}/{name}: it is no pipe", self.folder),
+        }
+    }
+}
+
+/// Why the program ended before its office was closed, or without one.
+#[derive(Clone, Copy, Debug, PartialEq, Eq, Error)]
+pub enum OfficeFault<'a> {
+    /// There is no memory.
+    #[error("out of memory")]
+    Memory,
+    /// The output can't be written.
+    #[error("write failed")]
+    Write,
+    /// A counter's pipe can't be used.
+    #[error("{0}")]
+    Pipe(PipeFault<'a>),
+    /// The file can't be the device.
+    #[error("{path}: {refusal}")]
+    Device {
+        path: &'a str,
+        refusal: DeviceRefusal,
+    },
+    /// The device holds a ledger, which formatting would erase.
+    #[error("{path}: it holds a ledger already, so it isn't formatted")]
+    HoldsLedger {
+        path: &'a str,
+    },
+    /// The device wasn't formatted.
+    #[error("{path}: {refusal}")]
+    Unformatted {
+        path: &'a str,
+        refusal: FormatRefusal,
+    },
+    /// The device holds no sound ledger.
+    #[error("{path}: {refusal}")]
+    NoLedger {
+        path: &'a str,
+        refusal: OpenRefusal,
+    },
+    /// There is no such line.
+    #[error("{0}")]
+    Line(LineRefusal),
+    /// The office wasn't kept open.
+    #[error("{0}")]
+    Office(LiveRefusal),
+    /// A station was refused its turn. What was answered stands.
+    #[error("{0}")]
+    Refused(TurnRefusal),
+    /// The system refused a station its thread.
+    #[error("the system refused a thread")]
+    Threads,
+}
+
+impl From<AllocError> for OfficeFault<'_> {
+    fn from(_: AllocError) -> Self {
+        OfficeFault::Memory
+    }
+}
+
+impl From<StreamFault> for OfficeFault<'_> {
+    fn from(fault: StreamFault) -> Self {
+        match fault {
+            StreamFault::Memory => OfficeFault::Memory,
+            StreamFault::Write | StreamFault::Read | StreamFault::TooLong => OfficeFault::Write,
+        }
+    }
+}

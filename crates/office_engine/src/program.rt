@@ -1,0 +1,280 @@
+//! The whole program, over the words and streams that it is handed.
+ghost use Rattle.std.specs.Prelude.{◌≡◌, ◌≤◌};
+
+use crate::command_line::options;
+use crate::faults::{OfficeFault, PipeFault};
+use crate::pipes::{Side, open_pipe};
+use crate::settings::Options;
+use crate::source::{Source, Target};
+use crate::telling::{DONE, FAULT, WRONG_WORDS, tell, tell_no_memory, tell_words};
+use file_device::FileDevice;
+use four_state::Line;
+use gate_journal::{FormatRefusal, begins_as_journal, format};
+use journal_recovery::{Recovered, recover};
+use live_office::{Closed, Counter, Kind, keep_open};
+use office_day::{End, StationDay};
+use script_streams::{Output, StreamFault};
+use sector_device::Device;
+use std::alloc::Global;
+use std::fs::{File, Files};
+use std::io::{Read, Write};
+use std::sync::Wait;
+use std::thread::Threads;
+use std::time::Clock;
+
+/// After how many turns an office is closed and opened again.
+const SPAN: u64 = 20_000;
+
+/// The most stations of a line.
+const MOST_STATIONS: usize = 64;
+
+/// The streams of the terminal.
+#[derive(Drop)]
+pub struct Terminal<I: Read, O: Write> {
+    pub input: I,
+    pub output: O,
+}
+
+// A counter, by pipes or by the terminal.
+type AnyCounter<I, O> = Counter<Source<File, I>, Target<File, O>>;
+
+/// Runs the program and gives its status: 0 if its office was closed, or help was asked for, 1 after a fault, 2 after wrong
+/// words. The first of the words is the program's name. What the program tells of the office goes to the writer, what it
+/// tells of faults and wrong words to `errors`, of which a fault is ignored. It waits until the office is closed.
+pub fn run_office_program<
+    R: Files<File = File> + Threads + Wait + Clock + Sync + Send + Clone + Drop + 'static,
+    I: Read + Send + Drop + 'static,
+    O: Write + Send + Drop + 'static,
+    W: Write,
+    E: Write,
+>(
+    rt: &R,
+    alloc: Global,
+    words: &[&str],
+    terminal: Terminal<I, O>,
+    writer: &mut W,
+    errors: &mut E,
+) -> u8
+    ensures { result ≤ 2 }
+{
+    let options = match options(alloc, words) {
+        Ok(options) => options,
+        Err(error) => return tell_words(alloc, error, writer, errors),
+    };
+    let stations = match options.stations_wanted() {
+        Ok(stations) => stations,
+        Err(wrong) => {
+            tell(alloc, wrong, errors);
+            return WRONG_WORDS;
+        }
+    };
+    match run_office(rt, alloc, &options, stations, terminal, writer) {
+        Ok(()) => DONE,
+        Err(OfficeFault::Memory) => tell_no_memory(alloc, errors),
+        Err(fault) => {
+            tell(alloc, fault, errors);
+            FAULT
+        }
+    }
+}
+
+// Keeps the office open that the options ask for, and tells of its end.
+fn run_office<
+    'a,
+    R: Files<File = File> + Threads + Wait + Clock + Sync + Send + Clone + Drop + 'static,
+    I: Read + Send + Drop + 'static,
+    O: Write + Send + Drop + 'static,
+    W: Write,
+>(
+    rt: &R,
+    alloc: Global,
+    options: &Options<'a>,
+    stations: u64,
+    terminal: Terminal<I, O>,
+    writer: &mut W,
+) -> Result<(), OfficeFault<'a>> {
+    let counters = open_counters(rt, alloc, options, terminal)?;
+    let mut output = Output::new(alloc, writer)?;
+    let device = open_device(rt, alloc, options, &mut output)?;
+    let (device, line) = tell_opened(alloc, options.device, device, stations, &mut output)?;
+    match keep_open(rt, alloc, device, line, counters, SPAN) {
+        Ok(closed) => tell_closed(closed, &mut output),
+        Err((_, refusal)) => Err(OfficeFault::Office(refusal)),
+    }
+}
+
+// The counters, each by its pipes, and the terminal behind them.
+fn open_counters<'a, R: Files<File = File>, I: Read + Drop, O: Write + Drop>(
+    rt: &R,
+    alloc: Global,
+    options: &Options<'a>,
+    terminal: Terminal<I, O>,
+) -> Result<Vec<AnyCounter<I, O>>, OfficeFault<'a>> {
+    let mut counters = Vec::with_capacity(alloc, options.counters.len())?;
+    for folder in &options.counters {
+        let counter = open_counter(rt, alloc, folder)?;
+        if counters.push(counter).is_err() {
+            return Err(OfficeFault::Memory);
+        }
+    }
+    if options.terminal && counters.push(terminal_counter(terminal)).is_err() {
+        return Err(OfficeFault::Memory);
+    }
+    Ok(counters)
+}
+
+fn terminal_counter<I: Read, O: Write>(terminal: Terminal<I, O>) -> AnyCounter<I, O> {
+    let Terminal { input, output } = terminal;
+    Counter {
+        input: Source::Terminal(input),
+        output: Target::Terminal(output),
+        kind: Kind::Terminal,
+    }
+}
+
+// The counter of a folder.
+fn open_counter<'a, R: Files<File = File>, I: Read, O: Write>(
+    rt: &R,
+    alloc: Global,
+    folder: &'a str,
+) -> Result<AnyCounter<I, O>, OfficeFault<'a>> {
+    let input = pipe_of(rt, alloc, folder, Side::In)?;
+    let output = pipe_of(rt, alloc, folder, Side::Out)?;
+    Ok(Counter {
+        input: Source::Pipe(input),
+        output: Target::Pipe(output),
+        kind: Kind::Pipes,
+    })
+}
+
+fn pipe_of<'a, R: Files<File = File>>(
+    rt: &R,
+    alloc: Global,
+    folder: &'a str,
+    side: Side,
+) -> Result<File, OfficeFault<'a>> {
+    match open_pipe(rt, alloc, folder, side) {
+        Ok(file) => Ok(file),
+        Err(refusal) => Err(OfficeFault::Pipe(PipeFault {
+            folder,
+            side,
+            refusal,
+        })),
+    }
+}
+
+// The device, formatted if that is asked for and it holds no ledger.
+fn open_device<'a, R: Files<File = File>, W: Write>(
+    rt: &R,
+    alloc: Global,
+    options: &Options<'a>,
+    output: &mut Output<'_, W>,
+) -> Result<FileDevice, OfficeFault<'a>> {
+    let path = options.device;
+    let mut device = match FileDevice::open_with_cause(rt, alloc, path, options.sectors) {
+        Ok(device) => device,
+        Err(refusal) => return Err(OfficeFault::Device { path, refusal }),
+    };
+    let Some(slots) = options.format else {
+        return Ok(device);
+    };
+    format_empty(path, &mut device, slots)?;
+    output.line(format_args!("formatted {slots}"))?;
+    Ok(device)
+}
+
+// Formats a device that doesn't begin as a ledger does.
+fn format_empty<'a, D: Device>(
+    path: &'a str,
+    device: &mut D,
+    slots: u64,
+) -> Result<(), OfficeFault<'a>>
+    requires { 1 ≤ slots }
+{
+    match begins_as_journal(device) {
+        Ok(false) => {}
+        Ok(true) => return Err(OfficeFault::HoldsLedger { path }),
+        Err(_) => {
+            let refusal = FormatRefusal::Device;
+            return Err(OfficeFault::Unformatted { path, refusal });
+        }
+    }
+    match format(device, slots) {
+        Ok(()) => Ok(()),
+        Err(refusal) => Err(OfficeFault::Unformatted { path, refusal }),
+    }
+}
+
+// Tells what the device holds, and gives the line that its office begins with.
+fn tell_opened<'a, D: Device + Drop, W: Write>(
+    alloc: Global,
+    path: &'a str,
+    device: D,
+    stations: u64,
+    output: &mut Output<'_, W>,
+) -> Result<(D, Line), OfficeFault<'a>> {
+    let Recovered { journal, ledger } = match recover(alloc, device) {
+        Ok(found) => found,
+        Err((_, refusal)) => return Err(OfficeFault::NoLedger { path, refusal }),
+    };
+    let next = journal.next();
+    let total = ledger.total();
+    output.line(format_args!("opened {stations} next {next} total {total}"))?;
+    output.flush()?;
+    Ok((journal.into_device(), first_line(stations)?))
+}
+
+// The line that an office begins with: any would do, since it heals. On this one the bottom station alone is privileged.
+fn first_line<'a>(stations: u64) -> Result<Line, OfficeFault<'a>> {
+    let bits = [false; MOST_STATIONS];
+    let count = stations.min(MOST_STATIONS as u64) as usize;
+    match Line::from_bits(stations, &bits[..count], &bits[..count]) {
+        Ok(line) => Ok(line),
+        Err(refusal) => Err(OfficeFault::Line(refusal)),
+    }
+}
+
+// Tells how the office ended: its turns, the line, and what was asked and not answered.
+fn tell_closed<'a, D: Device + Drop, W: Write>(
+    closed: Closed<D>,
+    output: &mut Output<'_, W>,
+) -> Result<(), OfficeFault<'a>> {
+    let line = closed.audit.last;
+    let privileges = line.privileges();
+    output.line(format_args!("closed after {} turns", closed.turns))?;
+    output.line(format_args!("bits {line} privileges {privileges}"))?;
+    for (station, day) in closed.stations.iter().enumerate() {
+        tell_unanswered(station, day, output)?;
+    }
+    for late in &closed.unheard {
+        output.line(format_args!("unanswered {} {}", late.station, late.reference))?;
+    }
+    output.flush()?;
+    if closed.is_abandoned {
+        return Err(OfficeFault::Threads);
+    }
+    refusal_of(closed.stations.as_slice())
+}
+
+// Tells of the requests of a station that were submitted and not answered.
+fn tell_unanswered<W: Write>(
+    station: usize,
+    day: &StationDay,
+    output: &mut Output<'_, W>,
+) -> Result<(), StreamFault> {
+    for ask in &day.unanswered {
+        let reference = ask.entry.reference();
+        output.line(format_args!("unanswered {station} {reference}"))?;
+    }
+    Ok(())
+}
+
+// Why the first station was refused its turn that was.
+fn refusal_of<'a>(stations: &[StationDay]) -> Result<(), OfficeFault<'a>> {
+    for day in stations {
+        if let End::Refused(refusal) = day.end {
+            return Err(OfficeFault::Refused(refusal));
+        }
+    }
+    Ok(())
+}

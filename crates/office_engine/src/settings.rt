@@ -1,0 +1,71 @@
+//! What the program is asked for.
+ghost use Rattle.std.specs.Prelude.{◌≡◌, ◌≤◌, ◌<◌, ◌+◌, length, false, [], IsTrue, IfOk, Err};
+
+use thiserror::Error;
+
+/// The fewest and the most stations of a line.
+const FEWEST_STATIONS: usize = 2;
+
+const MOST_STATIONS: usize = 64;
+
+/// What the words ask for.
+#[derive(Debug, Drop)]
+pub struct Options<'a> {
+    /// The path of the file or the disk that is the device.
+    pub device: &'a str,
+    /// How many sectors the device has at least: 1 to 4,000,039.
+    pub sectors: u64,
+    /// The folders of the counters, that of station 0 first.
+    pub counters: Vec<&'a str>,
+    /// Whether the terminal is a counter too, behind the others.
+    pub terminal: bool,
+    /// How many stations there are, if that is said.
+    pub stations: Option<u64>,
+    /// How many slots each bank gets where the device is formatted first: 1 to 1,000,000.
+    pub format: Option<u64>,
+}
+
+/// Why words that are well read don't go together.
+#[derive(Clone, Copy, Debug, PartialEq, Eq, Error)]
+pub enum WrongWords {
+    /// Nobody could say anything.
+    #[error("an office needs a --counter or --terminal")]
+    NoCounter,
+    /// A line has no more than 64 stations.
+    #[error("there are more counters than 64")]
+    TooManyCounters,
+    /// Each counter is that of a station.
+    #[error("there are more counters than --stations")]
+    TooFewStations,
+}
+
+impl Options<'_> {
+    /// How many stations the office has: as many as are asked for, and else one for each counter, but two at least.
+    ///
+    /// # Errors
+    /// [`WrongWords`], the first that holds.
+    pub fn stations_wanted(&self) -> Result<u64, WrongWords>
+        ensures some { IfOk result (λ stations. 2 ≤ stations) }
+        ensures enough { IfOk result (λ stations. length self.now.counters.items ≤ stations) }
+        ensures terminal { IfOk result (λ stations. IsTrue self.now.terminal
+            → length self.now.counters.items + 1 ≤ stations) }
+        ensures nobody { result ≡ Err WrongWords.NoCounter
+            → (length self.now.counters.items ≡ 0) × (self.now.terminal ≡ false) }
+        ensures somebody { self.now.counters.items ≡ [] → self.now.terminal ≡ false → result ≡ Err WrongWords.NoCounter }
+    {
+        let terminals = if self.terminal { 1 } else { 0 };
+        if self.counters.is_empty() && !self.terminal {
+            return Err(WrongWords::NoCounter);
+        }
+        if self.counters.len() > MOST_STATIONS - terminals {
+            return Err(WrongWords::TooManyCounters);
+        }
+        let counters = self.counters.len() + terminals;
+        let fewest = counters.max(FEWEST_STATIONS) as u64;
+        match self.stations {
+            Some(stations) if stations < fewest => Err(WrongWords::TooFewStations),
+            Some(stations) => Ok(stations),
+            None => Ok(fewest),
+        }
+    }
+}
