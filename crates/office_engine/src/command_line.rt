@@ -1,10 +1,12 @@
 //! The words on the program's command line.
 ghost use Rattle.std.specs.Prelude.{◌≤◌, IfOk, IfSome};
+ghost use Rattle.std.specs.Int.NonZero.{non_zero_u64_get};
 
 use crate::settings::Options;
 use clap::error::ErrorKind;
 use clap::{Arg, ArgAction, ArgMatches, Command, Error, value_parser};
 use std::alloc::Global;
+use std::num::NonZeroU64;
 
 const HELP: &str = "\
 A counter is a folder PATH with two named pipes, PATH/in and PATH/out, which its owner makes with mkfifo. It says a request
@@ -42,7 +44,8 @@ const NO_DEVICE: &str = "an office needs a --device";
 pub fn options<'a>(alloc: Global, words: &'a [&'a str]) -> Result<Options<'a>, Error>
     ensures some { IfOk result (λ options. 1 ≤ options.sectors) }
     ensures most { IfOk result (λ options. options.sectors ≤ 4000039) }
-    ensures slots { IfOk result (λ options. IfSome options.format (λ slots. (1 ≤ slots) × (slots ≤ 1000000))) }
+    ensures slots { IfOk result (λ options.
+        IfSome options.format (λ slots. non_zero_u64_get slots ≤ 1000000)) }
     ensures stations { IfOk result (λ options. IfSome options.stations (λ count. (2 ≤ count) × (count ≤ 64))) }
 {
     let mut command = office_command(alloc)?;
@@ -74,7 +77,7 @@ pub fn options<'a>(alloc: Global, words: &'a [&'a str]) -> Result<Options<'a>, E
 struct Numbers {
     sectors: u64,
     stations: Option<u64>,
-    format: Option<u64>,
+    format: Option<NonZeroU64>,
 }
 
 impl Numbers {
@@ -82,13 +85,14 @@ impl Numbers {
     fn of(matches: &ArgMatches<'_>) -> Option<Numbers>
         ensures some { IfSome result (λ numbers. 1 ≤ numbers.sectors) }
         ensures most { IfSome result (λ numbers. numbers.sectors ≤ 4000039) }
-        ensures slots { IfSome result (λ numbers. IfSome numbers.format (λ slots. (1 ≤ slots) × (slots ≤ 1000000))) }
+        ensures slots { IfSome result (λ numbers.
+            IfSome numbers.format (λ slots. non_zero_u64_get slots ≤ 1000000)) }
         ensures stations { IfSome result (λ numbers. IfSome numbers.stations (λ count. (2 ≤ count) × (count ≤ 64))) }
     {
         Some(Numbers {
             sectors: within(matches.get_one::<u64>("sectors"), 1, MOST_SECTORS)??,
             stations: within(matches.get_one::<u64>("stations"), 2, MOST_STATIONS)?,
-            format: within(matches.get_one::<u64>("format"), 1, MOST_SLOTS)?,
+            format: slots_of(matches.get_one::<u64>("format"))?,
         })
     }
 }
@@ -101,6 +105,16 @@ fn within(number: Option<u64>, least: u64, most: u64) -> Option<Option<u64>>
         None => Some(None),
         Some(number) if least <= number && number <= most => Some(Some(number)),
         Some(_) => None,
+    }
+}
+
+// The slots that are asked for, or None if none are; nothing if they are out of their range.
+fn slots_of(number: Option<u64>) -> Option<Option<NonZeroU64>>
+    ensures { IfSome result (λ found. IfSome found (λ slots. non_zero_u64_get slots ≤ 1000000)) }
+{
+    match within(number, 1, MOST_SLOTS)? {
+        Some(number) => Some(NonZeroU64::new(number)),
+        None => Some(None),
     }
 }
 

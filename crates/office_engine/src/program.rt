@@ -1,5 +1,5 @@
 //! The whole program, over the words and streams that it is handed.
-ghost use Rattle.std.specs.Prelude.{◌≡◌, ◌≤◌};
+ghost use Rattle.std.specs.Prelude.{◌≤◌};
 
 use crate::command_line::options;
 use crate::faults::{OfficeFault, PipeFault};
@@ -18,6 +18,7 @@ use sector_device::Device;
 use std::alloc::Global;
 use std::fs::{File, Files};
 use std::io::{Read, Write};
+use std::num::NonZeroU64;
 use std::sync::Wait;
 use std::thread::Threads;
 use std::time::Clock;
@@ -187,10 +188,8 @@ fn open_device<'a, R: Files<File = File>, W: Write>(
 fn format_empty<'a, D: Device>(
     path: &'a str,
     device: &mut D,
-    slots: u64,
-) -> Result<(), OfficeFault<'a>>
-    requires { 1 ≤ slots }
-{
+    slots: NonZeroU64,
+) -> Result<(), OfficeFault<'a>> {
     match begins_as_journal(device) {
         Ok(false) => {}
         Ok(true) => return Err(OfficeFault::HoldsLedger { path }),
@@ -199,7 +198,7 @@ fn format_empty<'a, D: Device>(
             return Err(OfficeFault::Unformatted { path, refusal });
         }
     }
-    match format(device, slots) {
+    match format(device, slots.get()) {
         Ok(()) => Ok(()),
         Err(refusal) => Err(OfficeFault::Unformatted { path, refusal }),
     }

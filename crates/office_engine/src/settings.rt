@@ -1,6 +1,7 @@
 //! What the program is asked for.
 ghost use Rattle.std.specs.Prelude.{◌≡◌, ◌≤◌, ◌<◌, ◌+◌, length, false, [], IsTrue, IfOk, Err};
 
+use std::num::NonZeroU64;
 use thiserror::Error;
 
 /// The fewest and the most stations of a line.
@@ -21,8 +22,8 @@ pub struct Options<'a> {
     pub terminal: bool,
     /// How many stations there are, if that is said.
     pub stations: Option<u64>,
-    /// How many slots each bank gets where the device is formatted first: 1 to 1,000,000.
-    pub format: Option<u64>,
+    /// How many slots each bank gets where the device is formatted first: at most 1,000,000.
+    pub format: Option<NonZeroU64>,
 }
 
 /// Why words that are well read don't go together.
