@@ -102,16 +102,12 @@ impl Scheduler {
         })
     }
 
-    /// A request is about to be submitted: stations that may be privileged ask for their turns.
-    pub(crate) fn expect_one(&self) {
+    /// A request is submitted: stations that may be privileged ask for their turns. One may have taken it by now, so that the
+    /// count was below zero, and wrapped, for a moment.
+    pub(crate) fn note_submitted(&self) {
         if self.waiting.fetch_add(1, Ordering::SeqCst) == 0 {
             self.wake_those_who_may_ask();
         }
-    }
-
-    /// A request that was expected was not submitted.
-    pub(crate) fn expect_one_less(&self) {
-        self.waiting.fetch_sub(1, Ordering::SeqCst);
     }
 
     /// Puts a question to a station; its report comes later.
@@ -292,14 +288,15 @@ impl Gate for Scheduler {
         let entries = turn.entries.len() as u64;
         let waited = self.waiting.fetch_sub(entries, Ordering::SeqCst);
         self.pass_on(turn);
+        if entries > 0 {
+            self.wake_dispatcher();
+        }
         if waited == entries && self.is_closing() {
             self.wake_all();
         }
     }
 
-    fn answered(&self, _station: u8) {
-        self.wake_dispatcher();
-    }
+    fn answered(&self, _station: u8) {}
 
     fn ended(&self, _station: u8) {
         self.stopping.store(true, Ordering::SeqCst);

@@ -190,17 +190,12 @@ impl Session {
         requires { self.old.unanswered < known_free self.old.responses }
         ensures { StandsAt self.old.feed self.new.feed }
     {
-        scheduler.expect_one();
-        match self.feed.submit(entry) {
-            Ok(_) => {
-                self.unanswered += 1;
-                true
-            }
-            Err(_) => {
-                scheduler.expect_one_less();
-                false
-            }
+        if self.feed.submit(entry).is_err() {
+            return false;
         }
+        self.unanswered += 1;
+        scheduler.note_submitted();
+        true
     }
 
     // Tells the counter something, for which there is a place.

@@ -4,6 +4,7 @@ use file_device::DeviceRefusal;
 use four_state::LineRefusal;
 use gate_journal::FormatRefusal;
 use journal_recovery::OpenRefusal;
+use line_lock::OfficeRefusal;
 use live_office::LiveRefusal;
 use office_day::TurnRefusal;
 use script_streams::StreamFault;
@@ -78,6 +79,21 @@ pub enum OfficeFault<'a> {
     /// The system refused a station its thread.
     #[error("the system refused a thread")]
     Threads,
+}
+
+/// Out of memory is told as such, wherever it was met.
+impl From<LiveRefusal> for OfficeFault<'_> {
+    fn from(refusal: LiveRefusal) -> Self {
+        match refusal {
+            LiveRefusal::Memory
+            | LiveRefusal::Unsettled
+            | LiveRefusal::Office(
+                OfficeRefusal::Work(AllocError) | OfficeRefusal::Opening(OpenRefusal::Memory),
+            ) => OfficeFault::Memory,
+            LiveRefusal::Threads => OfficeFault::Threads,
+            LiveRefusal::Office(_) => OfficeFault::Office(refusal),
+        }
+    }
 }
 
 impl From<AllocError> for OfficeFault<'_> {

@@ -100,7 +100,7 @@ fn run_office<
     let (device, line) = tell_opened(alloc, options.device, device, stations, &mut output)?;
     match keep_open(rt, alloc, device, line, counters, SPAN) {
         Ok(closed) => tell_closed(closed, &mut output),
-        Err((_, refusal)) => Err(OfficeFault::Office(refusal)),
+        Err((_, refusal)) => Err(OfficeFault::from(refusal)),
     }
 }
 

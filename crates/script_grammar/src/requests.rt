@@ -21,11 +21,11 @@ pub enum Request {
     Post(Entry),
     /// `balance A`: what account A holds.
     Balance { account: u32 },
-    /// `find R`: what became of the entry of reference R.
+    /// `find R`: under which numbers entries of reference R were posted.
     Find { reference: u64 },
     /// `help`: which requests there are.
     Help,
-    /// `close`: the counter leaves.
+    /// `close`: the office closes.
     Close,
 }
 
