@@ -29,7 +29,7 @@ use Rattle.line_lock.specs.declared.lent.OfficeRefusal.{OfficeRefusal}
 use Rattle.office_day.specs.declared.reconciled.StationDay.{StationDay}
 use Rattle.office_day.specs.Counters.{IsFresh}
 use Rattle.office_day.specs.Day.{HaveServed, IsReconciled, AreReconciled}
-use Rattle.office_day.specs.Spans.{Span, turns_in, IsSpan, AreSpans, HaveGiven, LeftAfter, HaveLeft, Adjournment, adjourned_to, HasComeTo, HasLived, WasBrokenOff, WasServed, HaveBeenServed, WasKeptOpen, WasAbandoned}
+use Rattle.office_day.specs.Spans.{Span, turns_in, IsSpan, AreSpans, LeftAfter, HaveLeft, Adjournment, adjourned_to, HasComeTo, HasLived, WasBrokenOff, WasServed, WasKeptOpen, WasAbandoned}
 use Rattle.office_day.proofs.Days.{length-new_seats, new_seat_at}
 use Rattle.office_day.proofs.Lists.{first, AllZip-at, AllZip-each}
 use Rattle.office_day.proofs.Pairing.{stands_with}

@@ -28,6 +28,7 @@ impl fmt::Display for PipeFault<'_> {
             PipeRefusal::Memory => f.write_str("out of memory"),
             PipeRefusal::Unopened => write!(f, "{}/{name}: it can't be opened", self.folder),
             PipeRefusal::NoPipe => write!(f, "{}/{name}: it is no pipe", self.folder),
+            PipeRefusal::Taken => write!(f, "{}/{name}: it is another counter's", self.folder),
         }
     }
 }

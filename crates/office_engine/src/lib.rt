@@ -14,7 +14,7 @@ mod telling;
 
 pub use command_line::options;
 pub use faults::{OfficeFault, PipeFault};
-pub use pipes::{Side, open_pipe};
+pub use pipes::{PipeNumber, PipeRefusal, Side, open_pipe};
 pub use program::{Terminal, run_office_program};
 pub use settings::{Options, WrongWords};
 pub use source::{Source, Target};

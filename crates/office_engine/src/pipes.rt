@@ -1,7 +1,11 @@
 //! The named pipes of counters.
 use std::alloc::{AllocError, Global};
 use std::fs::{File, Files, OpenFile, OpenOptions};
-use std::os::unix::fs::FileTypeExt;
+use std::os::fd::{AsRawFd, RawFd};
+use std::os::unix::fs::{FileTypeExt, MetadataExt};
+
+/// The number of standard error. Those of standard input and output are lower.
+const LAST_STREAM: RawFd = 2;
 
 /// Which of a counter's pipes it is.
 #[derive(Clone, Copy, Debug, PartialEq, Eq)]
@@ -31,9 +35,18 @@ pub enum PipeRefusal {
     Unopened,
     /// What is there is no pipe.
     NoPipe,
+    /// It is one that was opened before.
+    Taken,
 }
 
-/// Opens a pipe in a counter's folder, for reading and writing: so it never ends, whoever hangs up.
+/// Which pipe it is, whatever its path.
+#[derive(Clone, Copy, Debug, PartialEq, Eq)]
+pub struct PipeNumber {
+    device: u64,
+    inode: u64,
+}
+
+/// Opens a pipe in a counter's folder, for reading and writing: so it never ends, whoever hangs up. It is none of those that were opened before, and becomes one.
 ///
 /// # Errors
 /// [`PipeRefusal`].
@@ -42,6 +55,7 @@ pub fn open_pipe<R: Files<File = File>>(
     alloc: Global,
     folder: &str,
     side: Side,
+    opened: &mut Vec<PipeNumber>,
 ) -> Result<File, PipeRefusal> {
     let name = side.name();
     let path = match format!(in alloc; "{folder}/{name}") {
@@ -53,8 +67,37 @@ pub fn open_pipe<R: Files<File = File>>(
     let Ok(file) = how.open(rt, path.as_str()) else {
         return Err(PipeRefusal::Unopened);
     };
-    match file.metadata() {
-        Ok(found) if found.file_type().is_fifo() => Ok(file),
-        _ => Err(PipeRefusal::NoPipe),
+    note_pipe(&file, opened)?;
+    clear_of_streams(file)
+}
+
+// Notes which pipe a file is.
+fn note_pipe(file: &File, opened: &mut Vec<PipeNumber>) -> Result<(), PipeRefusal> {
+    let found = match file.metadata() {
+        Ok(found) if found.file_type().is_fifo() => found,
+        _ => return Err(PipeRefusal::NoPipe),
+    };
+    let number = PipeNumber {
+        device: found.dev(),
+        inode: found.ino(),
+    };
+    if opened.iter().any(|other| *other == number) {
+        return Err(PipeRefusal::Taken);
+    }
+    match opened.push(number) {
+        Ok(()) => Ok(()),
+        Err(_) => Err(PipeRefusal::Memory),
+    }
+}
+
+// Moves the file off the numbers of the standard streams: where one of these is closed, what is printed to it would land in
+// the pipe.
+fn clear_of_streams(file: File) -> Result<File, PipeRefusal> {
+    if file.as_raw_fd() > LAST_STREAM {
+        return Ok(file);
+    }
+    match file.try_clone() {
+        Ok(moved) if moved.as_raw_fd() > LAST_STREAM => Ok(moved),
+        _ => Err(PipeRefusal::Unopened),
     }
 }

@@ -3,7 +3,7 @@ ghost use Rattle.std.specs.Prelude.{◌≤◌};
 
 use crate::command_line::options;
 use crate::faults::{OfficeFault, PipeFault};
-use crate::pipes::{Side, open_pipe};
+use crate::pipes::{PipeNumber, Side, open_pipe};
 use crate::settings::Options;
 use crate::source::{Source, Target};
 use crate::telling::{DONE, FAULT, WRONG_WORDS, tell, tell_no_memory, tell_words};
@@ -24,7 +24,7 @@ use std::thread::Threads;
 use std::time::Clock;
 
 /// After how many turns an office is closed and opened again.
-const SPAN: u64 = 20_000;
+const SPAN: u64 = 5_000;
 
 /// The most stations of a line.
 const MOST_STATIONS: usize = 64;
@@ -112,8 +112,9 @@ fn open_counters<'a, R: Files<File = File>, I: Read + Drop, O: Write + Drop>(
     terminal: Terminal<I, O>,
 ) -> Result<Vec<AnyCounter<I, O>>, OfficeFault<'a>> {
     let mut counters = Vec::with_capacity(alloc, options.counters.len())?;
+    let mut opened = Vec::new(alloc);
     for folder in &options.counters {
-        let counter = open_counter(rt, alloc, folder)?;
+        let counter = open_counter(rt, alloc, folder, &mut opened)?;
         if counters.push(counter).is_err() {
             return Err(OfficeFault::Memory);
         }
@@ -138,9 +139,10 @@ fn open_counter<'a, R: Files<File = File>, I: Read, O: Write>(
     rt: &R,
     alloc: Global,
     folder: &'a str,
+    opened: &mut Vec<PipeNumber>,
 ) -> Result<AnyCounter<I, O>, OfficeFault<'a>> {
-    let input = pipe_of(rt, alloc, folder, Side::In)?;
-    let output = pipe_of(rt, alloc, folder, Side::Out)?;
+    let input = pipe_of(rt, alloc, folder, Side::In, opened)?;
+    let output = pipe_of(rt, alloc, folder, Side::Out, opened)?;
     Ok(Counter {
         input: Source::Pipe(input),
         output: Target::Pipe(output),
@@ -153,8 +155,9 @@ fn pipe_of<'a, R: Files<File = File>>(
     alloc: Global,
     folder: &'a str,
     side: Side,
+    opened: &mut Vec<PipeNumber>,
 ) -> Result<File, OfficeFault<'a>> {
-    match open_pipe(rt, alloc, folder, side) {
+    match open_pipe(rt, alloc, folder, side, opened) {
         Ok(file) => Ok(file),
         Err(refusal) => Err(OfficeFault::Pipe(PipeFault {
             folder,

@@ -1,5 +1,4 @@
 -- What an office answers to a question of a station's client.
-use Rattle.std.specs.Prelude.{ℕ}
 use Rattle.sector_device.specs.Device.{DeviceState}
 use Rattle.four_state.specs.Configuration.{Configuration}
 use Rattle.line_lock.specs.Seat.{SeatState}

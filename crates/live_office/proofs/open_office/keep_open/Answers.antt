@@ -1,9 +1,8 @@
-use Rattle.std.proofs.Common.{◌≡◌, ◌∙◌, List, All, length, map, refl, sym, ap, subst}
-use Rattle.std.specs.List.{AllZip}
+use Rattle.std.proofs.Common.{◌≡◌, ◌∙◌, List, length, map, sym, subst}
 use Rattle.std.proofs.lemmas.Slice.Zip.{AllZip-long}
 use Rattle.station_desk.specs.Rings.{FeedState, AreTogether}
 use Rattle.office_day.specs.Spans.{adjourned_to, span_of, Span, HasLived}
-use Rattle.office_day.proofs.SpanLaws.{kept_open, abandoned, left_together}
+use Rattle.office_day.proofs.SpanLaws.{kept_open, left_together}
 use Rattle.live_office.specs.Kept.{HandsBack}
 use Rattle.live_office.specs.declared.session.Session.{Session}
 use Rattle.live_office.proofs.open_office.keep_open.Goals as goal
