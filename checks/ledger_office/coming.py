@@ -1,0 +1,156 @@
+"""Counters that come and go, that don't listen, that never end a line, and that close the office."""
+import time
+
+from office import await_until, require, require_same
+from talking import require_closed
+
+
+def hangs_up_and_comes_back(case):
+    """A counter that hangs up finds its answers when it comes back, and its lines are counted on."""
+    one, other = clients = case.counters(2)
+    with case.formatted(clients, 64) as office:
+        office.opened(*clients)
+        one.say(b"deposit 1 5\ndeposit 1 6\nbalance 1\nbal")
+        one.leave()
+        for number in range(1, 21):
+            told = other.ask("deposit 2 1")
+            require(told[0].split()[::2] == ["posted", str(number)], f"beside one that hung up: {told}")
+        require_same(other.ask("balance 1"), ["balance 1 11"], "beside one that hung up")
+        one.come()
+        told = one.hear(3)
+        references = [line.split()[2] for line in told]
+        require_same(references, ["1", "2", "11"], f"what was told in between, {told}")
+        # the line that was begun goes on
+        one.say(b"ance 2\n")
+        require_same(one.hear(1), ["balance 2 20"], "a line that was begun before")
+        require_same([line.split()[2] for line in one.ask("withdraw 1 11")], ["5"], "the number of the next line")
+        for _ in range(30):
+            one.leave()
+            one.come()
+            require_same(one.ask("balance 1"), ["balance 1 0"], "a counter that comes thirty times")
+        one.leave()
+        require_same(other.ask("close"), ["closing"], "the answer to close")
+        require_same(office.closed(), [], "what is unanswered")
+    rows = case.rows()
+    for station, wanted in ((0, [1, 2, 5]), (1, list(range(1, 21)))):
+        found = [row.reference for row in rows if row.station == station]
+        require_same(found, wanted, f"the references of station {station}")
+
+
+def says_and_never_listens(case):
+    """A counter that reads nothing and says thousands of requests holds up nobody, nor the closing."""
+    mute, other = clients = case.counters(2)
+    said = b"".join(b"deposit 1 1\n" for _ in range(20_000))
+    with case.formatted(clients, 20_000) as office:
+        office.opened(*clients)
+        taken, longest = 0, 0.0
+        for number in range(1, 201):
+            while count := mute.try_say(said[taken:]):
+                taken += count
+            start = time.monotonic()
+            require_same(other.ask("deposit 2 1")[0].split()[::2], ["posted", str(number)], "the other counter")
+            longest = max(longest, time.monotonic() - start)
+        require(longest < 1, f"the other counter waited {longest:.3f} seconds")
+        # until nothing of it is taken any more
+        def is_full():
+            nonlocal taken
+            time.sleep(0.05)
+            count = mute.try_say(said[taken:])
+            taken += count
+            return count == 0
+
+        await_until(is_full, lambda: f"{taken} bytes are taken of one that never listens")
+        require(taken > 4_000 * 12, f"only {taken} bytes are taken of one that never listens")
+        office.require_idle("where the one counter is stuck and the other waits", 1)
+        require_same(other.ask("balance 2"), ["balance 2 200"], "the other counter, when the first one is stuck")
+        require_same(other.ask("close"), ["closing"], "the answer to close")
+        unanswered = office.closed(5)
+        require_closed(office, 2, 200)
+        told = mute.hear_rest()
+    rows = [row.reference for row in case.rows() if row.station == 0]
+    require_same(rows, list(range(1, len(rows) + 1)), "the references of one that never listens")
+    wanted = [f"{number}" for number in range(1, len(told) + 1)]
+    require_same([line.split()[2] for line in told], wanted, "what it was told")
+    require(len(told) <= len(rows) <= taken // 12, f"it was told {len(told)}, and {len(rows)} of {taken / 12} are posted")
+    behind = [(0, reference) for reference in range(len(rows) + 1, len(rows) + 1 + len(unanswered))]
+    require_same(unanswered, behind, f"what is unanswered behind {len(rows)} that are posted")
+
+
+def never_ends_a_line(case):
+    """10 MB without a line feed are one line that is too long, and take no memory."""
+    client, other = clients = case.counters(2)
+    with case.formatted(clients, 4) as office:
+        office.opened(*clients)
+        before = office.figure("VmHWM")
+        for _ in range(160):
+            client.say(b"deposit 1 5 " * 5_461)
+        require_same(other.ask("balance 1"), ["balance 1 0"], "the other counter")
+        client.say(b"\ndeposit 1 7\n")
+        require_same(client.hear(2), ["wrong line too long", "posted 0 2"], "the answers")
+        most = office.figure("VmHWM")
+        require(most < min(100_000, before + 5_000), f"{most} kB of memory were taken, and {before} before")
+        require_same(other.ask("close"), ["closing"], "the answer to close")
+        office.closed()
+
+
+def close_at_once(case):
+    """Two counters close at once, and what comes behind is told as unanswered and isn't posted."""
+    one, other = clients = case.counters(2)
+    with case.formatted(clients, 4) as office:
+        office.opened(*clients)
+        one.say(b"close\ndeposit 1 1\ndeposit 1 1 50\nbalance 1\n# none\nseal 2\n")
+        other.say(b"close\ndeposit 1 1\n")
+        unanswered = office.closed()
+        require_closed(office, 2, 0)
+        told = one.hear_rest() + other.hear_rest()
+        require(told in (["closing"], ["closing", "closing"]), f"the two are told {told}")
+        late = [(0, 2), (0, 50), (0, 6), (1, 2)]
+        require(unanswered in (late, late[:3], late[3:]), f"unanswered is {unanswered} and not of {late}")
+    require_same(case.rows(), [], "the records in the file")
+
+
+def close_amid_postings(case):
+    """All that was submitted before the end is answered and in the file, and all else that was asked is told."""
+    clients = case.counters(3)
+    with case.formatted(clients, 1000) as office:
+        office.opened(*clients)
+        for number, client in enumerate(clients[:2]):
+            client.say(b"".join(b"deposit 1 1 %d\n" % (1000 * number + place) for place in range(300)))
+        require_same(clients[2].ask("deposit 3 3")[0].split()[::2], ["posted", "1"], "a posting amid others")
+        require_same(clients[2].ask("close"), ["closing"], "the answer to close")
+        unanswered = office.closed()
+        rows = case.rows()
+        for number, client in enumerate(clients[:2]):
+            wanted = [f"posted {row.sequence} {row.reference}" for row in rows if row.station == number]
+            require_same(client.hear_rest(), wanted, f"what counter {number} was told, beside the file")
+            late = [reference for counter, reference in unanswered if counter == number]
+            first = 1000 * number + len(wanted)
+            require_same(late, list(range(first, first + len(late))), f"unanswered of counter {number}")
+            require(len(wanted) + len(late) <= 300, f"counter {number} asked 300 and {len(wanted)}, {len(late)} are told")
+
+
+def many_stations(case):
+    """64 stations with one counter, and then with 64."""
+    clients = case.counters(64)
+    with case.formatted(clients[:1], 200, "--stations", "64") as office:
+        require_same(office.opened(clients[0])[1], "opened 64 next 0 total 0", "the opening")
+        for number in range(5):
+            require_same(clients[0].ask("deposit 1 1"), [f"posted {number} {number + 1}"], "a posting")
+        require_same(clients[0].ask("close"), ["closing"], "the answer to close")
+        office.closed()
+        require_closed(office, 64, 5)
+    clients[0].leave()
+    with case.office(clients) as office:
+        require_same(office.opened(*clients), ["opened 64 next 5 total 5"], "the second opening")
+        for client in clients:
+            client.say(b"deposit 2 1\ndeposit 2 1\nbalance 5\n")
+        for client in clients:
+            told = [line.split()[::2] for line in client.hear(3)]
+            require_same(told, [["posted", "1"], ["posted", "2"], ["balance", "0"]], client.folder.name)
+        require_same(clients[63].ask("balance 2"), ["balance 2 128"], "the balance at last")
+        require_same(clients[63].ask("close"), ["closing"], "the answer to close")
+        require_same(office.closed(), [], "what is unanswered")
+        require_closed(office, 64, 64)
+    found = sorted((row.station, row.reference) for row in case.rows()[5:])
+    wanted = [(station, reference) for station in range(64) for reference in (1, 2)]
+    require_same(found, wanted, "the stations and references in the file")

@@ -1,0 +1,148 @@
+"""What isn't opened, wrong words, and a device on which writes fail."""
+import functools
+import os
+import resource
+import shutil
+import signal
+
+from office import await_until, require, require_same
+from talking import require_closed
+
+
+def require_refused(office, beginning=""):
+    """That it ends with status 1 and one line on its errors, which begins so, and prints nothing."""
+    require_same((office.status(), office.printed()), (1, []), f"the end of {office.run.args}, {office.all_said()}")
+    told = office.told()
+    require_same(len(told), 1, f"the lines that are told, {told}")
+    require(told[0].startswith(beginning), f"{told[0]!r} is told and not {beginning!r}")
+
+
+def counters_that_are_none(case):
+    """A counter without its pipes is refused by name, before the device is made."""
+    good, other = case.counters(2)
+    for name in ("in", "out"):
+        (other.folder / name).unlink()
+        (other.folder / name).write_bytes(b"")
+        with case.formatted([good, other], 4) as office:
+            require_refused(office, f"{other.folder}/{name}: it is no pipe")
+        (other.folder / name).unlink()
+        (other.folder / name).mkdir()
+        with case.formatted([good, other], 4) as office:
+            require_refused(office, f"{other.folder}/{name}: ")
+        (other.folder / name).rmdir()
+        with case.formatted([good, other], 4) as office:
+            require_refused(office, f"{other.folder}/{name}: ")
+        require(not (other.folder / name).exists(), "a missing pipe was made")
+        (other.folder / name).symlink_to(good.folder / name)
+    other.folder = case.folder / "nowhere"
+    with case.formatted([good, other], 4) as office:
+        require_refused(office, f"{other.folder}/in: ")
+    require(not case.device.exists(), "the device was made")
+
+
+def a_ledger_that_is_there(case):
+    """A ledger is neither formatted again nor used twice, and a file without one has to be formatted."""
+    client, = case.counters(1)
+    with case.office([client]) as office:
+        require_refused(office, f"{case.device}: ")
+    with case.formatted([client], 4) as office:
+        office.opened(client)
+        require_same(client.ask("deposit 1 5"), ["posted 0 1"], "a posting")
+        before = case.device.read_bytes()
+        with case.office([client], kept_as="second") as other:
+            require_refused(other, f"{case.device}: ")
+        require_same(client.ask("close"), ["closing"], "the answer to close")
+        office.closed()
+    for slots in (4, 5):
+        with case.office([client], "--format", str(slots)) as office:
+            require_refused(office, f"{case.device}: ")
+        require(case.device.read_bytes() == before, "the file is changed by the refusal to format it")
+    with case.office([client]) as office:
+        require_same(office.opened(), ["opened 2 next 1 total 5"], "the opening that is left")
+
+
+def wrong_words(case):
+    """Wrong words end it with status 2, and nothing is made."""
+    clients = case.counters(3)
+    one = ("--counter", str(clients[0].folder))
+    device = ("--device", str(case.device))
+    all_three = [word for client in clients for word in ("--counter", str(client.folder))]
+    too_many = [word for _ in range(65) for word in one]
+    for words in (
+        (), device, one, (*device, *one, "--stations", "1"), (*device, *one, "--stations", "65"),
+        (*device, *one, "--stations", "x"), (*device, *all_three, "--stations", "2"), (*device, *too_many),
+        (*device, *one, "--format", "0"), (*device, *one, "--format", "1000001"), (*device, *one, "--sectors", "0"),
+        (*device, *one, "--sectors", "4000040"), (*device, *one, "more"), (*device, *one, "--terminal", "yes"),
+        (*device, "--counter"), (*device, *one, "--chart"), (*device, *device, *one), (*device, "--stations", "2"),
+    ):
+        with case.run(*words) as office:
+            status = office.status()
+            require_same((status, office.printed()), (2, []), f"{words}: {office.all_said()}")
+            require(office.told() != [], f"{words}: nothing is told")
+    require(not case.device.exists(), "the device was made")
+
+
+def closed_streams(case):
+    """Where a standard stream is closed, what the program says on it reaches no counter."""
+    for streams in ((0,), (1,), (2,), (0, 1, 2)):
+        client, = case.counters(1)
+        with case.formatted([client], 4, preexec_fn=functools.partial(close_all, streams)) as office:
+            # of a stream that is closed it may be told by the end alone
+            await_until(lambda: case.holds_ledger() or office.run.poll() is not None, lambda: "no ledger is there")
+            if office.run.poll() is None:
+                client.come()
+                told = client.ask("deposit 1 1")
+                require_same(told, ["posted 0 1"], f"the answer without the streams {streams}")
+                require_same(client.ask("close"), ["closing"], f"the answer to close without the streams {streams}")
+            require(office.status() in (0, 1), f"without the streams {streams} it ends as {office.all_said()}")
+        client.leave()
+        shutil.rmtree(client.folder)
+        case.device.unlink(missing_ok=True)
+
+
+def close_all(streams):
+    for stream in streams:
+        os.close(stream)
+
+
+def limited(size):
+    """What makes writes behind so many bytes of a file fail, before the program begins."""
+    def limit():
+        signal.signal(signal.SIGXFSZ, signal.SIG_IGN)
+        resource.setrlimit(resource.RLIMIT_FSIZE, (size, size))
+
+    return limit
+
+
+def a_device_that_fails(case):
+    """Where a write fails, the entries under way are undecided, the office ends, and the file keeps what was posted."""
+    one, other = clients = case.counters(2)
+    with case.formatted(clients, 8) as office:
+        office.opened(*clients)
+        require_same(one.ask("deposit 1 5"), ["posted 0 1"], "a posting")
+        require_same(one.ask("close"), ["closing"], "the answer to close")
+        office.closed()
+    # the body of slot 2 is behind the limit
+    limit = limited(512 * (1 + 19 + 2 * 2))
+    with case.office(clients, preexec_fn=limit) as office:
+        require_same(office.opened(), ["opened 2 next 1 total 5"], "the opening")
+        require_same(one.ask("deposit 1 5 7"), ["posted 1 7"], "a posting before the limit")
+        require_same(one.ask("deposit 1 5 8"), ["undecided 8"], "a posting behind the limit")
+        require_same((office.status(), office.told()), (1, ["the device failed"]), "the end")
+        require_closed(office, 2, 1)
+        require_same((one.hear_rest(), other.hear_rest(), office.unanswered()), ([], [], []), "what is told then")
+    require_same([row.reference for row in case.rows()], [1, 7], "the references in the file")
+    with case.office(clients, preexec_fn=limit) as office:
+        office.opened()
+        one.say(b"deposit 1 5 100\n" + b"".join(b"deposit 1 5 %d\n" % (101 + place) for place in range(100)))
+        other.say(b"deposit 1 5 200\nbalance 1\n")
+        require_same((office.status(), office.told()), (1, ["the device failed"]), "the end amid postings")
+        for number, client, first in ((0, one, 100), (1, other, 200)):
+            told = client.hear_rest()
+            undecided = [f"undecided {first + place}" for place in range(len(told))]
+            require_same(told, undecided, f"what counter {number} is told")
+            late = [reference for counter, reference in office.unanswered() if counter == number]
+            require_same(late, list(range(first + len(told), first + len(told) + len(late))), "what is unanswered")
+    with case.office(clients) as office:
+        require_same(office.opened(), ["opened 2 next 2 total 10"], "the opening without the limit")
+        require_same(one.ask("deposit 1 5 9"), ["posted 2 9"], "a posting without the limit")
