@@ -20,5 +20,38 @@ options() {
 "$program" --help | options > "$work/helped"
 sed 's/\\-/-/g' docs/man/ledger_office.1 | options | diff "$work/helped" - \
     || { echo "docs/man/ledger_office.1: other options"; exit 1; }
+# the example of the README
+mkdir "$work/example" "$work/path"
+ln -s "$program" "$work/path/ledger_office"
+example=$PWD/examples/two_counters.sh
+(cd "$work/example" && PATH="$work/path:$PATH" timeout 30 bash "$example") | diff "$example.out" - \
+    || { echo "examples/two_counters.sh: tells something else than examples/two_counters.sh.out"; exit 1; }
+
+# Each request for memory is refused, the first, then the second, until a run makes no more. Runs one with the request of that
+# number refused, and tells whether it was; the program ends by itself, and what it told as posted is in the file.
+cc -O1 -Wall -shared -fPIC -o "$work/refuse.so" checks/refused_memory/refuse.c
+printf 'deposit 1 5 71\nbalance 1\nfind 71\nwithdraw 1 9\nclose\n' > "$work/said"
+refuse() {
+    rm -f "$work/ledger"
+    status=0
+    timeout 20 env LD_PRELOAD="$work/refuse.so" REFUSED_REQUEST="$1" "$program" --device "$work/ledger" --format 4 --terminal \
+        < "$work/said" > "$work/told" 2> "$work/fault" 9> "$work/refused" || status=$?
+    case "$status $(cat "$work/fault")" in
+        '0 ' | '1 out of memory' | *': out of memory' | '1 the system refused a thread' | '1 ') ;;
+        *) echo "request $1 refused: status $status, $(cat "$work/fault")"; return 1 ;;
+    esac
+    if grep -q 'posted 0 71' "$work/told"; then
+        "$tool" journal "$work/ledger" --format csv > "$work/listed" && grep -q ',71,' "$work/listed" \
+            || { echo "request $1 refused: a posting is lost"; return 1; }
+    fi
+}
+requests=0
+while :; do
+    refuse $((requests + 1)) || exit 1
+    grep -q refused "$work/refused" || break
+    requests=$((requests + 1))
+done
+[ "$requests" -gt 50 ] && [ "$status" -eq 0 ] || { echo "$requests requests were refused, and then the status is $status"; exit 1; }
+echo "the example is told as shown, and each of $requests requests for memory was refused in turn"
 mkdir "$work/cases"
 PYTHONDONTWRITEBYTECODE=1 python3 checks/ledger_office/check.py "$program" "$tool" "$work/cases" "${@:3}"
