@@ -1,5 +1,6 @@
 /* Durable batches in SQLite: the same script's entries, each judged, posted to one or two balances and kept as a row, and
-   each turn's entries one transaction. The database is in WAL mode with synchronous=FULL, so that a commit is synced.
+   each turn's entries one transaction. The database is in WAL mode with synchronous=FULL, so that a commit is synced. Where
+   other processes post to it too, each waits for the others.
    Words: the database, which is made. The script comes on standard input; the total is printed. */
 
 #include <sqlite3.h>
@@ -74,7 +75,7 @@ int main(int count, char **words) {
         return 2;
     }
     check(sqlite3_open(words[1], &database));
-    run("PRAGMA journal_mode = WAL; PRAGMA synchronous = FULL;"
+    run("PRAGMA busy_timeout = 60000; PRAGMA journal_mode = WAL; PRAGMA synchronous = FULL;"
         "CREATE TABLE IF NOT EXISTS accounts (id INTEGER PRIMARY KEY, balance INTEGER NOT NULL);"
         "CREATE TABLE IF NOT EXISTS entries (id INTEGER PRIMARY KEY, kind INTEGER NOT NULL, source INTEGER NOT NULL,"
         " target INTEGER NOT NULL, amount INTEGER NOT NULL);"
