@@ -34,6 +34,12 @@ def counters_that_are_none(case):
             require_refused(office, f"{other.folder}/{name}: ")
         require(not (other.folder / name).exists(), "a missing pipe was made")
         (other.folder / name).symlink_to(good.folder / name)
+        with case.formatted([good, other], 4) as office:
+            require_refused(office, f"{other.folder}/{name}: it is another counter's")
+        (other.folder / name).unlink()
+        os.mkfifo(other.folder / name)
+    with case.formatted([good, good], 4) as office:
+        require_refused(office, f"{good.folder}/in: it is another counter's")
     other.folder = case.folder / "nowhere"
     with case.formatted([good, other], 4) as office:
         require_refused(office, f"{other.folder}/in: ")
@@ -87,14 +93,14 @@ def closed_streams(case):
     for streams in ((0,), (1,), (2,), (0, 1, 2)):
         client, = case.counters(1)
         with case.formatted([client], 4, preexec_fn=functools.partial(close_all, streams)) as office:
-            # of a stream that is closed it may be told by the end alone
             await_until(lambda: case.holds_ledger() or office.run.poll() is not None, lambda: "no ledger is there")
-            if office.run.poll() is None:
+            # what can't be printed ends it
+            if 1 not in streams:
                 client.come()
                 told = client.ask("deposit 1 1")
                 require_same(told, ["posted 0 1"], f"the answer without the streams {streams}")
                 require_same(client.ask("close"), ["closing"], f"the answer to close without the streams {streams}")
-            require(office.status() in (0, 1), f"without the streams {streams} it ends as {office.all_said()}")
+            require_same(office.status(), 1 if 1 in streams else 0, f"the end without the streams {streams}")
         client.leave()
         shutil.rmtree(client.folder)
         case.device.unlink(missing_ok=True)
