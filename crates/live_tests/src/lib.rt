@@ -3,5 +3,3 @@
 
 #[cfg(test)]
 mod counters;
-#[cfg(test)]
-mod words;
