@@ -1,5 +1,4 @@
 """Counters that come and go, that don't listen, that never end a line, and that close the office."""
-import time
 
 from office import await_until, require, require_same
 from talking import require_closed
@@ -43,28 +42,25 @@ def says_and_never_listens(case):
     said = b"".join(b"deposit 1 1\n" for _ in range(20_000))
     with case.formatted(clients, 20_000) as office:
         office.opened(*clients)
-        taken, longest = 0, 0.0
+        taken = 0
         for number in range(1, 201):
             while count := mute.try_say(said[taken:]):
                 taken += count
-            start = time.monotonic()
             require_same(other.ask("deposit 2 1")[0].split()[::2], ["posted", str(number)], "the other counter")
-            longest = max(longest, time.monotonic() - start)
-        require(longest < 1, f"the other counter waited {longest:.3f} seconds")
-        # until nothing of it is taken any more
-        def is_full():
+
+        # until it rests and nothing of it is taken any more
+        def is_stuck():
             nonlocal taken
-            time.sleep(0.05)
+            office.await_idle("where the one counter is stuck and the other waits")
             count = mute.try_say(said[taken:])
             taken += count
             return count == 0
 
-        await_until(is_full, lambda: f"{taken} bytes are taken of one that never listens")
+        await_until(is_stuck, lambda: f"{taken} bytes are taken of one that never listens")
         require(taken > 4_000 * 12, f"only {taken} bytes are taken of one that never listens")
-        office.require_idle("where the one counter is stuck and the other waits", 1)
         require_same(other.ask("balance 2"), ["balance 2 200"], "the other counter, when the first one is stuck")
         require_same(other.ask("close"), ["closing"], "the answer to close")
-        unanswered = office.closed(5)
+        unanswered = office.closed()
         require_closed(office, 2, 200)
         told = mute.hear_rest()
     rows = [row.reference for row in case.rows() if row.station == 0]

@@ -9,7 +9,10 @@ import subprocess
 import time
 
 # How many seconds anything may take that has no limit of its own.
-PATIENCE = 20
+PATIENCE = 60
+
+# How many seconds one looks whether something rests.
+WHILE = 1
 
 
 class Mismatch(Exception):
@@ -203,13 +206,19 @@ class Office:
                 count += next(int(line.split()[1]) for line in lines if line.startswith("voluntary_ctxt_switches:"))
         return count
 
-    def require_idle(self, when, seconds):
-        """That for so long it takes less than 2 in 100 of a processor, and its threads are woken 200 times a second at most."""
-        processor, switches = self.processor(), self.switches()
-        time.sleep(seconds)
-        taken, woken = (self.processor() - processor) / seconds, (self.switches() - switches) / seconds
-        require(taken < 0.02, f"{when} it takes {taken:.3f} of a processor")
-        require(woken <= 200, f"{when} its threads are woken {woken} times a second")
+    def await_idle(self, when):
+        """Waits until nothing of it runs: a while in which it takes no time and none of its threads is woken. That comes at
+        last, however slow the machine, unless a thread looks again and again."""
+        last = None
+
+        def rests():
+            nonlocal last
+            before, last = last, (self.processor(), self.switches())
+            if before != last:
+                time.sleep(WHILE)
+            return before == last
+
+        await_until(rests, lambda: f"{when} it goes on: {last} are its seconds and how often its threads waited")
 
 
 @dataclasses.dataclass(frozen=True)

@@ -2,43 +2,22 @@
 import os
 import pty
 import re
-import statistics
 import threading
-import time
 
 from office import await_until, require, require_same
 from talking import HELP, require_closed
 
-def durable(path):
-    """The seconds that two writes and two syncs take."""
-    with open(path, "wb") as file:
-        file.write(bytes(1024))
-        os.fdatasync(file.fileno())
-        start = time.monotonic()
-        for place in (0, 512):
-            os.pwrite(file.fileno(), b"\1" * 512, place)
-            os.fdatasync(file.fileno())
-        return time.monotonic() - start
-
 
 def asks_for_nothing(case):
-    """Without a request it takes no time, and a request that comes then is answered at once."""
+    """Without a request it takes no time, and each request that comes then is answered."""
     clients = case.counters(4)
     with case.formatted(clients, 64) as office:
         office.opened(*clients)
         for client in clients:
             client.ask("deposit 1 1")
-        time.sleep(0.2)
-        office.require_idle("with nothing to do", 2)
-        times, disk = [], []
-        for _ in range(7):
-            time.sleep(0.1)
-            disk.append(durable(case.folder / "probe"))
-            start = time.monotonic()
-            clients[2].ask("deposit 1 1")
-            times.append(time.monotonic() - start)
-        allowed = 0.02 + 20 * statistics.median(disk)
-        require(statistics.median(times) < allowed, f"answers take {times}, and writes and syncs {disk}")
+        for number in range(3):
+            office.await_idle("with nothing to do")
+            require_same(clients[2].ask("deposit 1 1")[0].split()[::2], ["posted", str(number + 2)], "a request then")
         require_same(clients[0].ask("close"), ["closing"], "the answer to close")
         office.closed()
 

@@ -49,6 +49,13 @@ def words_given():
     return parser.parse_args()
 
 
+def built_tree(folder):
+    """The tree in which the libraries were built, None without one."""
+    if folder is not None and not (folder / "crates.txt").is_file():
+        sys.exit(f"--built {folder}: no tree of crates is there, since it has no file crates.txt")
+    return folder and folder.resolve()
+
+
 def wanted(edits, names):
     """The edits of these names, all without any."""
     chosen = [edit for edit in edits if not names or edit.crate in names or str(edit) in names]
@@ -115,7 +122,7 @@ def try_itself(tree, progress):
 
 def main():
     words = words_given()
-    tree = words.built and words.built.resolve()
+    tree = built_tree(words.built)
     progress = Progress(words.beside and words.beside.resolve())
     os.chdir(Path(__file__).resolve().parent.parent.parent)
     if words.itself:
