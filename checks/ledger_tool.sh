@@ -136,6 +136,8 @@ run 3 nothing "folder: it is neither a file nor a disk" check folder
 run 3 nothing "missing: there is no such file" journal missing
 [ ! -e missing ] || { echo "a missing file was made"; exit 1; }
 run 3 nothing "short: its length is no multiple of 512 bytes" balances short
+run 3 nothing "short/none: there is no such file" check short/none
+run 3 nothing "/dev/zero: it is neither a file nor a disk" check /dev/zero
 mkfifo script
 "$console" --device office < script > /dev/null &
 holder=$!

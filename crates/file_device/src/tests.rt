@@ -1,7 +1,4 @@
-use crate::{
-    Device, DeviceFault, FailStop, FileDevice, FileRefusal, ReadAhead, ReadBuffer, SECTOR, Sector,
-};
-use sector_device::MemoryDevice;
+use crate::{Device, DeviceFault, FileDevice, FileRefusal, SECTOR, Sector};
 use std::alloc::Global;
 use std::fs;
 use std::fs::{File, Files};
@@ -12,9 +9,7 @@ use std::test::Fail;
 mod disk;
 mod disks;
 mod failing;
-mod growth;
 mod looking;
-mod opening;
 mod steps;
 mod transfers;
 
@@ -235,21 +230,6 @@ fn reads_see_what_was_written(rt: HostRuntime) -> Result<(), Fail> {
     Ok(())
 }
 
-#[test]
-fn reads_ahead_see_what_was_written(rt: HostRuntime) -> Result<(), Fail> {
-    let memory = MemoryDevice::new(rt.alloc(), 300)?;
-    let mut ahead = ReadAhead::new(memory, ReadBuffer::new(rt.alloc())?);
-    agrees_with_a_list(&rt, rt.alloc(), &mut ahead)
-}
-
-#[test]
-fn reads_before_a_failed_sync_see_what_was_written(rt: HostRuntime) -> Result<(), Fail> {
-    let mut stops = FailStop::new(MemoryDevice::new(rt.alloc(), 300)?);
-    agrees_with_a_list(&rt, rt.alloc(), &mut stops)?;
-    stops.sync()?;
-    Ok(())
-}
-
 // Writes 600 sectors of this byte.
 fn fill_file(rt: &HostRuntime, path: &str, byte: u8) -> Result<(), Fail> {
     let bytes = vec![in rt.alloc(); byte; 600 * SECTOR]?;
@@ -285,19 +265,6 @@ fn neighbours_are_read_in_one_call(rt: HostRuntime) -> Result<(), Fail> {
     fill_file(&rt, path, 8)?;
     reads_anew_after_a_write(&rt, &mut device)?;
     fs::remove_dir_all(&rt, "file_device_ahead")?;
-    Ok(())
-}
-
-#[test]
-fn without_memory_no_file_is_made(rt: HostRuntime) -> Result<(), Fail> {
-    make_folder(&rt, "file_device_memory")?;
-    let opened = FileDevice::open(&rt, rt.alloc(), "file_device_memory/sectors", 1);
-    let made = fs::exists(&rt, "file_device_memory/sectors")?;
-    fs::remove_dir_all(&rt, "file_device_memory")?;
-    match opened {
-        Ok(device) => assert!(rt; (device.sectors(), made) == (1, true)),
-        Err(refusal) => assert!(rt; (refusal, made) == (FileRefusal::Memory, false)),
-    }
     Ok(())
 }
 

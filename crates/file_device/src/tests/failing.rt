@@ -4,8 +4,7 @@ ghost use Rattle.file_device.specs.RealFile.{unknown_sectors};
 use super::{expect_sector, make_folder, read_at, sector_of, write_at};
 use crate::device::device_over;
 use crate::{
-    Device, DeviceFault, FailStop, FileDevice, ReadAhead, ReadBuffer, ReadRun, SECTOR, Sector,
-    SectorFile,
+    Device, DeviceFault, FileDevice, ReadAhead, ReadBuffer, ReadRun, SECTOR, Sector, SectorFile,
 };
 use std::alloc::AllocError;
 use std::fs;
@@ -38,31 +37,9 @@ fn a_sector_behind_the_end_spoils_no_other(rt: HostRuntime) -> Result<(), Fail> 
     Ok(())
 }
 
-// Its second sector holds threes, which can't be written over.
-fn keeps_its_threes<D: Device>(rt: &impl Abort, device: &mut D) -> Result<(), DeviceFault> {
-    expect_sector(rt, device, 1, &[3; SECTOR])?;
-    assert!(rt; write_at(rt, device, 1, &[4; SECTOR]).is_err());
-    expect_sector(rt, device, 1, &[3; SECTOR])
-}
-
-#[test]
-fn a_file_that_may_not_be_written_tells_it(rt: HostRuntime) -> Result<(), Fail> {
-    make_folder(&rt, "file_device_unwritable")?;
-    let path = "file_device_unwritable/sectors";
-    fs::write(&rt, path, [3; 2 * SECTOR].as_slice())?;
-    let mut device = two_sectors(&rt, File::open(&rt, path)?)?;
-    keeps_its_threes(&rt, &mut device)?;
-    fs::remove_dir_all(&rt, "file_device_unwritable")?;
-    Ok(())
-}
-
-// A device of two sectors, each of this byte, is read and written; then its sync fails, and so does every later call.
-fn stops_at_its_sync<D: Device>(
-    rt: &impl Abort,
-    device: &mut D,
-    byte: u8,
-) -> Result<(), DeviceFault> {
-    expect_sector(rt, device, 1, &[byte; SECTOR])?;
+// A device of two sectors of zeros is read and written; then its sync fails, and so does every later call.
+fn stops_at_its_sync(rt: &impl Abort, device: &mut FileDevice) -> Result<(), DeviceFault> {
+    expect_sector(rt, device, 1, &[0; SECTOR])?;
     write_at(rt, device, 1, &sector_of(1))?;
     assert!(rt; device.sync().is_err());
     for at in 0..2 {
@@ -78,7 +55,7 @@ fn stops_at_its_sync<D: Device>(
 fn after_a_failed_sync_every_call_fails(rt: HostRuntime) -> Result<(), Fail> {
     let mut options = File::options();
     let file = options.read(true).write(true).open(&rt, "/dev/zero")?;
-    stops_at_its_sync(&rt, &mut two_sectors(&rt, file)?, 0)?;
+    stops_at_its_sync(&rt, &mut two_sectors(&rt, file)?)?;
     Ok(())
 }
 
@@ -131,16 +108,5 @@ fn after_a_failed_sync_the_buffer_is_read_anew(rt: HostRuntime) -> Result<(), Fa
     expect_sector(&rt, &mut ahead, 0, &[1; SECTOR])?;
     assert!(rt; ahead.sync().is_err());
     expect_sector(&rt, &mut ahead, 0, &[2; SECTOR])?;
-    Ok(())
-}
-
-#[test]
-fn a_device_that_stopped_hands_nothing_on(rt: HostRuntime) -> Result<(), Fail> {
-    let mut device = FailStop::new(Forgetful {
-        byte: 1,
-        failures: 0,
-    });
-    stops_at_its_sync(&rt, &mut device, 1)?;
-    assert!(rt; device.sectors() == 2);
     Ok(())
 }

@@ -1,10 +1,7 @@
 // Files that are only read.
 use super::disk::{Asked, Disk, Limits, WHOLE};
-use super::{expect_sector, make_folder, read_at, sector_of, write_at};
-use crate::{
-    Device, DeviceFault, FileDevice, FileRefusal, Locking, LookRefusal, ReadOnly, ReadOnlyFile,
-};
-use sector_device::MemoryDevice;
+use super::{make_folder, read_at, sector_of, write_at};
+use crate::{Device, FileDevice, FileRefusal, Locking, LookRefusal, ReadOnlyFile};
 use std::alloc::Global;
 use std::fs;
 use std::fs::{File, Files};
@@ -66,34 +63,6 @@ fn each_failed_step_of_a_look_is_told(rt: HostRuntime) -> Result<(), Fail> {
     Ok(())
 }
 
-// Its buffer reads 256 sectors at once, or as many as there are.
-#[test]
-fn nothing_but_reads_reaches_a_file_that_is_looked_at(rt: HostRuntime) -> Result<(), Fail> {
-    let disk = with_five(rt.alloc(), WHOLE)?;
-    let mut device = disk.look(Locking::Shared)?;
-    assert!(rt; disk.take_asked().len() == 3);
-    assert!(rt; write_at(&rt, &mut device, 1, &sector_of(1)) == Err(DeviceFault));
-    device.sync()?;
-    expect_asked(&rt, &disk, &[]);
-    expect_sector(&rt, &mut device, 1, &[7; 512])?;
-    expect_asked(&rt, &disk, &[Asked::Read(0, 2560)]);
-    Ok(())
-}
-
-#[test]
-fn a_read_only_device_stays_as_it_is(rt: HostRuntime) -> Result<(), Fail> {
-    let mut inner = MemoryDevice::new(rt.alloc(), 2)?;
-    write_at(&rt, &mut inner, 1, &sector_of(1))?;
-    let mut device = ReadOnly::new(inner);
-    expect_sector(&rt, &mut device, 1, &sector_of(1))?;
-    assert!(rt; write_at(&rt, &mut device, 1, &sector_of(2)) == Err(DeviceFault));
-    device.sync()?;
-    expect_sector(&rt, &mut device, 1, &sector_of(1))?;
-    let inner = device.into_inner();
-    assert!(rt; inner.sectors() == 2 && inner.pending(1));
-    Ok(())
-}
-
 // How many sectors a look finds, which is closed again.
 fn looked<R: Files<File = File>>(
     files: &R,
@@ -114,33 +83,14 @@ fn a_file_is_looked_at_by_many_and_had_by_one(rt: HostRuntime) -> Result<(), Fai
     device.sync()?;
     assert!(rt; looked(&rt, alloc, path, Locking::Shared) == Err(LookRefusal::InUse));
     assert!(rt; looked(&rt, alloc, path, Locking::Unlocked) == Ok(3));
+    let second = FileDevice::open(&rt, alloc, path, 5).err();
+    assert!(rt; second == Some(FileRefusal::File));
+    assert!(rt; fs::metadata(&rt, path)?.len() == 3 * 512);
     drop(device);
     let mut first = ReadOnlyFile::open(&rt, alloc, path, Locking::Shared)?;
     assert!(rt; looked(&rt, alloc, path, Locking::Shared) == Ok(3));
     assert!(rt; FileDevice::open(&rt, alloc, path, 3).err() == Some(FileRefusal::File));
     assert!(rt; read_at(&rt, &mut first, 2)? == sector_of(2));
     fs::remove_dir_all(&rt, "file_device_looked")?;
-    Ok(())
-}
-
-#[test]
-fn what_cant_be_looked_at_says_why(rt: HostRuntime) -> Result<(), Fail> {
-    let alloc = rt.alloc();
-    make_folder(&rt, "file_device_no_look")?;
-    fs::write(&rt, "file_device_no_look/odd", &[0; 511])?;
-    let rows = [
-        ("file_device_no_look/none", LookRefusal::Missing),
-        ("file_device_no_look/odd/none", LookRefusal::Missing),
-        ("file_device_no_look", LookRefusal::NoFile),
-        ("/dev/zero", LookRefusal::NoFile),
-        ("file_device_no_look/odd", LookRefusal::NotSectors),
-    ];
-    for (path, refusal) in rows {
-        assert!(rt;
-            looked(&rt, alloc, path, Locking::Shared) == Err(refusal),
-            "{path}"
-        );
-    }
-    fs::remove_dir_all(&rt, "file_device_no_look")?;
     Ok(())
 }

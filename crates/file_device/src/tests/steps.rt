@@ -1,8 +1,6 @@
 // What an opening asks of a disk, step by step, and what it does where a step fails.
-use super::disk::{Asked, Disk, Limits, OnDisk, WHOLE};
-use crate::device::open_device;
-use crate::opening::Wanted;
-use crate::{Device, DeviceRefusal, FileRefusal};
+use super::disk::{Asked, Disk, Limits, WHOLE};
+use crate::{Device, FileRefusal};
 use std::alloc::Global;
 use std::io::ErrorKind;
 use std::process::Abort;
@@ -231,21 +229,6 @@ fn zeros_that_are_written_in_part_are_finished(rt: HostRuntime) -> Result<(), Fa
     Ok(())
 }
 
-#[test]
-fn a_length_of_no_whole_sectors_is_refused(rt: HostRuntime) -> Result<(), Fail> {
-    for length in [1, 511, 513, 1023] {
-        let opening = Opening {
-            before: Some(length),
-            outcome: REFUSED,
-            steps: &FULL[..4],
-            after: Some((length, length)),
-            ..OF_AN_OLD_FILE
-        };
-        comes_to_pass(&rt, rt.alloc(), &opening)?;
-    }
-    Ok(())
-}
-
 // A file's name, and the folder that it lies in.
 #[test]
 fn the_folder_of_the_name_is_synced(rt: HostRuntime) -> Result<(), Fail> {
@@ -299,25 +282,4 @@ fn without_another_number_the_file_is_refused(rt: HostRuntime) -> Result<(), Fai
         ..OF_AN_OLD_FILE
     };
     comes_to_pass(&rt, rt.alloc(), &opening)
-}
-
-// Out of memory, the disk is asked for nothing.
-#[test]
-fn memory_is_taken_before_the_disk_is_asked(rt: HostRuntime) -> Result<(), Fail> {
-    let disk = Disk::new(rt.alloc(), "ledger", ".", WHOLE);
-    let wanted = Wanted {
-        path: "ledger",
-        sectors: 5,
-        overwrite: false,
-    };
-    let opened = open_device(&OnDisk { disk: &disk }, rt.alloc(), wanted);
-    let asked = disk.take_asked().len();
-    match opened {
-        Ok(device) => assert!(rt; (device.sectors(), asked) == (5, 9)),
-        Err(refusal) => {
-            let memory = DeviceRefusal::File(FileRefusal::Memory);
-            assert!(rt; (refusal, asked) == (memory, 0));
-        }
-    }
-    Ok(())
 }

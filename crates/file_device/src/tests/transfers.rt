@@ -63,8 +63,18 @@ fn one_call_of_each(rt: &impl Abort, file: &mut SectorFile<Opened>) -> Result<()
     read_all(rt, file, &mut [[1; SECTOR]; 5])
 }
 
+// Sectors 1 and 2 alone were written.
+fn shows_two_sectors(rt: &impl Abort, file: &mut SectorFile<Opened>) -> Result<(), DeviceFault> {
+    let mut all = [[1; SECTOR]; 5];
+    read_all(rt, file, &mut all)?;
+    let zero = [0; SECTOR];
+    assert!(rt; all == [zero, sector_of(1), sector_of(2), zero, zero]);
+    Ok(())
+}
+
+// Each call is one call of the system, and where that moves only a part, the rest is asked for.
 #[test]
-fn each_call_is_one_call_of_the_system(rt: HostRuntime) -> Result<(), Fail> {
+fn what_is_moved_in_part_is_finished(rt: HostRuntime) -> Result<(), Fail> {
     let disk = Disk::new(rt.alloc(), "ledger", ".", WHOLE);
     let mut file = new_sectors(&disk)?;
     one_call_of_each(&rt, &mut file)?;
@@ -75,31 +85,16 @@ fn each_call_is_one_call_of_the_system(rt: HostRuntime) -> Result<(), Fail> {
         Asked::Read(0, 2560),
     ];
     was_asked(&rt, &disk, &expected);
-    Ok(())
-}
-
-// Only sector 1 was written.
-fn shows_one_sector(rt: &impl Abort, file: &mut SectorFile<Opened>) -> Result<(), DeviceFault> {
-    let mut all = [[1; SECTOR]; 5];
-    read_all(rt, file, &mut all)?;
-    let zero = [0; SECTOR];
-    assert!(rt; all == [zero, sector_of(1), zero, zero, zero]);
-    Ok(())
-}
-
-#[test]
-fn what_is_moved_in_part_is_finished(rt: HostRuntime) -> Result<(), Fail> {
-    let disk = Disk::new(rt.alloc(), "ledger", ".", WHOLE);
-    let mut file = new_sectors(&disk)?;
     disk.limit(in_parts(usize::MAX));
     write_at(&rt, &mut file, 1, &sector_of(1))?;
     was_asked(&rt, &disk, &WRITES);
     expect_sector(&rt, &mut file, 1, &sector_of(1))?;
     was_asked(&rt, &disk, &READS);
-    shows_one_sector(&rt, &mut file)?;
+    shows_two_sectors(&rt, &mut file)?;
     Ok(())
 }
 
+// A write and a read take six calls, all five sectors 26.
 #[test]
 fn a_part_that_fails_is_told(rt: HostRuntime) -> Result<(), Fail> {
     let disk = Disk::new(rt.alloc(), "ledger", ".", WHOLE);
@@ -111,29 +106,12 @@ fn a_part_that_fails_is_told(rt: HostRuntime) -> Result<(), Fail> {
         assert!(rt; read_at(&rt, &mut file, 1).is_err());
         was_asked(&rt, &disk, &READS[..=fails]);
     }
-    Ok(())
-}
-
-// All five sectors take 26 calls.
-#[test]
-fn a_run_that_fails_is_told(rt: HostRuntime) -> Result<(), Fail> {
-    let disk = Disk::new(rt.alloc(), "ledger", ".", WHOLE);
-    let mut file = new_sectors(&disk)?;
     let mut all = [[1; SECTOR]; 5];
     for fails in 0..26 {
         disk.limit(in_parts(fails));
         assert!(rt; read_all(&rt, &mut file, &mut all).is_err(), "{fails}");
         assert!(rt; disk.take_asked().len() == fails + 1);
     }
-    disk.limit(in_parts(26));
-    assert!(rt; read_all(&rt, &mut file, &mut all).is_ok());
-    Ok(())
-}
-
-#[test]
-fn a_sync_that_fails_is_told(rt: HostRuntime) -> Result<(), Fail> {
-    let disk = Disk::new(rt.alloc(), "ledger", ".", WHOLE);
-    let mut file = new_sectors(&disk)?;
     disk.limit(in_parts(0));
     assert!(rt; file.sync().is_err());
     was_asked(&rt, &disk, &[Asked::SyncData]);
