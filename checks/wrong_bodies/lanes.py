@@ -44,10 +44,12 @@ def room_for_checks():
 
 class Queue:
     """Batches by crate. Whoever takes one gets its own crate's next, whose work it has kept, or one of the crate that has
-    most left, the crates that stand on most first, among those whose libraries are built."""
+    most left, the crates that stand on most first, among those whose libraries are built. A crate is begun by one alone, so
+    that what all its edits need is proved once."""
 
-    def __init__(self, batches, tree, progress):
+    def __init__(self, batches, tree, progress, work):
         self.left, self.lock, self.tree, self.progress = defaultdict(list), threading.Lock(), tree, progress
+        self.work, self.begun = work, set()
         for batch in batches:
             self.left[batch.crate].append(batch)
 
@@ -63,21 +65,27 @@ class Queue:
     def ready(self, crate):
         """A batch that can be tried now, taken away, or None."""
         if not self.left.get(crate):
-            built = [it for it in self.left if self.progress.has_built(below(self.tree, it))]
-            crate = max(built, key=lambda it: (len(self.left[it]), len(below(self.tree, it))), default=None)
+            free = [it for it in self.left if self.progress.has_built(below(self.tree, it)) and self.is_free(it)]
+            crate = max(free, key=lambda it: (len(self.left[it]), len(below(self.tree, it))), default=None)
         if crate is None:
             return None
+        self.begun.add(crate)
         batch = self.left[crate].pop(0)
         if not self.left[crate]:
             del self.left[crate]
         return batch
 
+    def is_free(self, crate):
+        """Whether nobody has begun a crate, or what was proved on the way to its first verdicts is there."""
+        return crate not in self.begun or self.work.has(crate)
+
 
 def try_all(batches, tree, progress, count, tell):
     """Tries all batches, so many at once, and tells each outcome as it comes."""
-    queue, telling = Queue(batches, tree, progress), threading.Lock()
+    telling = threading.Lock()
     with room_for_checks() as (room, group):
         work = Work(room / "work")
+        queue = Queue(batches, tree, progress, work)
 
         def lane(number):
             folder, batch = room / str(number), queue.take(None)

@@ -137,6 +137,11 @@ class Work:
         self.folder, self.lock = folder, threading.Lock()
         folder.mkdir()
 
+    def has(self, crate):
+        """Whether there is anything of the crate."""
+        with self.lock:
+            return (self.folder / crate).is_dir()
+
     def hand_out(self, crate, kept):
         """Begins a lane's folder with what was proved of the crate."""
         with self.lock:
