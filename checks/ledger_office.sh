@@ -24,7 +24,7 @@ sed 's/\\-/-/g' docs/man/ledger_office.1 | options | diff "$work/helped" - \
 mkdir "$work/example" "$work/path"
 ln -s "$program" "$work/path/ledger_office"
 example=$PWD/examples/two_counters.sh
-(cd "$work/example" && PATH="$work/path:$PATH" timeout 30 bash "$example") | diff "$example.out" - \
+(cd "$work/example" && PATH="$work/path:$PATH" timeout 300 bash "$example") | diff "$example.out" - \
     || { echo "examples/two_counters.sh: tells something else than examples/two_counters.sh.out"; exit 1; }
 
 # Each request for memory is refused, the first, then the second, until a run makes no more. Runs one with the request of that
@@ -34,7 +34,7 @@ printf 'deposit 1 5 71\nbalance 1\nfind 71\nwithdraw 1 9\nclose\n' > "$work/said
 refuse() {
     rm -f "$work/ledger"
     status=0
-    timeout 20 env LD_PRELOAD="$work/refuse.so" REFUSED_REQUEST="$1" "$program" --device "$work/ledger" --format 4 --terminal \
+    timeout 300 env LD_PRELOAD="$work/refuse.so" REFUSED_REQUEST="$1" "$program" --device "$work/ledger" --format 4 --terminal \
         < "$work/said" > "$work/told" 2> "$work/fault" 9> "$work/refused" || status=$?
     case "$status $(cat "$work/fault")" in
         '0 ' | '1 out of memory' | *': out of memory' | '1 the system refused a thread' | '1 ') ;;

@@ -142,7 +142,7 @@ mkfifo script
 "$console" --device office < script > /dev/null &
 holder=$!
 exec 3> script
-for _ in $(seq 100); do
+for _ in $(seq 1000); do
     "$tool" check -q office 2> told || break
     sleep 0.1
 done

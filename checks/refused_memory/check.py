@@ -28,8 +28,10 @@ OLDER = b"".join(bytes.fromhex(sector).ljust(512, b"\0") for sector in (
     "544c4447 0001 0000 0000000000000004",
     "544c4231 0000 0001" + 24 * "00" + "01000000 00000000 00000001 00000000 00000000000001f4 0000000000000003",
     "a5", "", "", "", "", "", ""))
-# So long a day is waited for that has a thread too few: its stations ask 100,000,000 times before they give up.
-SECONDS = 5
+# How long a day is waited for, of which the stations ask 100,000,000 times before they give up where a thread is missing, and
+# anything else, which ends at once.
+SECONDS_OF_A_DAY = 5
+SECONDS = 300
 IN_A_LINE = re.compile(rb"^(refused|station \d+) (Memory|Device)$")
 
 
@@ -89,11 +91,12 @@ def try_program(refuser, name, words, given):
     fresh()
     whole = refuser.run(words, "REQUEST", 0, given)
     kinds = {"REQUEST": 0, "THREAD": 0}
-    in_vain = 0
+    in_vain, has_day = 0, b"day " in given
+    seconds = SECONDS_OF_A_DAY if has_day else SECONDS
     for kind in kinds:
-        for number, run in refuser.each(words, kind, given, SECONDS, fresh):
+        for number, run in refuser.each(words, kind, given, seconds, fresh):
             kinds[kind] += 1
-            if run.status is None and b"day " in given:
+            if run.status is None and has_day:
                 in_vain += 1
             elif not is_lawful(run, whole):
                 fail(f"{name}, {kind} {number}: status {run.status}\n{run.printed.decode()}{run.told.decode()}")
