@@ -283,15 +283,17 @@ fn replace_sector(
     Ok((settled(alloc, device), refused))
 }
 
-// Replaces each byte of each sector, and compares how many images are refused.
+// Replaces each byte of each of these sectors, and compares how many images are refused.
 fn replace_each(
     rt: &impl Abort,
     alloc: Global,
     mut device: MemoryDevice,
     expected: &[Row],
+    (first, behind): (u64, u64),
 ) -> Result<(), Fail> {
     let mut image = image_of(rt, alloc, &mut device)?;
-    for at in 0..image.len() {
+    assert!(rt; first < behind && behind <= device.sectors());
+    for at in first as usize..behind as usize {
         let (after, refused) = replace_sector(rt, alloc, device, image.as_mut_slice(), at)?;
         assert!(rt; refused == refused_at(expected, at), "sector {at}");
         device = after;
@@ -299,16 +301,56 @@ fn replace_each(
     Ok(())
 }
 
-#[test]
-fn each_byte_after_one_deposit_is_replaced(rt: HostRuntime) -> Result<(), Fail> {
-    let device = after_one_deposit(&rt, rt.alloc())?;
-    replace_each(&rt, rt.alloc(), device, &refused_after_one_deposit())
+// Replaces each byte from one sector up to another, of the image after one deposit.
+fn after_one_deposit_replaced(rt: &HostRuntime, of: (u64, u64)) -> Result<(), Fail> {
+    let device = after_one_deposit(rt, rt.alloc())?;
+    replace_each(rt, rt.alloc(), device, &refused_after_one_deposit(), of)
 }
 
 #[test]
-fn each_byte_behind_a_checkpoint_is_replaced(rt: HostRuntime) -> Result<(), Fail> {
-    let device = behind_a_checkpoint(&rt, rt.alloc())?;
-    replace_each(&rt, rt.alloc(), device, &refused_behind_a_checkpoint())
+fn after_one_deposit_each_byte_before_the_slots_is_replaced(rt: HostRuntime) -> Result<(), Fail> {
+    after_one_deposit_replaced(&rt, (0, FIRST.body(0)))
+}
+
+#[test]
+fn after_one_deposit_each_byte_of_the_slots_and_behind_is_replaced(
+    rt: HostRuntime,
+) -> Result<(), Fail> {
+    after_one_deposit_replaced(&rt, (FIRST.body(0), 55))
+}
+
+// Replaces each byte from one sector up to another, of the image behind a checkpoint.
+fn behind_a_checkpoint_replaced(rt: &HostRuntime, of: (u64, u64)) -> Result<(), Fail> {
+    let device = behind_a_checkpoint(rt, rt.alloc())?;
+    replace_each(rt, rt.alloc(), device, &refused_behind_a_checkpoint(), of)
+}
+
+#[test]
+fn behind_a_checkpoint_each_byte_up_to_the_older_head_is_replaced(
+    rt: HostRuntime,
+) -> Result<(), Fail> {
+    behind_a_checkpoint_replaced(&rt, (0, FIRST.balances()))
+}
+
+#[test]
+fn behind_a_checkpoint_each_byte_behind_the_older_head_is_replaced(
+    rt: HostRuntime,
+) -> Result<(), Fail> {
+    behind_a_checkpoint_replaced(&rt, (FIRST.balances(), second(1).gate))
+}
+
+#[test]
+fn behind_a_checkpoint_each_byte_before_the_live_marks_is_replaced(
+    rt: HostRuntime,
+) -> Result<(), Fail> {
+    behind_a_checkpoint_replaced(&rt, (second(1).gate, second(1).marks()))
+}
+
+#[test]
+fn behind_a_checkpoint_each_byte_from_the_live_marks_on_is_replaced(
+    rt: HostRuntime,
+) -> Result<(), Fail> {
+    behind_a_checkpoint_replaced(&rt, (second(1).marks(), 43))
 }
 
 // The first sectors of an image, on a device of its own.

@@ -1,5 +1,5 @@
 //! Devices, and what power losses leave of them.
-use journal_recovery::{OpenRefusal, Recovered, recover};
+use journal_recovery::{Recovered, recover};
 use sector_device::{Device, MemoryDevice, Picks, SECTOR, Sector};
 use std::alloc::{AllocError, Global};
 use std::process::Abort;
@@ -80,16 +80,4 @@ pub fn recovered_with(
     left: &[(u64, Sector)],
 ) -> Result<(Option<u64>, u64), AllocError> {
     Ok(recovered(rt, alloc, crashed(alloc, device, left)?))
-}
-
-// The device, and why it isn't opened.
-pub fn refusal_of(
-    rt: &impl Abort,
-    alloc: Global,
-    device: MemoryDevice,
-) -> (MemoryDevice, OpenRefusal) {
-    match recover(alloc, device) {
-        Ok(_) => panic!(rt; "recovered"),
-        Err(refused) => refused,
-    }
 }

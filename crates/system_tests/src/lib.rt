@@ -8,21 +8,11 @@ mod devices;
 #[cfg(test)]
 mod example;
 #[cfg(test)]
-mod images;
-#[cfg(test)]
 mod limits;
-#[cfg(test)]
-mod lines;
-#[cfg(test)]
-mod lives;
-#[cfg(test)]
-mod power_losses;
 #[cfg(test)]
 mod reads;
 #[cfg(test)]
 mod refusals;
-#[cfg(test)]
-mod seals;
 #[cfg(test)]
 mod shown;
 #[cfg(test)]
