@@ -302,55 +302,59 @@ fn replace_each(
 }
 
 // Replaces each byte from one sector up to another, of the image after one deposit.
-fn after_one_deposit_replaced(rt: &HostRuntime, of: (u64, u64)) -> Result<(), Fail> {
-    let device = after_one_deposit(rt, rt.alloc())?;
-    replace_each(rt, rt.alloc(), device, &refused_after_one_deposit(), of)
+fn after_one_deposit_replaced(rt: &impl Abort, alloc: Global, of: (u64, u64)) -> Result<(), Fail> {
+    let device = after_one_deposit(rt, alloc)?;
+    replace_each(rt, alloc, device, &refused_after_one_deposit(), of)
 }
 
 #[test]
 fn after_one_deposit_each_byte_before_the_slots_is_replaced(rt: HostRuntime) -> Result<(), Fail> {
-    after_one_deposit_replaced(&rt, (0, FIRST.body(0)))
+    after_one_deposit_replaced(&rt, rt.alloc(), (0, FIRST.body(0)))
 }
 
 #[test]
 fn after_one_deposit_each_byte_of_the_slots_and_behind_is_replaced(
     rt: HostRuntime,
 ) -> Result<(), Fail> {
-    after_one_deposit_replaced(&rt, (FIRST.body(0), 55))
+    after_one_deposit_replaced(&rt, rt.alloc(), (FIRST.body(0), 55))
 }
 
 // Replaces each byte from one sector up to another, of the image behind a checkpoint.
-fn behind_a_checkpoint_replaced(rt: &HostRuntime, of: (u64, u64)) -> Result<(), Fail> {
-    let device = behind_a_checkpoint(rt, rt.alloc())?;
-    replace_each(rt, rt.alloc(), device, &refused_behind_a_checkpoint(), of)
+fn behind_a_checkpoint_replaced(
+    rt: &impl Abort,
+    alloc: Global,
+    of: (u64, u64),
+) -> Result<(), Fail> {
+    let device = behind_a_checkpoint(rt, alloc)?;
+    replace_each(rt, alloc, device, &refused_behind_a_checkpoint(), of)
 }
 
 #[test]
 fn behind_a_checkpoint_each_byte_up_to_the_older_head_is_replaced(
     rt: HostRuntime,
 ) -> Result<(), Fail> {
-    behind_a_checkpoint_replaced(&rt, (0, FIRST.balances()))
+    behind_a_checkpoint_replaced(&rt, rt.alloc(), (0, FIRST.balances()))
 }
 
 #[test]
 fn behind_a_checkpoint_each_byte_behind_the_older_head_is_replaced(
     rt: HostRuntime,
 ) -> Result<(), Fail> {
-    behind_a_checkpoint_replaced(&rt, (FIRST.balances(), second(1).gate))
+    behind_a_checkpoint_replaced(&rt, rt.alloc(), (FIRST.balances(), second(1).gate))
 }
 
 #[test]
 fn behind_a_checkpoint_each_byte_before_the_live_marks_is_replaced(
     rt: HostRuntime,
 ) -> Result<(), Fail> {
-    behind_a_checkpoint_replaced(&rt, (second(1).gate, second(1).marks()))
+    behind_a_checkpoint_replaced(&rt, rt.alloc(), (second(1).gate, second(1).marks()))
 }
 
 #[test]
 fn behind_a_checkpoint_each_byte_from_the_live_marks_on_is_replaced(
     rt: HostRuntime,
 ) -> Result<(), Fail> {
-    behind_a_checkpoint_replaced(&rt, (second(1).marks(), 43))
+    behind_a_checkpoint_replaced(&rt, rt.alloc(), (second(1).marks(), 43))
 }
 
 // The first sectors of an image, on a device of its own.
