@@ -1,5 +1,4 @@
 use crate::{Device, DeviceFault, FileDevice, FileRefusal, SECTOR, Sector};
-use std::alloc::Global;
 use std::fs;
 use std::fs::{File, Files};
 use std::os::unix::fs::FileExt;
@@ -8,7 +7,6 @@ use std::test::Fail;
 
 mod disk;
 mod disks;
-mod failing;
 mod looking;
 mod steps;
 mod transfers;
@@ -107,41 +105,6 @@ fn a_file_is_made_and_grown_and_never_cut(rt: HostRuntime) -> Result<(), Fail> {
     Ok(())
 }
 
-// Writes each of these sectors.
-fn write_all<D: Device>(
-    rt: &impl Abort,
-    device: &mut D,
-    places: &[u64],
-) -> Result<(), DeviceFault> {
-    for at in places {
-        write_at(rt, device, *at, &sector_of(*at))?;
-    }
-    Ok(())
-}
-
-// Three hundred sectors, of which these were written.
-fn three_hundred(rt: &impl Abort, alloc: Global, places: &[u64]) -> Result<Vec<Sector>, Fail> {
-    let mut sectors = vec![in alloc; [0; SECTOR]; 300]?;
-    for at in places {
-        assert!(rt; (*at as usize) < sectors.len());
-        sectors[*at as usize] = sector_of(*at);
-    }
-    Ok(sectors)
-}
-
-#[test]
-fn sector_k_stands_at_byte_512_k_of_the_file(rt: HostRuntime) -> Result<(), Fail> {
-    make_folder(&rt, "file_device_places")?;
-    let path = "file_device_places/sectors";
-    let places = [0, 1, 8, 255, 256, 299];
-    let mut device = FileDevice::open(&rt, rt.alloc(), path, 300)?;
-    write_all(&rt, &mut device, &places)?;
-    let expected = three_hundred(&rt, rt.alloc(), &places)?;
-    assert!(rt; fs::read(&rt, path)?.as_slice() == expected.as_flattened());
-    fs::remove_dir_all(&rt, "file_device_places")?;
-    Ok(())
-}
-
 fn is_refused<R: Files<File = File> + AllocGlobal + Abort>(rt: &R, path: &str, sectors: u64) {
     let refused = FileDevice::open(rt, rt.alloc(), path, sectors).err();
     assert!(rt; refused == Some(FileRefusal::File), "{path:?}");
@@ -168,114 +131,5 @@ fn what_can_not_be_made_is_refused(rt: HostRuntime) -> Result<(), Fail> {
     is_refused(&rt, "", 1);
     assert!(rt; !fs::exists(&rt, "file_device_unmade/huge")?);
     fs::remove_dir_all(&rt, "file_device_unmade")?;
-    Ok(())
-}
-
-// Writes one of 300 sectors, or doesn't, as the number says, and then reads it and the next one. `written` has the number
-// last written to each.
-fn write_and_read<D: Device>(
-    rt: &impl Abort,
-    device: &mut D,
-    written: &mut [u64],
-    number: u64,
-) -> Result<(), DeviceFault> {
-    assert!(rt; written.len() == 300);
-    let at = (number >> 33) as usize % 300;
-    if (number >> 60) < 5 {
-        write_at(rt, device, at as u64, &sector_of(number))?;
-        written[at] = number;
-    }
-    expect_sector(rt, device, at as u64, &sector_of(written[at]))?;
-    let next = (at + 1) % 300;
-    expect_sector(rt, device, next as u64, &sector_of(written[next]))
-}
-
-// Writes the same to each of 300 sectors.
-fn write_to_each<D: Device>(
-    rt: &impl Abort,
-    device: &mut D,
-    from: &Sector,
-) -> Result<(), DeviceFault> {
-    for at in 0..300 {
-        write_at(rt, device, at, from)?;
-    }
-    Ok(())
-}
-
-// Writes 300 sectors, and then reads and writes them in an order that crosses the buffer's ends.
-fn agrees_with_a_list<D: Device>(
-    rt: &impl Abort,
-    alloc: Global,
-    device: &mut D,
-) -> Result<(), Fail> {
-    write_to_each(rt, device, &sector_of(0))?;
-    let mut written = vec![in alloc; 0; 300]?;
-    let mut number = 1u64;
-    for _ in 0..2000 {
-        number = number
-            .wrapping_mul(6_364_136_223_846_793_005)
-            .wrapping_add(1);
-        write_and_read(rt, device, written.as_mut_slice(), number)?;
-    }
-    Ok(())
-}
-
-#[test]
-fn reads_see_what_was_written(rt: HostRuntime) -> Result<(), Fail> {
-    make_folder(&rt, "file_device_coherent")?;
-    let path = "file_device_coherent/sectors";
-    let mut file = FileDevice::open(&rt, rt.alloc(), path, 300)?;
-    agrees_with_a_list(&rt, rt.alloc(), &mut file)?;
-    fs::remove_dir_all(&rt, "file_device_coherent")?;
-    Ok(())
-}
-
-// Writes 600 sectors of this byte.
-fn fill_file(rt: &HostRuntime, path: &str, byte: u8) -> Result<(), Fail> {
-    let bytes = vec![in rt.alloc(); byte; 600 * SECTOR]?;
-    fs::write(rt, path, bytes.as_slice())?;
-    Ok(())
-}
-
-// From the eighth sector before sector 100 on, 256 of them were read when it was: they hold zeros still.
-fn shows_256_as_they_were<D: Device>(rt: &impl Abort, device: &mut D) -> Result<(), DeviceFault> {
-    for (at, seen) in [(99, 0), (92, 0), (347, 0), (348, 9), (340, 9), (595, 9)] {
-        expect_sector(rt, device, at, &[seen; SECTOR])?;
-    }
-    Ok(())
-}
-
-// Of the sectors that were read last, 340 is the first one: to write it has them read anew, to write 339 doesn't.
-fn reads_anew_after_a_write<D: Device>(rt: &impl Abort, device: &mut D) -> Result<(), DeviceFault> {
-    write_at(rt, device, 339, &[7; SECTOR])?;
-    expect_sector(rt, device, 341, &[9; SECTOR])?;
-    write_at(rt, device, 340, &[7; SECTOR])?;
-    expect_sector(rt, device, 341, &[8; SECTOR])
-}
-
-// Another writer shows which reads ask the system.
-#[test]
-fn neighbours_are_read_in_one_call(rt: HostRuntime) -> Result<(), Fail> {
-    make_folder(&rt, "file_device_ahead")?;
-    let path = "file_device_ahead/sectors";
-    let mut device = FileDevice::open(&rt, rt.alloc(), path, 600)?;
-    expect_sector(&rt, &mut device, 100, &[0; SECTOR])?;
-    fill_file(&rt, path, 9)?;
-    shows_256_as_they_were(&rt, &mut device)?;
-    fill_file(&rt, path, 8)?;
-    reads_anew_after_a_write(&rt, &mut device)?;
-    fs::remove_dir_all(&rt, "file_device_ahead")?;
-    Ok(())
-}
-
-#[test]
-fn refusals_have_texts(rt: HostRuntime) -> Result<(), Fail> {
-    let table = [
-        (FileRefusal::Memory, "out of memory"),
-        (FileRefusal::File, "the file can't be used as a device"),
-    ];
-    for (refusal, text) in table {
-        assert!(rt; refusal.to_string(rt.alloc())?.as_str() == text);
-    }
     Ok(())
 }

@@ -73,24 +73,46 @@ fn looked<R: Files<File = File>>(
     Ok(ReadOnlyFile::open(files, alloc, path, locking)?.sectors())
 }
 
+const PATH: &str = "file_device_looked/sectors";
+
+// Whoever has the file keeps others out, but for a look that doesn't lock it.
+fn is_had<R: Files<File = File> + AllocGlobal + Abort>(rt: &R) -> Result<(), Fail> {
+    assert!(rt; looked(rt, rt.alloc(), PATH, Locking::Shared) == Err(LookRefusal::InUse));
+    assert!(rt; looked(rt, rt.alloc(), PATH, Locking::Unlocked) == Ok(3));
+    let second = FileDevice::open(rt, rt.alloc(), PATH, 5).err();
+    assert!(rt; second == Some(FileRefusal::File));
+    assert!(rt; fs::metadata(rt, PATH)?.len() == 3 * 512);
+    Ok(())
+}
+
+// Whoever looks at the file keeps those out that want to have it, and nobody else.
+fn is_looked_at<R: Files<File = File> + AllocGlobal + Abort>(rt: &R) {
+    assert!(rt; looked(rt, rt.alloc(), PATH, Locking::Shared) == Ok(3));
+    let other = FileDevice::open(rt, rt.alloc(), PATH, 3).err();
+    assert!(rt; other == Some(FileRefusal::File));
+}
+
+// Writes the last sector of a new file, and looks who else gets it.
+fn have<R: Files<File = File> + AllocGlobal + Abort>(rt: &R) -> Result<(), Fail> {
+    let mut device = FileDevice::open(rt, rt.alloc(), PATH, 3)?;
+    let is_written = write_at(rt, &mut device, 2, &sector_of(2)).is_ok();
+    assert!(rt; is_written && device.sync().is_ok());
+    is_had(rt)
+}
+
+// Reads it, and looks who else gets the file.
+fn look<R: Files<File = File> + AllocGlobal + Abort>(rt: &R) -> Result<(), Fail> {
+    let mut first = ReadOnlyFile::open(rt, rt.alloc(), PATH, Locking::Shared)?;
+    assert!(rt; read_at(rt, &mut first, 2) == Ok(sector_of(2)));
+    is_looked_at(rt);
+    Ok(())
+}
+
 #[test]
 fn a_file_is_looked_at_by_many_and_had_by_one(rt: HostRuntime) -> Result<(), Fail> {
-    let alloc = rt.alloc();
     make_folder(&rt, "file_device_looked")?;
-    let path = "file_device_looked/sectors";
-    let mut device = FileDevice::open(&rt, alloc, path, 3)?;
-    write_at(&rt, &mut device, 2, &sector_of(2))?;
-    device.sync()?;
-    assert!(rt; looked(&rt, alloc, path, Locking::Shared) == Err(LookRefusal::InUse));
-    assert!(rt; looked(&rt, alloc, path, Locking::Unlocked) == Ok(3));
-    let second = FileDevice::open(&rt, alloc, path, 5).err();
-    assert!(rt; second == Some(FileRefusal::File));
-    assert!(rt; fs::metadata(&rt, path)?.len() == 3 * 512);
-    drop(device);
-    let mut first = ReadOnlyFile::open(&rt, alloc, path, Locking::Shared)?;
-    assert!(rt; looked(&rt, alloc, path, Locking::Shared) == Ok(3));
-    assert!(rt; FileDevice::open(&rt, alloc, path, 3).err() == Some(FileRefusal::File));
-    assert!(rt; read_at(&rt, &mut first, 2)? == sector_of(2));
+    have(&rt)?;
+    look(&rt)?;
     fs::remove_dir_all(&rt, "file_device_looked")?;
     Ok(())
 }
