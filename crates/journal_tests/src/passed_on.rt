@@ -165,17 +165,6 @@ fn each_call_that_is_handed_on_reaches_the_device_once_and_in_order(
     Ok(())
 }
 
-#[test]
-fn a_held_sync_without_leave_fails_alone(rt: HostRuntime) -> Result<(), Fail> {
-    let alloc = rt.alloc();
-    let flags = Arc::new(alloc, HeldFlags::new())?;
-    let mut device = Held::new(behind(alloc, NEVER)?, 0, Arc::try_clone(&flags)?);
-    assert!(rt; device.sync().is_err() && flags.begun.load(Ordering::SeqCst));
-    assert!(rt; device.sync().is_ok());
-    assert!(rt; device.into_inner().calls() == [Call::Sync].as_slice());
-    Ok(())
-}
-
 // Waits until the flag is raised, and lets other threads run meanwhile. The answer is whether it was by then.
 fn is_raised(flag: &AtomicBool) -> bool {
     for _ in 0..LOOKS {
