@@ -49,20 +49,9 @@ fn a_device_that_is_no_older_ledger_is_refused(rt: HostRuntime) -> Result<(), Fa
 }
 
 #[test]
-fn refusals_have_texts(rt: HostRuntime) -> Result<(), Fail> {
-    use MigrateRefusal::*;
-    let table = [
-        (TooManySlots, "a bank has at most 1000000 slots"),
-        (TooSmall, "the new device has too few sectors for the slots"),
-        (
-            Source(OpenRefusal::Version(3)),
-            "the old device wasn't read: the device has version 3",
-        ),
-        (Target, "the new device failed"),
-    ];
-    for (refusal, text) in table {
-        let told = format!(in rt.alloc(); "{refusal}")?;
-        assert!(rt; told.as_str() == text);
-    }
+fn a_refusal_tells_what_it_holds(rt: HostRuntime) -> Result<(), Fail> {
+    let refusal = MigrateRefusal::Source(OpenRefusal::Version(3));
+    let told = format!(in rt.alloc(); "{refusal}")?;
+    assert!(rt; told.as_str() == "the old device wasn't read: the device has version 3");
     Ok(())
 }
