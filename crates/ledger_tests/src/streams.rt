@@ -105,18 +105,3 @@ fn lines_are_gathered_to_65536_bytes(rt: HostRuntime) -> Result<(), Fail> {
     assert!(rt; last.as_slice().ends_with(b"\naccount 1 500\n"));
     Ok(())
 }
-
-#[test]
-fn faults_have_their_texts(rt: HostRuntime) -> Result<(), Fail> {
-    let table = [
-        (StreamFault::Read, "read failed"),
-        (StreamFault::Write, "write failed"),
-        (StreamFault::Memory, "out of memory"),
-        (StreamFault::TooLong, "script too long"),
-    ];
-    for (fault, wanted) in table {
-        let text = fault.to_string(rt.alloc())?;
-        assert!(rt; text.as_str() == wanted);
-    }
-    Ok(())
-}
