@@ -27,6 +27,18 @@ enum Fails {
     Syncs,
 }
 
+impl Fails {
+    // Whether this call fails, which the buffer doesn't answer by itself.
+    fn fails(self, call: Asked) -> bool {
+        match call {
+            Asked::Run(_, _) => false,
+            Asked::Read(_) => self == Fails::RunsAndReads,
+            Asked::Write(_) => self == Fails::Writes,
+            Asked::Sync => self == Fails::Syncs,
+        }
+    }
+}
+
 // A device of 300 sectors that hold nothing. It notes what reaches it.
 #[derive(Drop)]
 struct Noted {
@@ -103,11 +115,11 @@ fn ask(rt: &impl Abort, device: &mut ReadAhead<Noted>, call: Asked) -> bool {
     }
 }
 
-// Makes these calls of a buffer that is empty, and looks at what reached the device, and which calls failed.
+// Makes these calls of a buffer that is empty, and looks at which fail, and at what reached the device.
 fn expect<R: Abort + AllocGlobal>(
     rt: &R,
     fails: Fails,
-    calls: &[(Asked, bool)],
+    calls: &[Asked],
     expected: &[Asked],
 ) -> Result<(), Fail> {
     let noted = Noted {
@@ -116,87 +128,72 @@ fn expect<R: Abort + AllocGlobal>(
         failures: 0,
     };
     let mut device = ReadAhead::new(noted, ReadBuffer::new(rt.alloc())?);
-    for (call, failed) in calls {
-        assert!(rt; ask(rt, &mut device, *call) == *failed, "{call:?}");
+    for call in calls {
+        assert!(rt;
+            ask(rt, &mut device, *call) == fails.fails(*call),
+            "{call:?}"
+        );
     }
     assert!(rt; device.into_inner().asked.as_slice() == expected);
     Ok(())
 }
 
-// From the eighth sector before it on, as many as there are, of 256 at most.
-#[test]
-fn a_read_that_isnt_held_is_one_run(rt: HostRuntime) -> Result<(), Fail> {
-    let first = [
-        (Asked::Read(100), false),
-        (Asked::Read(92), false),
-        (Asked::Read(299), false),
-    ];
-    expect(&rt, Fails::Nothing, &first, &[Asked::Run(92, 208)])?;
-    let before = [
-        (Asked::Read(7), false),
-        (Asked::Read(0), false),
-        (Asked::Read(255), false),
-    ];
-    expect(&rt, Fails::Nothing, &before, &[Asked::Run(0, 256)])?;
-    let behind = [
-        (Asked::Read(20), false),
-        (Asked::Read(11), false),
-        (Asked::Read(259), false),
-    ];
-    let runs = [Asked::Run(12, 256), Asked::Run(3, 256), Asked::Run(251, 49)];
-    expect(&rt, Fails::Nothing, &behind, &runs)
-}
+// The run for a read of sector 100.
+const RUN: Asked = Asked::Run(92, 208);
 
+// A run begins at the eighth sector before the one that is read, and has as many as there are, of 256 at most. A write to a
+// sector that is held empties the buffer, and so does a call that fails.
 #[test]
-fn a_write_and_a_sync_are_handed_on_once(rt: HostRuntime) -> Result<(), Fail> {
-    let calls = [
-        (Asked::Read(100), false),
-        (Asked::Write(91), false),
-        (Asked::Sync, false),
-        (Asked::Read(92), false),
-        (Asked::Write(92), false),
-        (Asked::Write(92), false),
-        (Asked::Read(100), false),
+fn a_buffer_asks_once_for_what_it_does_not_hold(rt: HostRuntime) -> Result<(), Fail> {
+    use Asked::{Read, Run, Write};
+    let table: [(Fails, &[Asked], &[Asked]); 8] = [
+        (Fails::Nothing, &[Read(100), Read(92), Read(299)], &[RUN]),
+        (
+            Fails::Nothing,
+            &[Read(7), Read(0), Read(255)],
+            &[Run(0, 256)],
+        ),
+        (
+            Fails::Nothing,
+            &[Read(20), Read(11), Read(259)],
+            &[Run(12, 256), Run(3, 256), Run(251, 49)],
+        ),
+        (
+            Fails::Nothing,
+            &[
+                Read(100),
+                Write(91),
+                Asked::Sync,
+                Read(92),
+                Write(92),
+                Write(92),
+                Read(100),
+            ],
+            &[RUN, Write(91), Asked::Sync, Write(92), Write(92), RUN],
+        ),
+        (
+            Fails::Runs,
+            &[Read(100), Read(100)],
+            &[RUN, Read(100), RUN, Read(100)],
+        ),
+        (
+            Fails::RunsAndReads,
+            &[Read(100), Read(100)],
+            &[RUN, Read(100), RUN, Read(100)],
+        ),
+        (
+            Fails::Writes,
+            &[Read(100), Write(5), Read(100)],
+            &[RUN, Write(5), RUN],
+        ),
+        (
+            Fails::Syncs,
+            &[Read(100), Asked::Sync, Read(100)],
+            &[RUN, Asked::Sync, RUN],
+        ),
     ];
-    let expected = [
-        Asked::Run(92, 208),
-        Asked::Write(91),
-        Asked::Sync,
-        Asked::Write(92),
-        Asked::Write(92),
-        Asked::Run(92, 208),
-    ];
-    expect(&rt, Fails::Nothing, &calls, &expected)
-}
-
-#[test]
-fn behind_a_run_that_fails_one_sector_is_read_once(rt: HostRuntime) -> Result<(), Fail> {
-    let expected = [
-        Asked::Run(92, 208),
-        Asked::Read(100),
-        Asked::Run(92, 208),
-        Asked::Read(100),
-    ];
-    for (fails, failed) in [(Fails::Runs, false), (Fails::RunsAndReads, true)] {
-        let calls = [(Asked::Read(100), failed), (Asked::Read(100), failed)];
-        expect(&rt, fails, &calls, &expected)?;
-    }
-    Ok(())
-}
-
-#[test]
-fn a_write_or_a_sync_that_fails_is_handed_on_once(rt: HostRuntime) -> Result<(), Fail> {
-    let run = Asked::Run(92, 208);
-    for (fails, call) in [
-        (Fails::Writes, Asked::Write(5)),
-        (Fails::Syncs, Asked::Sync),
-    ] {
-        let calls = [
-            (Asked::Read(100), false),
-            (call, true),
-            (Asked::Read(100), false),
-        ];
-        expect(&rt, fails, &calls, &[run, call, run])?;
+    for (fails, calls, expected) in table {
+        expect(&rt, fails, calls, expected)?;
     }
     Ok(())
 }

@@ -1,11 +1,12 @@
 //! The picture of a device, counted cell by cell.
-use crate::images::{Sound, THIRD, changed, row};
+use crate::images::{Change, Sound, THIRD, changed, row};
 use fault_injector::{OneFault, Op};
 use ledger_map::{DrawFault, Place, draw};
 use sector_device::MemoryDevice;
 use std::alloc::Global;
 use std::io;
 use std::io::{ErrorKind, Write};
+use std::process::Abort;
 use std::test::Fail;
 
 /// The classes of cells, in the order in which tables count them.
@@ -59,8 +60,18 @@ fn cells(alloc: Global, bytes: &[u8]) -> Result<[usize; 10], Fail> {
     Ok(counts)
 }
 
-fn has(bytes: &[u8], end: &str) -> bool {
-    count(bytes, "<", end) == 1
+// The drawing of a device has so many cells of each class.
+fn shows(
+    rt: &impl Abort,
+    alloc: Global,
+    device: MemoryDevice,
+    damaged: Option<u64>,
+    expected: [usize; 10],
+) -> Result<(), Fail> {
+    let drawing = drawn(alloc, device, damaged)?;
+    let found = cells(alloc, drawing.as_slice())?;
+    assert!(rt; found == expected, "{found:?}");
+    Ok(())
 }
 
 // Layout 3: the superblock; of each bank a gate, a head and 17 sectors of its snapshot; two open slots and six closed ones,
@@ -77,30 +88,37 @@ fn each_sector_is_a_cell_of_its_kind(rt: HostRuntime) -> Result<(), Fail> {
     ];
     for (sound, damaged, expected) in table {
         let device = changed(&rt, rt.alloc(), sound, &[])?;
-        let found = cells(rt.alloc(), drawn(rt.alloc(), device, damaged)?.as_slice())?;
-        assert!(rt; found == expected, "{found:?}");
+        shows(&rt, rt.alloc(), device, damaged, expected)?;
     }
     Ok(())
 }
 
 // The gate of the second bank closed: the first one is live. Both closed: none is. A slot's gate behind a closed one is open.
+// What is no ledger is drawn as unknown, also if only the number of slots is wrong.
 #[test]
-fn gates_are_drawn_as_they_are(rt: HostRuntime) -> Result<(), Fail> {
+fn sectors_are_drawn_as_they_are(rt: HostRuntime) -> Result<(), Fail> {
     let alloc = rt.alloc();
-    let one = changed(&rt, alloc, THIRD, &[(28, 0, 0), (54, 0, 0xa5)])?;
-    let one = drawn(alloc, one, None)?;
-    let found = cells(alloc, one.as_slice())?;
-    assert!(rt; found == [0, 1, 2, 34, 3, 4, 5, 6, 0, 0], "{found:?}");
-    let none = changed(&rt, alloc, THIRD, &[(1, 0, 0), (28, 0, 0)])?;
-    let none = drawn(alloc, none, None)?;
-    let found = cells(alloc, none.as_slice())?;
-    assert!(rt; found == [0, 1, 2, 34, 2, 2, 6, 8, 0, 0], "{found:?}");
-    assert!(rt;
-        has(one.as_slice(), ">bank 0, live</text>")
-            && has(one.as_slice(), ">bank 1, not live</text>")
-    );
-    assert!(rt; has(none.as_slice(), ">bank 0, not live</text>"));
+    let table: [([Change; 2], [usize; 10]); 2] = [
+        ([(28, 0, 0), (54, 0, 0xa5)], [0, 1, 2, 34, 3, 4, 5, 6, 0, 0]),
+        ([(1, 0, 0), (28, 0, 0)], [0, 1, 2, 34, 2, 2, 6, 8, 0, 0]),
+    ];
+    for (changes, expected) in table {
+        let device = changed(&rt, alloc, THIRD, &changes)?;
+        shows(&rt, alloc, device, None, expected)?;
+    }
+    for (byte, value) in [(0, 0), (5, 9), (15, 5), (16, 1)] {
+        let device = changed(&rt, alloc, THIRD, &[(0, byte, value)])?;
+        shows(&rt, alloc, device, Some(0), [1, 0, 0, 0, 0, 0, 0, 0, 0, 54])?;
+    }
     Ok(())
+}
+
+// The drawing of a device has each of these lines once, and so many bars of the live bank.
+fn tells(rt: &impl Abort, drawing: &[u8], ends: &[&str], bars: usize) {
+    for end in ends {
+        assert!(rt; count(drawing, "<", end) == 1, "{end}");
+    }
+    assert!(rt; count(drawing, "<rect class=\"live\"", "/>") == bars);
 }
 
 // The bar of the live bank stands in the legend, beside its front and beside its slots. 51 * 512 + 3 is 26,115.
@@ -108,71 +126,43 @@ fn gates_are_drawn_as_they_are(rt: HostRuntime) -> Result<(), Fail> {
 fn captions_tell_what_is_drawn(rt: HostRuntime) -> Result<(), Fail> {
     let alloc = rt.alloc();
     let whole = drawn(alloc, changed(&rt, alloc, THIRD, &[])?, Some(51))?;
-    let whole = whole.as_slice();
-    assert!(rt;
-        has(whole, ">bank 1, live</text>") && has(whole, ">slots of bank 0, not live</text>")
-    );
-    assert!(rt; count(whole, "<rect class=\"live\"", "/>") == 3);
-    assert!(rt;
-        has(
-            whole,
-            ">layout 3, 4 slots in each bank, 55 sectors of 512 bytes</text>"
-        )
-    );
-    assert!(rt;
-        has(
-            whole,
-            ">damage: sector 51, byte 3, bank 1, slot 2; byte 26115 of the file</text>"
-        )
-    );
-    assert!(rt; has(whole, "<title>sector 54</title></rect>") && has(whole, "</svg>"));
+    let ends = [
+        ">bank 0, not live</text>",
+        ">bank 1, live</text>",
+        ">slots of bank 0, not live</text>",
+        ">layout 3, 4 slots in each bank, 55 sectors of 512 bytes</text>",
+        ">damage: sector 51, byte 3, bank 1, slot 2; byte 26115 of the file</text>",
+        "<title>sector 54</title></rect>",
+        "</svg>",
+    ];
+    tells(&rt, whole.as_slice(), &ends, 3);
+    let none = changed(&rt, alloc, THIRD, &[(1, 0, 0), (28, 0, 0)])?;
+    let none = drawn(alloc, none, None)?;
+    let ends = [">bank 0, not live</text>", ">bank 1, not live</text>"];
+    tells(&rt, none.as_slice(), &ends, 1);
     let row = drawn(alloc, changed(&rt, alloc, Sound::First, &[])?, None)?;
-    assert!(rt;
-        has(
-            row.as_slice(),
-            ">layout 1, 4 slots, 9 sectors of 512 bytes</text>"
-        )
-    );
-    assert!(rt; count(row.as_slice(), "<rect class=\"live\"", "/>") == 1);
+    let ends = [">layout 1, 4 slots, 9 sectors of 512 bytes</text>"];
+    tells(&rt, row.as_slice(), &ends, 1);
     Ok(())
 }
 
-// What is no ledger is drawn as unknown, also if only the number of slots is wrong.
-#[test]
-fn sectors_of_no_layout_are_unknown(rt: HostRuntime) -> Result<(), Fail> {
-    let alloc = rt.alloc();
-    for (byte, value) in [(0, 0), (5, 9), (15, 5), (16, 1)] {
-        let device = changed(&rt, alloc, THIRD, &[(0, byte, value)])?;
-        let found = cells(alloc, drawn(alloc, device, Some(0))?.as_slice())?;
-        assert!(rt; found == [1, 0, 0, 0, 0, 0, 0, 0, 0, 54], "{found:?}");
-    }
-    let found = cells(
-        alloc,
-        drawn(alloc, MemoryDevice::new(alloc, 0)?, None)?.as_slice(),
-    )?;
-    assert!(rt; found == [0; 10]);
-    Ok(())
-}
-
-// 4,096 sectors are as many cells. 4,097 are two in a cell, the last one alone in its own; 8,193 are three in a cell.
+// 4,096 sectors of no layout are as many cells. 4,097 are two in a cell, the last one alone in its own; 8,193 are three in a
+// cell.
 #[test]
 fn neighbours_of_no_layout_are_joined(rt: HostRuntime) -> Result<(), Fail> {
     let alloc = rt.alloc();
-    for (sectors, expected) in [(4_096, 4_096), (4_097, 2_049), (8_193, 2_731)] {
+    for (sectors, cells) in [(0, 0), (4_096, 4_096), (4_097, 2_049), (8_193, 2_731)] {
         let device = MemoryDevice::new(alloc, sectors)?;
-        let found = cells(alloc, drawn(alloc, device, None)?.as_slice())?;
-        assert!(rt; found == [0, 0, 0, 0, 0, 0, 0, 0, 0, expected], "{found:?}");
+        shows(&rt, alloc, device, None, [0, 0, 0, 0, 0, 0, 0, 0, 0, cells])?;
     }
     let pairs = drawn(alloc, MemoryDevice::new(alloc, 4_097)?, Some(4_095))?;
-    let pairs = pairs.as_slice();
-    assert!(rt; has(pairs, "<title>sector 4096</title></rect>"));
-    assert!(rt;
-        count(
-            pairs,
-            "<rect class=\"damaged\"",
-            "<title>sectors 4094 to 4095</title></rect>"
-        ) == 1
+    let (damaged, title) = (
+        "<rect class=\"damaged\"",
+        "<title>sectors 4094 to 4095</title></rect>",
     );
+    assert!(rt; count(pairs.as_slice(), damaged, title) == 1);
+    let ends = ["<title>sector 4096</title></rect>"];
+    tells(&rt, pairs.as_slice(), &ends, 1);
     Ok(())
 }
 
@@ -180,16 +170,14 @@ fn neighbours_of_no_layout_are_joined(rt: HostRuntime) -> Result<(), Fail> {
 // of one that doesn't. Behind them 100 sectors aren't used, two in a cell of at most 64.
 #[test]
 fn neighbours_of_slots_are_joined(rt: HostRuntime) -> Result<(), Fail> {
-    let alloc = rt.alloc();
     for (damaged, expected) in [
         (None, [0, 1, 0, 0, 2, 0, 2_058, 0, 50, 0]),
         (Some(1_000), [1, 1, 0, 0, 2, 0, 2_057, 0, 50, 0]),
         (Some(4), [1, 1, 0, 0, 1, 0, 2_058, 0, 50, 0]),
         (Some(4_220), [1, 1, 0, 0, 2, 0, 2_058, 0, 49, 0]),
     ] {
-        let device = row(alloc, 2_060, 4_221)?;
-        let found = cells(alloc, drawn(alloc, device, damaged)?.as_slice())?;
-        assert!(rt; found == expected, "{found:?}");
+        let device = row(rt.alloc(), 2_060, 4_221)?;
+        shows(&rt, rt.alloc(), device, damaged, expected)?;
     }
     Ok(())
 }

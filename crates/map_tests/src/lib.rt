@@ -13,8 +13,6 @@ mod images;
 #[cfg(test)]
 mod older;
 #[cfg(test)]
-mod places;
-#[cfg(test)]
 mod slots;
 #[cfg(test)]
 mod superblocks;

@@ -1,5 +1,5 @@
-//! Tests of devices of layouts 1 and 2: what they are read as, and what they are copied to; and of what is listed of each
-//! layout. The older devices are written by the tables of the formats, and in no word of the crates that are tested.
+//! Tests of devices of layouts 1 and 2: what they are copied to, and what is listed of a ledger. The older devices are
+//! written by the tables of the formats, and in no word of the crates that are tested.
 #![tactic(auto)]
 
 #[cfg(test)]
@@ -10,12 +10,6 @@ mod liar;
 mod listings;
 #[cfg(test)]
 mod old_devices;
-#[cfg(test)]
-mod old_journals;
-#[cfg(test)]
-mod old_ledgers;
-#[cfg(test)]
-mod postings;
 #[cfg(test)]
 mod refusals;
 #[cfg(test)]

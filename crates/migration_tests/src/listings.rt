@@ -1,26 +1,16 @@
-//! What is listed of a ledger of each layout.
+//! What is listed of a ledger, also beside a device that fails or lies.
 use crate::liar::Liar;
-use crate::old_devices::{
-    Begins, balances, deposited, device_of, of_layout_1, of_layout_2, superblock, transferred,
-    withdrawn,
-};
+use crate::old_devices::{deposited, of_layout_1};
 use fault_injector::{OneFault, Op};
-use gate_journal::{Journal, Record};
-use ledger_reading::{
-    Batch, Entry, Ledger, Listed, Listing, Numbers, OpenRefusal, ReadRefusal, Sound, look,
-};
+use gate_journal::{ACCOUNTS, Journal, Record, Snapshot, format_with};
+use journal_recovery::read_old;
+use ledger_reading::{Cause, Entry, Listed, Listing, OpenRefusal, ReadRefusal, Sound, look};
 use sector_device::{Device, MemoryDevice};
 use std::alloc::Global;
 use std::process::Abort;
 use std::test::Fail;
-use test_scenes::{deposit, formatted, seal, transfer, withdrawal};
+use test_scenes::{FIRST, deposit, seal, sectors_needed, transfer, withdrawal};
 use turn_ledger::BATCH_LIMIT;
-
-// The sector of the body of slot 0 in the first bank, behind the superblock and the nineteen sectors before a bank's slots.
-const FIRST_BODY: u64 = 20;
-
-// The first sector of balances of the first bank.
-const FIRST_BALANCES: u64 = 3;
 
 // The record of these entries.
 fn record_of(rt: &impl Abort, station: u16, entries: &[Entry]) -> Record {
@@ -33,14 +23,23 @@ fn record_of(rt: &impl Abort, station: u16, entries: &[Entry]) -> Record {
     record
 }
 
-// A device of layout 3 with two slots, which hold a record each.
-fn of_layout_3(rt: &impl Abort, alloc: Global) -> Result<MemoryDevice, Fail> {
-    let Ok(mut journal) = Journal::open(formatted(alloc, 2)?) else {
+// A device of layout 3 with two slots in each bank, whose snapshot has so much in account 1, and these records.
+fn with_records(
+    rt: &impl Abort,
+    alloc: Global,
+    held: u64,
+    records: &[(u16, &[Entry])],
+) -> Result<MemoryDevice, Fail> {
+    let mut device = MemoryDevice::new(alloc, sectors_needed(2))?;
+    let (mut balances, sealed) = ([0; ACCOUNTS], [false; ACCOUNTS]);
+    balances[0] = held;
+    format_with(&mut device, 2, 0, &Snapshot { balances, sealed })?;
+    let Ok(mut journal) = Journal::open(device) else {
         panic!(rt; "a new journal is opened")
     };
-    let first = [deposit(1, 500), transfer(1, 2, 200)];
-    journal.append(&record_of(rt, 5, &first))?;
-    journal.append(&record_of(rt, 0, &[withdrawal(2, 50), seal(2)]))?;
+    for (station, entries) in records {
+        journal.append(&record_of(rt, *station, entries))?;
+    }
     Ok(journal.into_device())
 }
 
@@ -51,211 +50,43 @@ fn listing_of<D: Device + Drop>(sound: Sound<D>) -> Result<Listing<D>, ReadRefus
     }
 }
 
-// What the first three accounts hold, and which of these are sealed.
-fn held(ledger: &Ledger) -> [(Option<u64>, Option<bool>); 3] {
-    [1, 2, 3].map(|account| (ledger.balance(account), ledger.is_sealed(account)))
-}
-
-const OPEN: Option<bool> = Some(false);
-
-fn listed(sequence: u64, station: u16, entries: &[Entry]) -> Option<Listed> {
-    if entries.len() > BATCH_LIMIT {
-        return None;
-    }
-    Some(Listed {
-        sequence,
-        station,
-        entries: Batch::of(entries),
-    })
-}
-
-// The next record of a listing is this one, and after it the first three accounts hold these.
+// The next record is this one, and after it the first two accounts hold so much.
 fn expect_next<D: Device>(
     rt: &impl Abort,
     listing: &mut Listing<D>,
-    expected: Option<Listed>,
-    amounts: [u64; 3],
+    (by, wanted): (u16, &[Entry]),
+    amounts: [u64; 2],
 ) -> Result<(), Fail> {
-    assert!(rt; listing.next()? == expected);
+    let Some(
+        Listed {
+            station,
+            entries,
+            ..
+        },
+    ) = listing.next()?
+    else {
+        panic!(rt; "a record")
+    };
+    assert!(rt; (station, entries.as_slice()) == (by, wanted));
     let ledger = listing.ledger();
-    let now = [1, 2, 3].map(|account| ledger.balance(account));
-    assert!(rt; now == amounts.map(Some));
+    assert!(rt; [1, 2].map(|account| ledger.balance(account)) == amounts.map(Some));
     Ok(())
 }
 
 #[test]
 fn records_are_listed_with_the_balances_after_them(rt: HostRuntime) -> Result<(), Fail> {
     let alloc = rt.alloc();
-    let Ok(sound) = look(alloc, of_layout_3(&rt, alloc)?) else {
-        panic!(rt; "a sound ledger")
-    };
-    let numbers = Numbers {
-        version: 3,
-        slots: 2,
-        live_bank: 0,
-        epoch: Some(0),
-        base: 0,
-        next: 2,
-    };
-    assert!(rt; sound.journal.numbers() == numbers);
-    let after = [(Some(300), OPEN), (Some(150), Some(true)), (Some(0), OPEN)];
-    assert!(rt; (sound.ledger.total(), held(&sound.ledger)) == (450, after));
-    let mut listing = listing_of(sound)?;
-    assert!(rt; listing.ledger().total() == 0);
     let first = [deposit(1, 500), transfer(1, 2, 200)];
-    expect_next(&rt, &mut listing, listed(0, 5, &first), [300, 200, 0])?;
     let second = [withdrawal(2, 50), seal(2)];
-    expect_next(&rt, &mut listing, listed(1, 0, &second), [300, 150, 0])?;
-    assert!(rt; held(listing.ledger()) == after);
-    expect_next(&rt, &mut listing, None, [300, 150, 0])?;
-    expect_next(&rt, &mut listing, None, [300, 150, 0])
-}
-
-#[test]
-fn a_listing_begins_with_the_snapshot(rt: HostRuntime) -> Result<(), Fail> {
-    let alloc = rt.alloc();
-    let Ok(found) = journal_recovery::recover(alloc, of_layout_3(&rt, alloc)?) else {
+    let device = with_records(&rt, alloc, 9, &[(5, &first), (0, &second)])?;
+    let Ok(sound) = look(alloc, device) else {
         panic!(rt; "a sound ledger")
     };
-    let mut journal = found.journal;
-    journal.checkpoint(&journal_recovery::snapshot_of(&found.ledger))?;
-    journal.append(&record_of(&rt, 63, &[deposit(3, 7)]))?;
-    let Ok(sound) = look(alloc, journal.into_device()) else {
-        panic!(rt; "a sound ledger")
-    };
-    let numbers = Numbers {
-        version: 3,
-        slots: 2,
-        live_bank: 1,
-        epoch: Some(1),
-        base: 2,
-        next: 3,
-    };
-    assert!(rt; sound.journal.numbers() == numbers);
     let mut listing = listing_of(sound)?;
-    let before = [(Some(300), OPEN), (Some(150), Some(true)), (Some(0), OPEN)];
-    assert!(rt; held(listing.ledger()) == before);
-    expect_next(
-        &rt,
-        &mut listing,
-        listed(2, 63, &[deposit(3, 7)]),
-        [300, 150, 7],
-    )?;
-    expect_next(&rt, &mut listing, None, [300, 150, 7])
-}
-
-// An entry as older places have it: without a reference.
-fn plain(entry: Entry) -> Entry {
-    match entry {
-        Entry::Deposit { to, amount, .. } => Entry::Deposit {
-            to,
-            amount,
-            reference: 0,
-        },
-        Entry::Withdraw { from, amount, .. } => Entry::Withdraw {
-            from,
-            amount,
-            reference: 0,
-        },
-        entry => entry,
-    }
-}
-
-#[test]
-fn older_ledgers_are_listed(rt: HostRuntime) -> Result<(), Fail> {
-    let alloc = rt.alloc();
-    let Ok(first) = look(alloc, of_layout_1(&rt, alloc, &[deposited(1, 9)])?) else {
-        panic!(rt; "layout 1 is read")
-    };
-    let mut numbers = Numbers {
-        version: 1,
-        slots: 4,
-        live_bank: 0,
-        epoch: None,
-        base: 0,
-        next: 1,
-    };
-    assert!(rt; (first.journal.numbers(), first.ledger.total()) == (numbers, 9));
-    let mut listing = listing_of(first)?;
-    expect_next(
-        &rt,
-        &mut listing,
-        listed(0, 0, &[plain(deposit(1, 9))]),
-        [9, 0, 0],
-    )?;
-    expect_next(&rt, &mut listing, None, [9, 0, 0])?;
-    let begins = Begins {
-        base: 70,
-        balances: balances(5),
-    };
-    let entries = [withdrawn(1, 2), deposited(3, 4)];
-    let Ok(second) = look(alloc, of_layout_2(&rt, alloc, begins, &entries)?) else {
-        panic!(rt; "layout 2 is read")
-    };
-    numbers = Numbers {
-        version: 2,
-        live_bank: 1,
-        epoch: Some(1),
-        base: 70,
-        next: 72,
-        ..numbers
-    };
-    assert!(rt; (second.journal.numbers(), second.ledger.total()) == (numbers, 7));
-    let mut listing = listing_of(second)?;
-    assert!(rt; listing.ledger().balance(1) == Some(5));
-    expect_next(
-        &rt,
-        &mut listing,
-        listed(70, 0, &[plain(withdrawal(1, 2))]),
-        [3, 0, 0],
-    )?;
-    expect_next(
-        &rt,
-        &mut listing,
-        listed(71, 0, &[plain(deposit(3, 4))]),
-        [3, 0, 4],
-    )
-}
-
-#[test]
-fn each_layout_has_its_refusals(rt: HostRuntime) -> Result<(), Fail> {
-    let alloc = rt.alloc();
-    let overdrawn = [withdrawn(1, 6)];
-    let begins = Begins {
-        base: 70,
-        balances: balances(5),
-    };
-    let rows = [
-        (device_of(&rt, alloc, 9, &[])?, OpenRefusal::Unformatted),
-        (
-            device_of(&rt, alloc, 9, &[(0, superblock(4, 1))])?,
-            OpenRefusal::Version(4),
-        ),
-        (
-            device_of(&rt, alloc, 9, &[(0, superblock(1, 5))])?,
-            OpenRefusal::Size,
-        ),
-        (
-            device_of(&rt, alloc, 9, &[(0, superblock(3, 1))])?,
-            OpenRefusal::Size,
-        ),
-        (of_layout_1(&rt, alloc, &[transferred(1, 2, 1)])?, verdict()),
-        (of_layout_2(&rt, alloc, begins, &overdrawn)?, verdict()),
-    ];
-    for (device, refusal) in rows {
-        let Err((_, told)) = look(alloc, device) else {
-            panic!(rt; "it is refused")
-        };
-        assert!(rt; told == refusal);
-    }
+    expect_next(&rt, &mut listing, (5, &first), [309, 200])?;
+    expect_next(&rt, &mut listing, (0, &second), [309, 150])?;
+    assert!(rt; listing.next()?.is_none());
     Ok(())
-}
-
-fn verdict() -> OpenRefusal {
-    OpenRefusal::Damaged {
-        slot: 0,
-        cause: ledger_reading::Cause::Verdict(0),
-    }
 }
 
 // Looks at a device and lists its one record, or tells the first fault.
@@ -270,46 +101,53 @@ fn all_of_it<D: Device + Drop>(alloc: Global, device: D) -> Result<(), ReadRefus
     Ok(())
 }
 
-fn with_one_record(rt: &impl Abort, alloc: Global) -> Result<MemoryDevice, Fail> {
-    let Ok(mut journal) = Journal::open(formatted(alloc, 1)?) else {
-        panic!(rt; "a new journal is opened")
-    };
-    journal.append(&record_of(rt, 0, &[deposit(1, 5)]))?;
-    Ok(journal.into_device())
-}
-
-// A sync, and reads of the superblock, of two gates, of the head, of seventeen sectors of the snapshot, and of the record's
-// gate and body; then of the snapshot and of the body again.
-const CALLS: u64 = 42;
+// A sync, and reads of the superblock, of two gates, of the head, of seventeen sectors of the snapshot, of the record's
+// gate and body, and of the gate behind it; then of the snapshot and of the body again.
+const CALLS: u64 = 43;
 
 #[test]
 fn each_fault_is_told(rt: HostRuntime) -> Result<(), Fail> {
     let alloc = rt.alloc();
     for at in 0..CALLS + 1 {
-        let failing = OneFault::new(with_one_record(&rt, alloc)?, Op::Any, at);
+        let device = with_records(&rt, alloc, 0, &[(0, &[deposit(1, 5)])])?;
+        let told = all_of_it(alloc, OneFault::new(device, Op::Any, at));
         let expected = if at < CALLS {
             Err(ReadRefusal::Device)
         } else {
             Ok(())
         };
-        assert!(rt; all_of_it(alloc, failing) == expected, "{at}");
+        assert!(rt; told == expected, "{at}");
     }
     Ok(())
 }
 
+// The record's body reads as zeros the second time, or the balances do, which its withdrawal needs.
 #[test]
 fn what_was_changed_after_the_look_is_told(rt: HostRuntime) -> Result<(), Fail> {
     let alloc = rt.alloc();
-    let liar = Liar::new(with_one_record(&rt, alloc)?, FIRST_BODY);
-    assert!(rt; all_of_it(alloc, liar) == Err(ReadRefusal::Changed));
-    let Ok(found) = journal_recovery::recover(alloc, with_one_record(&rt, alloc)?) else {
-        panic!(rt; "a sound ledger")
-    };
-    let mut journal = found.journal;
-    journal.checkpoint(&journal_recovery::snapshot_of(&found.ledger))?;
-    journal.checkpoint(&journal_recovery::snapshot_of(&found.ledger))?;
-    journal.append(&record_of(&rt, 0, &[withdrawal(1, 5)]))?;
-    let liar = Liar::new(journal.into_device(), FIRST_BALANCES);
-    assert!(rt; all_of_it(alloc, liar) == Err(ReadRefusal::Changed));
+    for at in [FIRST.body(0), FIRST.balances()] {
+        let device = with_records(&rt, alloc, 5, &[(0, &[withdrawal(1, 5)])])?;
+        assert!(rt; all_of_it(alloc, Liar::new(device, at)) == Err(ReadRefusal::Changed));
+    }
+    Ok(())
+}
+
+// Opening an older journal reads each body once and replaying a second time: then it is told which one is no record any
+// more, and no ledger with the records before it is. Slot k has its body in sector 1 + 2k, and sector 8 is of a closed one.
+#[test]
+fn a_record_that_changes_between_two_readings_is_no_record(rt: HostRuntime) -> Result<(), Fail> {
+    let alloc = rt.alloc();
+    let cause = Cause::Header;
+    let table = [
+        (8, None),
+        (1, Some(OpenRefusal::Damaged { slot: 0, cause })),
+        (3, Some(OpenRefusal::Damaged { slot: 1, cause })),
+        (5, Some(OpenRefusal::Damaged { slot: 2, cause })),
+    ];
+    for (at, refusal) in table {
+        let old = of_layout_1(&rt, alloc, &[deposited(1, 5); 3])?;
+        let (_, found) = read_old(alloc, Liar::new(old, at));
+        assert!(rt; found.err() == refusal);
+    }
     Ok(())
 }

@@ -1,7 +1,6 @@
 //! Devices that are copied, and the bytes that they are copied to.
 use crate::old_devices::{
     Begins, ZERO, all_of, balances, deposited, has_pending, of_layout_1, of_layout_2, open_gate,
-    transferred, withdrawn,
 };
 use journal_recovery::{Recovered, migrate, recover};
 use sector_device::{Device, MemoryDevice, Sector};
@@ -103,39 +102,5 @@ fn a_checkpoint_and_a_record_of_layout_2_come_over(rt: HostRuntime) -> Result<()
             found.journal.live_bank()
         ) == (2, 2, 0)
     );
-    Ok(())
-}
-
-#[test]
-fn a_full_device_comes_over_and_one_with_the_last_number(rt: HostRuntime) -> Result<(), Fail> {
-    let alloc = rt.alloc();
-    let entries = [
-        deposited(64, 9),
-        transferred(64, 1, 4),
-        withdrawn(64, 5),
-        deposited(2, 7),
-    ];
-    let (_, new) = migrated(&rt, alloc, of_layout_1(&rt, alloc, &entries)?, 2)?;
-    let found = recovered(&rt, alloc, new);
-    let ledger = &found.ledger;
-    assert!(rt;
-        (ledger.balance(1), ledger.balance(2), ledger.balance(64)) == (Some(4), Some(7), Some(0))
-    );
-    assert!(rt; (found.journal.next(), ledger.balance(65)) == (4, Some(0)));
-
-    // 1 in each account, and no record
-    let mut all = ZERO;
-    for (at, byte) in all.iter_mut().enumerate() {
-        *byte = u8::from(at % 8 == 7);
-    }
-    let begins = Begins {
-        base: u64::MAX,
-        balances: all,
-    };
-    let (_, new) = migrated(&rt, alloc, of_layout_2(&rt, alloc, begins, &[])?, 1)?;
-    let found = recovered(&rt, alloc, new);
-    let ledger = &found.ledger;
-    assert!(rt; (ledger.balance(64), ledger.balance(65), ledger.total()) == (Some(1), Some(0), 64));
-    assert!(rt; found.journal.next() == u64::MAX);
     Ok(())
 }
