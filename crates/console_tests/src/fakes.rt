@@ -7,68 +7,38 @@ fn failed() -> io::Error {
     io::Error::from(ErrorKind::Other)
 }
 
-/// Gives and takes one byte a call.
-#[derive(Drop)]
-pub struct OneByte<'a> {
-    rest: &'a [u8],
-    taken: Vec<u8>,
-}
-
-impl<'a> OneByte<'a> {
-    pub fn over(alloc: Global, rest: &'a [u8]) -> OneByte<'a> {
-        OneByte {
-            rest,
-            taken: Vec::new(alloc),
-        }
-    }
-
-    pub fn taken(&self) -> &[u8] {
-        self.taken.as_slice()
-    }
-}
-
-impl Read for OneByte<'_> {
-    fn read(&mut self, buf: &mut [u8]) -> io::Result<usize> {
-        let (Some((first, rest)), Some(place)) = (self.rest.split_first(), buf.first_mut()) else {
-            return Ok(0);
-        };
-        *place = *first;
-        self.rest = rest;
-        Ok(1)
-    }
-}
-
-impl Write for OneByte<'_> {
-    fn write(&mut self, buf: &[u8]) -> io::Result<usize> {
-        let Some(first) = buf.first() else {
-            return Ok(0);
-        };
-        self.taken.push(*first)?;
-        Ok(1)
-    }
-
-    fn flush(&mut self) -> io::Result<()> {
-        Ok(())
-    }
-}
-
-/// Gives and takes one byte a call, and fails after so many calls.
+/// Gives one byte a call, and takes one or all that it is handed; it fails after so many calls.
 #[derive(Drop)]
 pub struct Failing<'a> {
-    inner: OneByte<'a>,
+    rest: &'a [u8],
+    taken: Vec<u8>,
+    takes_all: bool,
     calls: u64,
 }
 
 impl<'a> Failing<'a> {
-    pub fn over(alloc: Global, rest: &'a [u8], calls: u64) -> Failing<'a> {
+    /// Gives these bytes.
+    pub fn giving(alloc: Global, rest: &'a [u8], calls: u64) -> Failing<'a> {
         Failing {
-            inner: OneByte::over(alloc, rest),
+            rest,
+            taken: Vec::new(alloc),
+            takes_all: false,
+            calls,
+        }
+    }
+
+    /// Takes all that it is handed in a call, or one byte of it.
+    pub fn taking(alloc: Global, takes_all: bool, calls: u64) -> Failing<'a> {
+        Failing {
+            rest: &[],
+            taken: Vec::new(alloc),
+            takes_all,
             calls,
         }
     }
 
     pub fn taken(&self) -> &[u8] {
-        self.inner.taken()
+        self.taken.as_slice()
     }
 }
 
@@ -78,7 +48,12 @@ impl Read for Failing<'_> {
             return Err(failed());
         }
         self.calls -= 1;
-        self.inner.read(buf)
+        let (Some((first, rest)), Some(place)) = (self.rest.split_first(), buf.first_mut()) else {
+            return Ok(0);
+        };
+        *place = *first;
+        self.rest = rest;
+        Ok(1)
     }
 }
 
@@ -88,42 +63,15 @@ impl Write for Failing<'_> {
             return Err(failed());
         }
         self.calls -= 1;
-        self.inner.write(buf)
-    }
-
-    fn flush(&mut self) -> io::Result<()> {
-        Ok(())
-    }
-}
-
-/// Takes all bytes of so many calls, and then refuses each call.
-#[derive(Drop)]
-pub struct Refusing {
-    taken: Vec<u8>,
-    calls: u64,
-}
-
-impl Refusing {
-    pub fn after(alloc: Global, calls: u64) -> Refusing {
-        Refusing {
-            taken: Vec::new(alloc),
-            calls,
+        if self.takes_all {
+            self.taken.extend_from_slice(buf)?;
+            return Ok(buf.len());
         }
-    }
-
-    pub fn taken(&self) -> &[u8] {
-        self.taken.as_slice()
-    }
-}
-
-impl Write for Refusing {
-    fn write(&mut self, buf: &[u8]) -> io::Result<usize> {
-        if self.calls == 0 {
-            return Err(failed());
-        }
-        self.calls -= 1;
-        self.taken.extend_from_slice(buf)?;
-        Ok(buf.len())
+        let Some(first) = buf.first() else {
+            return Ok(0);
+        };
+        self.taken.push(*first)?;
+        Ok(1)
     }
 
     fn flush(&mut self) -> io::Result<()> {

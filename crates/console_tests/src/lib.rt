@@ -13,8 +13,6 @@ mod files;
 #[cfg(test)]
 mod names;
 #[cfg(test)]
-mod numbers;
-#[cfg(test)]
 mod scripts;
 #[cfg(test)]
 mod streams;

@@ -1,5 +1,5 @@
 //! A script with a day in it: cut off after each byte, and read and written by streams that behave badly.
-use crate::fakes::{Endless, Failing, Interrupted, OneByte, Refusing};
+use crate::fakes::{Endless, Failing, Interrupted};
 use crate::scripts::told;
 use console_engine::{LineFault, MemoryDevice, ScriptFault, run_program, run_script};
 use std::alloc::Global;
@@ -10,8 +10,8 @@ use std::sync::Wait;
 use std::test::Fail;
 use std::thread::Threads;
 
-/// The lines of the script, each with all that it prints.
-pub const LINES: [(&str, &str); 8] = [
+// The lines of the script, each with all that it prints.
+const LINES: [(&str, &str); 8] = [
     ("format 4", "formatted 4\n"),
     ("open 3 000 100", "opened 3 next 0 total 0\n"),
     ("post 0 deposit 1 100", "held 0 1\n"),
@@ -25,11 +25,11 @@ pub const LINES: [(&str, &str); 8] = [
     ("balances", "account 1 70\naccount 2 80\ntotal 150\n"),
 ];
 
-/// The whole script, and all that it prints.
-pub fn whole(alloc: Global) -> Result<(String, String), Fail> {
+// So many lines of the script, and what they print.
+fn lines(alloc: Global, count: usize) -> Result<(String, String), Fail> {
     let mut script = String::new(alloc);
     let mut printed = String::new(alloc);
-    for (line, prints) in LINES {
+    for (line, prints) in LINES.iter().take(count) {
         script.push_str(line)?;
         script.push('\n')?;
         printed.push_str(prints)?;
@@ -67,12 +67,12 @@ fn cut_prints<R: Abort + Threads + Wait + Sync>(
     alloc: Global,
     left: &str,
 ) -> Result<(), Fail> {
-    let lines = left.bytes().filter(|byte| *byte == b'\n').count();
+    let count = left.bytes().filter(|byte| *byte == b'\n').count();
     let last = left.rsplit('\n').next().unwrap_or("");
-    let (prints, wanted) = of_cut_line(lines, last);
+    let (prints, wanted) = of_cut_line(count, last);
     let (output, end) = told(rt, alloc, left)?;
     assert!(rt; end == wanted, "{left}");
-    let before = printed_by(alloc, lines)?;
+    let (_, before) = lines(alloc, count)?;
     let rest = output.as_slice().strip_prefix(before.as_str().as_bytes());
     assert!(rt; rest == Some(prints.as_bytes()), "{left}");
     Ok(())
@@ -80,7 +80,7 @@ fn cut_prints<R: Abort + Threads + Wait + Sync>(
 
 #[test]
 fn a_script_is_cut_after_each_byte(rt: HostRuntime) -> Result<(), Fail> {
-    let (script, _) = whole(rt.alloc())?;
+    let (script, _) = lines(rt.alloc(), LINES.len())?;
     for cut in 0..=script.len() {
         let left = script.as_str().get(..cut).ok_or("a cut")?;
         cut_prints(&rt, rt.alloc(), left)?;
@@ -88,188 +88,139 @@ fn a_script_is_cut_after_each_byte(rt: HostRuntime) -> Result<(), Fail> {
     Ok(())
 }
 
-// What so many whole lines print.
-fn printed_by(alloc: Global, lines: usize) -> Result<String, Fail> {
-    let mut printed = String::new(alloc);
-    for (_, prints) in LINES.iter().take(lines) {
-        printed.push_str(prints)?;
-    }
-    Ok(printed)
-}
-
-#[test]
-fn readers_and_writers_of_one_byte(rt: HostRuntime) -> Result<(), Fail> {
-    let alloc = rt.alloc();
-    let (script, printed) = whole(alloc)?;
+// How a script ends that comes one byte a call, from a reader that fails after so many calls.
+fn end_with<R: Threads + Wait + Sync>(
+    rt: &R,
+    alloc: Global,
+    script: &str,
+    calls: u64,
+    writer: &mut Failing<'_>,
+) -> Result<Result<(), ScriptFault>, Fail> {
     let device = MemoryDevice::new(alloc, 64)?;
-    let mut reader = OneByte::over(alloc, script.as_str().as_bytes());
-    let mut writer = OneByte::over(alloc, &[]);
-    let end = run_script(&rt, alloc, &mut reader, &mut writer, device);
-    assert!(rt; end == Ok(()));
-    assert!(rt; writer.taken() == printed.as_str().as_bytes());
-    Ok(())
+    let mut reader = Failing::giving(alloc, script.as_bytes(), calls);
+    Ok(run_script(rt, alloc, &mut reader, writer, device))
 }
 
 // The last call would tell that the script has ended.
 #[test]
 fn a_reader_that_fails_at_each_call(rt: HostRuntime) -> Result<(), Fail> {
     let alloc = rt.alloc();
-    let (script, _) = whole(alloc)?;
+    let (script, _) = lines(alloc, LINES.len())?;
     for calls in 0..=script.len() as u64 {
-        let device = MemoryDevice::new(alloc, 64)?;
-        let mut reader = Failing::over(alloc, script.as_str().as_bytes(), calls);
-        let mut output = Vec::new(alloc);
-        let end = run_script(&rt, alloc, &mut reader, &mut output, device);
-        assert!(rt; end == Err(ScriptFault::Read), "{calls}");
-        assert!(rt; output.len() == 0);
+        let mut writer = Failing::taking(alloc, true, u64::MAX);
+        let end = end_with(&rt, alloc, script.as_str(), calls, &mut writer)?;
+        assert!(rt;
+            end == Err(ScriptFault::Read) && writer.taken().is_empty(),
+            "{calls}"
+        );
     }
     Ok(())
 }
 
-// A writer that takes all that it is given, up to the first number of calls that is enough.
+// A writer that takes one byte a call, or all that it is given, up to the first number of calls that is enough.
+fn fails_at_each_call<R: Abort + Threads + Wait + Sync>(
+    rt: &R,
+    alloc: Global,
+    takes_all: bool,
+) -> Result<(), Fail> {
+    let (script, printed) = lines(alloc, LINES.len())?;
+    let printed = printed.as_str().as_bytes();
+    for calls in 0..=printed.len() {
+        let mut writer = Failing::taking(alloc, takes_all, calls as u64);
+        let end = end_with(rt, alloc, script.as_str(), u64::MAX, &mut writer)?;
+        if writer.taken() == printed {
+            assert!(rt;
+                end == Ok(()) && (takes_all || calls == printed.len()),
+                "{calls}"
+            );
+            return Ok(());
+        }
+        assert!(rt; end == Err(ScriptFault::Write), "{calls}");
+        assert!(rt; printed.starts_with(writer.taken()), "{calls}");
+        assert!(rt; takes_all || writer.taken().len() == calls, "{calls}");
+    }
+    Err(Fail::from("no number of calls is enough"))
+}
+
 #[test]
 fn a_writer_that_fails_at_each_call(rt: HostRuntime) -> Result<(), Fail> {
-    let alloc = rt.alloc();
-    let (script, printed) = whole(alloc)?;
-    let printed = printed.as_str().as_bytes();
-    let mut is_enough = false;
-    for calls in 0..printed.len() as u64 {
-        let device = MemoryDevice::new(alloc, 64)?;
-        let mut reader = script.as_str().as_bytes();
-        let mut writer = Refusing::after(alloc, calls);
-        let end = run_script(&rt, alloc, &mut reader, &mut writer, device);
-        is_enough = writer.taken() == printed;
-        let wanted = if is_enough {
-            Ok(())
-        } else {
-            Err(ScriptFault::Write)
-        };
-        assert!(rt; end == wanted, "{calls}");
-        assert!(rt; printed.starts_with(writer.taken()), "{calls}");
-        if is_enough {
-            break;
-        }
-    }
-    assert!(rt; is_enough);
-    Ok(())
+    fails_at_each_call(&rt, rt.alloc(), false)?;
+    fails_at_each_call(&rt, rt.alloc(), true)
 }
 
+// The lines of a turn and of a day are handed to the writer, which takes one call, before the next line runs.
 #[test]
-fn a_writer_of_one_byte_that_fails_at_each_call(rt: HostRuntime) -> Result<(), Fail> {
+fn turns_and_days_are_acknowledged_at_once(rt: HostRuntime) -> Result<(), Fail> {
     let alloc = rt.alloc();
-    let (script, printed) = whole(alloc)?;
-    let printed = printed.as_str().as_bytes();
-    for calls in 0..printed.len() {
-        let device = MemoryDevice::new(alloc, 64)?;
-        let mut reader = script.as_str().as_bytes();
-        let mut writer = Failing::over(alloc, &[], calls as u64);
-        let end = run_script(&rt, alloc, &mut reader, &mut writer, device);
-        assert!(rt; end == Err(ScriptFault::Write), "{calls}");
-        assert!(rt; Some(writer.taken()) == printed.get(..calls));
+    let table = [
+        ("turn 0\nbalances\n", "posted 0\nentry 0 ok\n"),
+        ("day 1\nbits\n", "station 1 Reached\nanswer 0 0 posted 0\n"),
+    ];
+    for (rest, last) in table {
+        let script = format!(in alloc; "format 4\nopen 2 00 10\npost 0 deposit 1 5\n{rest}")?;
+        let mut writer = Failing::taking(alloc, true, 1);
+        let end = end_with(&rt, alloc, script.as_str(), u64::MAX, &mut writer)?;
+        assert!(rt; end == Err(ScriptFault::Write), "{rest}");
+        assert!(rt; writer.taken().ends_with(last.as_bytes()), "{rest}");
     }
     Ok(())
 }
 
-// The lines of a turn are handed to the writer before the next line runs.
-#[test]
-fn a_turn_is_acknowledged_at_once(rt: HostRuntime) -> Result<(), Fail> {
-    let alloc = rt.alloc();
-    let device = MemoryDevice::new(alloc, 64)?;
-    let mut reader = b"format 4\nopen 2 00 10\npost 0 deposit 1 500\nturn 0\nbalances\n".as_slice();
-    let mut writer = Refusing::after(alloc, 1);
-    let end = run_script(&rt, alloc, &mut reader, &mut writer, device);
-    assert!(rt; end == Err(ScriptFault::Write));
-    assert!(rt; writer.taken().ends_with(b"posted 0\nentry 0 ok\n"));
-    Ok(())
-}
-
-#[test]
-fn a_reader_that_is_interrupted_for_ever(rt: HostRuntime) -> Result<(), Fail> {
-    let alloc = rt.alloc();
-    let device = MemoryDevice::new(alloc, 64)?;
-    let mut output = Vec::new(alloc);
-    let end = run_script(&rt, alloc, &mut Interrupted, &mut output, device);
-    assert!(rt; (end, output.len()) == (Err(ScriptFault::Read), 0));
-    Ok(())
-}
-
-#[test]
-fn a_writer_that_is_interrupted_for_ever(rt: HostRuntime) -> Result<(), Fail> {
-    let alloc = rt.alloc();
-    let (script, _) = whole(alloc)?;
-    let device = MemoryDevice::new(alloc, 64)?;
-    let mut reader = script.as_str().as_bytes();
-    let end = run_script(&rt, alloc, &mut reader, &mut Interrupted, device);
-    assert!(rt; end == Err(ScriptFault::Write));
-    Ok(())
-}
-
-#[test]
-fn a_script_that_never_ends_is_too_long(rt: HostRuntime) -> Result<(), Fail> {
-    let alloc = rt.alloc();
-    let device = MemoryDevice::new(alloc, 64)?;
-    let mut output = Vec::new(alloc);
-    let end = run_script(&rt, alloc, &mut Endless, &mut output, device);
-    assert!(rt; end == Err(ScriptFault::TooLong));
-    Ok(())
-}
-
-// How the program ends over a reader and a writer: its status, and what it tells on its errors.
-fn fails_with<S: Abort + Files<File = File> + Threads + Wait + Sync, R: Read, W: Write>(
+// The program ends with status 1 over a reader and a writer, and tells this.
+fn tells<S: Abort + Files<File = File> + Threads + Wait + Sync, R: Read, W: Write>(
     rt: &S,
     alloc: Global,
     words: &[&str],
     reader: &mut R,
     writer: &mut W,
-    tells: &str,
+    wanted: &str,
 ) {
     let mut errors = Vec::new(alloc);
     let status = run_program(rt, alloc, words, reader, writer, &mut errors);
-    assert!(rt; status == 1);
-    assert!(rt; errors.as_slice() == tells.as_bytes());
-}
-
-#[test]
-fn a_reader_that_fails_is_told(rt: HostRuntime) {
-    let mut reader = Failing::over(rt.alloc(), b"crash", 0);
-    let mut output = Vec::new(rt.alloc());
-    fails_with(
-        &rt,
-        rt.alloc(),
-        &["console"],
-        &mut reader,
-        &mut output,
-        "read failed\n",
+    assert!(rt;
+        status == 1 && errors.as_slice() == wanted.as_bytes(),
+        "{wanted}"
     );
 }
 
+// Each for ever. The help is written before a script is read.
 #[test]
-fn a_script_that_is_too_long_is_told(rt: HostRuntime) {
-    let mut output = Vec::new(rt.alloc());
-    fails_with(
+fn streams_that_are_interrupted_or_never_end_are_told(rt: HostRuntime) {
+    let alloc = rt.alloc();
+    let (console, help) = (["console"], ["console", "--help"]);
+    let mut output = Vec::new(alloc);
+    tells(
         &rt,
-        rt.alloc(),
-        &["console"],
+        alloc,
+        &console,
+        &mut Interrupted,
+        &mut output,
+        "read failed\n",
+    );
+    tells(
+        &rt,
+        alloc,
+        &console,
         &mut Endless,
         &mut output,
         "script too long\n",
     );
-}
-
-// The help is written before a script is read.
-#[test]
-fn a_writer_that_fails_is_told(rt: HostRuntime) {
-    let words: [&[&str]; 2] = [&["console", "--help"], &["console"]];
-    for words in words {
-        let mut script = b"crash".as_slice();
-        let mut writer = Refusing::after(rt.alloc(), 0);
-        fails_with(
-            &rt,
-            rt.alloc(),
-            words,
-            &mut script,
-            &mut writer,
-            "write failed\n",
-        );
-    }
+    assert!(rt; output.is_empty());
+    let mut script = b"crash".as_slice();
+    tells(
+        &rt,
+        alloc,
+        &console,
+        &mut script,
+        &mut Interrupted,
+        "write failed\n",
+    );
+    tells(
+        &rt,
+        alloc,
+        &help,
+        &mut script,
+        &mut Interrupted,
+        "write failed\n",
+    );
 }

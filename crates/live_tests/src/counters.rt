@@ -1,33 +1,10 @@
 //! Counters of an office in memory.
-use fault_injector::{OneFault, Op};
-use live_office::{Closed, Counter, Kind, LiveRefusal, keep_open};
-use office_day::{Device, End, Line, TurnRefusal};
-use sector_device::MemoryDevice;
+use live_office::{Counter, Kind, keep_open};
+use office_day::End;
 use std::io;
-use std::io::{PipeReader, PipeWriter, Read};
-use std::process::Abort;
+use std::io::{PipeReader, Read};
 use std::test::Fail;
 use test_scenes::{formatted, line};
-
-/// More turns than a test needs.
-const MANY: u64 = 1_000;
-
-type TestCounter = Counter<&'static [u8], PipeWriter>;
-
-// A counter that says this, and where its answers come.
-fn counter(
-    rt: &HostRuntime,
-    lines: &'static [u8],
-    kind: Kind,
-) -> io::Result<(TestCounter, PipeReader)> {
-    let (answers, output) = io::pipe(rt)?;
-    let counter = Counter {
-        input: lines,
-        output,
-        kind,
-    };
-    Ok((counter, answers))
-}
 
 // Whether these are the next bytes of the answers.
 fn are_told(answers: &mut PipeReader, wanted: &[u8]) -> io::Result<bool> {
@@ -39,10 +16,6 @@ fn are_told(answers: &mut PipeReader, wanted: &[u8]) -> io::Result<bool> {
         }
     }
     Ok(true)
-}
-
-fn ends<D: Device>(closed: &Closed<D>, end: End) -> bool {
-    closed.stations.iter().all(|station| station.end == end && station.unanswered.is_empty())
 }
 
 const REQUESTS: &[u8] = b"\
@@ -85,83 +58,34 @@ refused Sealed 16
 closing
 ";
 
+// In one span, and in an office that is closed and opened again after each second turn.
 #[test]
 fn a_counter_is_answered_in_order(rt: HostRuntime) -> Result<(), Fail> {
     let alloc = rt.alloc();
-    let (first, mut answers) = counter(&rt, REQUESTS, Kind::Pipes)?;
-    let device = formatted(alloc, 4)?;
-    let line = line([0, 0], [1, 0])?;
-    let counters = vec![in alloc; first]?;
-    let closed = match keep_open(&rt, alloc, device, line, counters, MANY) {
-        Ok(closed) => closed,
-        Err((_, refusal)) => panic!(rt; "{refusal}"),
-    };
-    assert!(rt; are_told(&mut answers, RESPONSES)?);
-    assert!(rt; ends(&closed, End::Closed) && closed.stations.len() == 2);
-    assert!(rt; closed.clerk.ledger().balance(1) == Some(300) && closed.turns >= 5);
-    Ok(())
-}
-
-#[test]
-fn spans_go_on_where_the_last_ended(rt: HostRuntime) -> Result<(), Fail> {
-    let alloc = rt.alloc();
-    let (first, mut answers) = counter(&rt, REQUESTS, Kind::Pipes)?;
-    let device = formatted(alloc, 4)?;
-    let line = line([1, 0, 1], [1, 1, 0])?;
-    let counters = vec![in alloc; first]?;
-    // an office that is closed after each second turn
-    let closed = match keep_open(&rt, alloc, device, line, counters, 2) {
-        Ok(closed) => closed,
-        Err((_, refusal)) => panic!(rt; "{refusal}"),
-    };
-    assert!(rt; are_told(&mut answers, RESPONSES)?);
-    assert!(rt; closed.clerk.history().len() <= 2 && closed.turns >= 5);
-    assert!(rt; closed.clerk.ledger().balance(1) == Some(300));
-    Ok(())
-}
-
-#[test]
-fn what_a_failed_device_took_is_undecided(rt: HostRuntime) -> Result<(), Fail> {
-    let alloc = rt.alloc();
-    let (first, mut answers) = counter(&rt, b"deposit 1 5\nbalance 1\n", Kind::Pipes)?;
-    // the opening syncs once, and then the body of the record is synced
-    let device = OneFault::new(formatted(alloc, 4)?, Op::Sync, 1);
-    let line = line([0, 0], [1, 0])?;
-    let counters = vec![in alloc; first]?;
-    let closed = match keep_open(&rt, alloc, device, line, counters, MANY) {
-        Ok(closed) => closed,
-        Err((_, refusal)) => panic!(rt; "{refusal}"),
-    };
-    assert!(rt; are_told(&mut answers, b"undecided 1\n")?);
-    assert!(rt; closed.stations[0].end == End::Refused(TurnRefusal::Device));
-    assert!(rt; closed.clerk.is_faulted() && closed.clerk.ledger().balance(1) == Some(0));
-    Ok(())
-}
-
-#[test]
-fn a_terminal_closes_where_it_ends(rt: HostRuntime) -> Result<(), Fail> {
-    let alloc = rt.alloc();
-    let (silent, _quiet) = counter(&rt, b"", Kind::Pipes)?;
-    let (last, mut answers) = counter(&rt, b"deposit 3 4", Kind::Terminal)?;
-    let line = line([0, 0], [1, 0])?;
-    let counters = vec![in alloc; silent, last]?;
-    let closed = match keep_open(&rt, alloc, formatted(alloc, 4)?, line, counters, MANY) {
-        Ok(closed) => closed,
-        Err((_, refusal)) => panic!(rt; "{refusal}"),
-    };
-    assert!(rt; are_told(&mut answers, b"office> posted 0 1\noffice> ")?);
-    assert!(rt; ends(&closed, End::Closed));
-    Ok(())
-}
-
-#[test]
-fn a_device_without_a_ledger_is_handed_back(rt: HostRuntime) -> Result<(), Fail> {
-    let alloc = rt.alloc();
-    let (first, _answers) = counter(&rt, b"close\n", Kind::Pipes)?;
-    let device = MemoryDevice::new(alloc, 55)?;
-    let line: Line = line([0, 0], [1, 0])?;
-    let counters = vec![in alloc; first]?;
-    let refused = keep_open(&rt, alloc, device, line, counters, MANY);
-    assert!(rt; matches!(&refused, Err((_, LiveRefusal::Office(_)))));
+    let offices = [
+        (line([0, 0], [1, 0])?, 1_000),
+        (line([1, 0, 1], [1, 1, 0])?, 2),
+    ];
+    for (line, moves) in offices {
+        let (mut answers, output) = io::pipe(&rt)?;
+        let counter = Counter {
+            input: REQUESTS,
+            output,
+            kind: Kind::Pipes,
+        };
+        let counters = vec![in alloc; counter]?;
+        let closed = match keep_open(&rt, alloc, formatted(alloc, 4)?, line, counters, moves) {
+            Ok(closed) => closed,
+            Err((_, refusal)) => panic!(rt; "{refusal}"),
+        };
+        assert!(rt; are_told(&mut answers, RESPONSES)?);
+        assert!(rt; closed.clerk.history().len() as u64 <= moves && closed.turns >= 5);
+        assert!(rt; closed.clerk.ledger().balance(1) == Some(300));
+        assert!(rt; closed.stations.len() == line.stations() as usize);
+        for station in &closed.stations {
+            let is_over = station.end == End::Closed || moves == 2 && station.end == End::Reached;
+            assert!(rt; is_over && station.unanswered.is_empty());
+        }
+    }
     Ok(())
 }

@@ -90,43 +90,6 @@ fn full_rings_and_a_desk_that_gives_up(rt: HostRuntime) -> Result<(), Fail> {
     Ok(())
 }
 
-// Three requests are answered, and one of the answers is collected.
-fn answer_three(rt: &impl Abort, feed: &mut Feed, desk: &mut Desk)
-    requires { AreTogether feed.old desk.old }
-    ensures { AreTogether feed.new desk.new }
-{
-    takes(rt, feed, 10, 0);
-    takes(rt, feed, 11, 1);
-    takes(rt, feed, 12, 2);
-    assert!(rt; desk.gather().len() == 3);
-    desk.give_up();
-    is_undecided(rt, feed, 0, 10);
-}
-
-// Of two more the desk can hold one.
-fn submit_two(rt: &impl Abort, feed: &mut Feed, desk: &mut Desk)
-    requires { AreTogether feed.old desk.old }
-    ensures { AreTogether feed.new desk.new }
-{
-    takes(rt, feed, 13, 3);
-    takes(rt, feed, 14, 4);
-    assert!(rt; desk.gather() == [deposit(1, 13)].as_slice());
-}
-
-#[test]
-fn what_is_left_is_reconciled_in_order(rt: HostRuntime) -> Result<(), Fail> {
-    let (mut feed, mut desk) = desk(rt.alloc(), 3)?;
-    answer_three(&rt, &mut feed, &mut desk);
-    submit_two(&rt, &mut feed, &mut desk);
-    let all = reconciled(&rt, rt.alloc(), feed, desk);
-    assert!(rt; (all.submitted, all.collected) == (5, 1));
-    let answers = all.answers.iter().map(|answer| answer.ticket);
-    assert!(rt; answers.eq([1, 2]));
-    let unanswered = all.unanswered.iter().map(|ask| (ask.ticket, ask.entry));
-    assert!(rt; unanswered.eq([(3, deposit(1, 13)), (4, deposit(1, 14))]));
-    Ok(())
-}
-
 fn two_stations(rt: &impl Abort, alloc: Global) -> Result<Clerk<MemoryDevice>, Fail> {
     match Clerk::open(alloc, formatted(alloc, 4)?, line([0, 0], [1, 0])?) {
         Ok(clerk) => Ok(clerk),

@@ -1,5 +1,4 @@
 //! Offices that are opened, take turns and are closed.
-mod asked;
 mod callers;
 mod closing;
 mod lent;

@@ -1,4 +1,4 @@
--- Feeds and stations that are lent as slices stay pairs.
+-- Feeds and stations stay pairs where the stations are lent as a slice.
 use Rattle.std.proofs.Common.{◌≡◌, ◌∙◌, ℕ, List, ◌++◌, length, take, drop, sym, ap, subst, arith}
 use Rattle.std.proofs.lemmas.List.{append-nil, take_all, drop_all}
 use Rattle.station_desk.specs.declared.stations.Station.{Station}
@@ -7,7 +7,6 @@ use Rattle.sector_device.specs.Device.{DeviceState}
 use Rattle.four_state.specs.Configuration.{Configuration}
 use Rattle.station_desk.specs.Run.{HaveRun}
 use Rattle.station_desk.specs.Pairs.{ArePaired, stay_paired}
-use Rattle.station_desk.specs.PairLaws.{AllStandAt, stay_together}
 
 -- what a list of n elements holds after all of it was lent and came back as `new`
 abbrev pub lent : {X : Type 0} → ℕ → List X → List X → List X
@@ -24,18 +23,6 @@ pub record Kept {X : Type 0} (n m : ℕ) (feeds : List FeedState) (stations : Li
   pub all_feeds : n ≡ length feeds
   pub all_stations : m ≡ length stations
   pub paired : ArePaired feeds stations
-
--- the feeds were lent, and stand at the same rings
-pub kept-feeds : {X : Type 0} {n m : ℕ} {feeds slice new : List FeedState} {stations : List (Station X)} → Kept n m feeds stations → slice ≡ feeds
-    → AllStandAt slice new → Kept n m (lent n feeds new) stations
-kept-feeds {n = n} {m = m} {feeds = feeds} {new = new} {stations = stations} kept is stand =
-    let stand : AllStandAt feeds new = subst (λ feeds. AllStandAt feeds new) is stand in
-    let back = sym (lent-whole n feeds new kept.all_feeds stand.as_many) in
-    subst (λ feeds. Kept n m feeds stations) back (record {
-      all_feeds = kept.all_feeds ∙ sym stand.as_many;
-      all_stations = kept.all_stations;
-      paired = stay_together feeds new stations stand kept.paired;
-    })
 
 -- the stations were lent, and have run
 pub kept-stations : {X : Type 0} {device : DeviceState} {from : Configuration} {n m moves : ℕ} {closes : Type 0} {feeds : List FeedState} {stations slice new : List (Station X)} → Kept n m feeds stations

@@ -1,21 +1,19 @@
 //! Stations in threads. But for those of `beside`, `clients` and `moments`, which need threads at once, each test holds
 //! whatever thread runs when.
-ghost use Rattle.std.specs.Prelude.{◌<◌, length, IfOk};
+ghost use Rattle.std.specs.Prelude.{IfOk};
 ghost use Rattle.station_desk.specs.Pairs.{ArePaired};
-ghost use Rattle.station_desk.specs.PairLaws.{AllStandAt};
 
 mod beside;
 mod clients;
 mod day;
 mod limits;
 mod moments;
-mod requests;
 mod runs;
 mod tries;
 
 use line_lock::{Closing, Count, Office, Opening, Seat};
 use sector_device::Device;
-use station_desk::{Answer, End, Entry, Feed, Gate, Reconciled, Station, desk, reconcile};
+use station_desk::{End, Feed, Gate, Reconciled, Station, desk, reconcile};
 use std::alloc::{AllocError, Global};
 use std::process::Abort;
 
@@ -83,22 +81,6 @@ fn reconciled<L: Count>(
         ends,
         seats,
     })
-}
-
-// Submits an entry to the feed of a station.
-fn submit(feeds: &mut [Feed], station: usize, entry: Entry) -> Result<u64, Entry>
-    requires { station < length feeds.old }
-    ensures { AllStandAt feeds.old feeds.new }
-{
-    feeds[station].submit(entry)
-}
-
-// Collects an answer from the feed of a station.
-fn collect(feeds: &mut [Feed], station: usize) -> Option<Answer>
-    requires { station < length feeds.old }
-    ensures { AllStandAt feeds.old feeds.new }
-{
-    feeds[station].answer()
 }
 
 // Closes the office, or fails the test.

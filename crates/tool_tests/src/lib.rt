@@ -1,4 +1,4 @@
-//! Tests of what `ledger_tool` prints, over ledgers in memory.
+//! Tests of what `ledger_tool` prints, over ledgers in memory: what `checks/ledger_tool.sh` doesn't show with files.
 #![tactic(auto)]
 
 #[cfg(test)]
@@ -13,7 +13,5 @@ mod images;
 mod outputs;
 #[cfg(test)]
 mod selections;
-#[cfg(test)]
-mod snapshots;
 #[cfg(test)]
 mod words;

@@ -3,8 +3,9 @@ use crate::images::Office;
 use std::alloc::Global;
 use std::io;
 use std::io::{ErrorKind, Write};
+use std::process::Abort;
 use std::test::Fail;
-use tool_engine::{End, Meter, Progress, read_request, run_on_device};
+use tool_engine::{End, read_request, run_on_device};
 
 /// Fails at each call, for this reason.
 #[derive(Clone, Copy)]
@@ -38,52 +39,27 @@ fn ended(alloc: Global, words: &[&str], reason: ErrorKind) -> Result<(End, Vec<u
     Ok((end, errors))
 }
 
-#[test]
-fn an_output_that_is_closed_early_ends_it_quietly(rt: HostRuntime) -> Result<(), Fail> {
-    for name in ["check", "journal", "balances"] {
-        let words = ["ledger_tool", name, "office"];
-        let (end, errors) = ended(rt.alloc(), &words, ErrorKind::BrokenPipe)?;
-        assert!(rt; end == End::Done && errors.is_empty());
-    }
-    for format in ["csv", "json", "hledger"] {
-        let words = ["ledger_tool", "journal", "office", "--format", format];
-        let (end, errors) = ended(rt.alloc(), &words, ErrorKind::BrokenPipe)?;
-        assert!(rt; end == End::Done && errors.is_empty());
-    }
-    Ok(())
-}
-
-#[test]
-fn an_output_that_cannot_be_written_is_told(rt: HostRuntime) -> Result<(), Fail> {
+// An output that is closed early ends the command quietly, and one that can't be written is told.
+fn ends(rt: &impl Abort, alloc: Global, words: &[&str]) -> Result<(), Fail> {
+    let (end, errors) = ended(alloc, words, ErrorKind::BrokenPipe)?;
+    assert!(rt; end == End::Done && errors.is_empty(), "{words:?}");
+    let (end, errors) = ended(alloc, words, ErrorKind::StorageFull)?;
     let wanted = b"the output can't be written\n".as_slice();
-    for name in ["check", "journal", "balances"] {
-        let words = ["ledger_tool", name, "office"];
-        let (end, errors) = ended(rt.alloc(), &words, ErrorKind::StorageFull)?;
-        assert!(rt; end == End::Failed && errors.as_slice() == wanted);
-    }
-    for format in ["csv", "json", "hledger"] {
-        let words = ["ledger_tool", "balances", "office", "--format", format];
-        let (end, errors) = ended(rt.alloc(), &words, ErrorKind::StorageFull)?;
-        assert!(rt; end == End::Failed && errors.as_slice() == wanted);
-    }
+    assert!(rt;
+        end == End::Failed && errors.as_slice() == wanted,
+        "{words:?}"
+    );
     Ok(())
 }
 
 #[test]
-fn a_meter_writes_over_its_line(rt: HostRuntime) {
-    let alloc = rt.alloc();
-    let mut errors = Vec::new(alloc);
-    let mut meter = Meter::over(alloc, &mut errors, true);
-    for records in [0, 1, 65_535, 65_536] {
-        meter.reached(records, 100_000);
+fn an_output_that_is_closed_or_full_ends_each_command(rt: HostRuntime) -> Result<(), Fail> {
+    ends(&rt, rt.alloc(), &["ledger_tool", "check", "office"])?;
+    for command in ["journal", "balances"] {
+        for format in ["table", "csv", "json", "hledger"] {
+            let words = ["ledger_tool", command, "office", "--format", format];
+            ends(&rt, rt.alloc(), &words)?;
+        }
     }
-    meter.end();
-    assert!(rt;
-        errors.as_slice() == b"\r0 of 100000 records\r65536 of 100000 records\r\x1b[K".as_slice()
-    );
-    let mut errors = Vec::new(alloc);
-    let mut meter = Meter::over(alloc, &mut errors, false);
-    meter.reached(0, 100_000);
-    meter.end();
-    assert!(rt; errors.is_empty());
+    Ok(())
 }

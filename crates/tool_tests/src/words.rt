@@ -1,19 +1,9 @@
 //! The words of the command line.
-use std::alloc::Global;
-use std::fs::{File, Files};
-use std::process::Abort;
-use std::test::Fail;
-use tool_engine::{Locking, Task, read_request, run_tool, tell_not_text};
-
-// What the program prints and ends with, if it needs no file.
-fn program<F: Files<File = File>>(rt: &F, alloc: Global, words: &[&str]) -> (u8, Vec<u8>, Vec<u8>) {
-    let (mut output, mut errors) = (Vec::new(alloc), Vec::new(alloc));
-    let status = run_tool(rt, alloc, words, &mut output, &mut errors, false);
-    (status, output, errors)
-}
+use tool_engine::{run_tool, tell_not_text};
 
 #[test]
 fn wrong_words_are_told(rt: HostRuntime) {
+    let alloc = rt.alloc();
     let table = [
         (
             ["journal", "office", "--from", "x"],
@@ -51,7 +41,8 @@ fn wrong_words_are_told(rt: HostRuntime) {
     for (asked, wanted) in table {
         let [command, first, second, third] = asked;
         let words = ["ledger_tool", command, first, second, third];
-        let (status, output, errors) = program(&rt, rt.alloc(), &words);
+        let (mut output, mut errors) = (Vec::new(alloc), Vec::new(alloc));
+        let status = run_tool(&rt, alloc, &words, &mut output, &mut errors, false);
         assert!(rt; (status, output.len()) == (2, 0), "{wanted}");
         assert!(rt;
             errors.as_slice().starts_with(wanted.as_bytes()),
@@ -61,35 +52,9 @@ fn wrong_words_are_told(rt: HostRuntime) {
 }
 
 #[test]
-fn without_a_command_the_words_are_wrong(rt: HostRuntime) {
-    let (status, output, errors) = program(&rt, rt.alloc(), &["ledger_tool"]);
-    assert!(rt; (status, output.len(), errors.is_empty()) == (2, 0, false));
-    let (status, output, errors) = program(&rt, rt.alloc(), &["ledger_tool", "check"]);
-    assert!(rt; (status, output.len(), errors.is_empty()) == (2, 0, false));
-    let (status, output, errors) = program(&rt, rt.alloc(), &["ledger_tool", "--help"]);
-    assert!(rt; (status, output.is_empty(), errors.len()) == (0, false, 0));
-}
-
-#[test]
 fn a_word_that_is_no_text_is_wrong(rt: HostRuntime) {
     let alloc = rt.alloc();
     let (mut output, mut errors) = (Vec::new(alloc), Vec::new(alloc));
     let status = tell_not_text(alloc, &mut output, &mut errors);
     assert!(rt; (status, output.len(), errors.is_empty()) == (2, 0, false));
-}
-
-#[test]
-fn words_are_read_as_a_request(rt: HostRuntime) -> Result<(), Fail> {
-    let alloc = rt.alloc();
-    let Ok(asked) = read_request(alloc, &["ledger_tool", "check", "office", "-q"]) else {
-        return Err(Fail::from("wrong words"));
-    };
-    assert!(rt; asked.path == "office" && asked.locking == Locking::Shared);
-    assert!(rt; matches!(asked.task, Task::Check { quiet: true }));
-    let Ok(asked) = read_request(alloc, &["ledger_tool", "check", "--unlocked", "office"]) else {
-        return Err(Fail::from("wrong words"));
-    };
-    assert!(rt; asked.path == "office" && asked.locking == Locking::Unlocked);
-    assert!(rt; matches!(asked.task, Task::Check { quiet: false }));
-    Ok(())
 }

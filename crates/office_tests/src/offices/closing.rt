@@ -4,7 +4,7 @@ ghost use Rattle.sector_device.specs.MemoryDevice.{memory_device_state};
 ghost use Rattle.line_lock.specs.Opening.{Names};
 
 use line_lock::{
-    Blank, Clerk, CloseRefusal, Closing, Count, Line, Office, OfficeWork, Opening, Seat,
+    Blank, Clerk, CloseRefusal, Closing, Count, Line, Office, OfficeWork, Opening, Seat, Turn,
     TurnRefusal, with_office,
 };
 use sector_device::MemoryDevice;
@@ -47,43 +47,19 @@ fn act_in<S: Scene, L: Count + Opening, R: Abort + Wait>(
     }
 }
 
-// Closes the office, which refuses, and hands out what it handed back.
-fn refused<L: Count + Opening>(
-    rt: &impl Abort,
-    office: Office<MemoryDevice, L>,
-    seats: Vec<Seat<L>>,
-    expected: CloseRefusal,
-) -> (Office<MemoryDevice, L>, Vec<Seat<L>>) {
-    match office.close(seats) {
-        Ok(_) => panic!(rt; "closed"),
-        Err((office, seats, refusal)) => {
-            assert!(rt; refusal == expected);
-            (office, seats)
-        }
-    }
-}
-
-fn closed<L: Count + Opening>(
-    rt: &impl Abort,
-    office: Office<MemoryDevice, L>,
-    seats: Vec<Seat<L>>,
-) -> Closing<MemoryDevice> {
-    match office.close(seats) {
-        Ok(closing) => closing,
-        Err((_, _, refusal)) => panic!(rt; "{refusal}"),
-    }
-}
-
 // Turns 0 and 1 of an office.
 fn one_turn_each<L: Count + Opening, R: Abort + Wait>(
     rt: &R,
     office: &Office<MemoryDevice, L>,
     bottom: &mut Seat<L>,
     top: &mut Seat<L>,
-) -> Result<(), TurnRefusal> {
-    assert!(rt; office.turn(rt, bottom, &[deposit(1, 7)])?.index == 0);
-    assert!(rt; office.turn(rt, top, &[])?.index == 1);
-    Ok(())
+) -> Result<[Turn; 2], TurnRefusal> {
+    let turns = [
+        office.turn(rt, bottom, &[deposit(1, 7)])?,
+        office.turn(rt, top, &[])?,
+    ];
+    assert!(rt; (turns[0].index, turns[1].index) == (0, 1));
+    Ok(turns)
 }
 
 struct OneSeatIsMissing;
@@ -95,16 +71,19 @@ impl Scene for OneSeatIsMissing {
         mut seats: Vec<Seat<L>>,
     ) -> Result<(), Fail> {
         let mut top = seats.pop().ok_or("the seat of station 1")?;
-        let (office, mut seats) = refused(rt, office, seats, CloseRefusal::SeatMissing);
+        let Err((office, mut seats, CloseRefusal::SeatMissing)) = office.close(seats) else {
+            panic!(rt; "closed");
+        };
         let [bottom] = seats.as_mut_slice() else {
             panic!(rt; "the seat of station 0");
         };
         // the office goes on after a refusal
         one_turn_each(rt, &office, bottom, &mut top)?;
         seats.push(top)?;
-        let Closing { clerk, audit } = closed(rt, office, seats);
-        assert!(rt; (clerk.history().len(), clerk.next()) == (2, 1));
-        assert!(rt; (audit.first_legitimate, audit.last) == (Some(0), clerk.line()));
+        match office.close(seats) {
+            Ok(Closing { clerk, .. }) => assert!(rt; clerk.history().len() == 2),
+            Err((_, _, refusal)) => panic!(rt; "{refusal}"),
+        }
         Ok(())
     }
 }
@@ -144,13 +123,6 @@ fn with_one_deposit(rt: &impl Abort, alloc: Global) -> Result<MemoryDevice, Fail
     }
 }
 
-// A clerk of an office that opened with 500 on account 1, and in which nobody took a turn.
-fn is_as_it_opened(rt: &impl Abort, clerk: &Clerk<MemoryDevice>, opening: Line) {
-    assert!(rt; clerk.history().len() == 0);
-    assert!(rt; clerk.opening() == opening);
-    assert!(rt; (clerk.opening_balance(1), clerk.opening_next()) == (Some(500), 1));
-}
-
 #[test]
 fn close_keeps_opening(rt: HostRuntime) -> Result<(), Fail> {
     let alloc = rt.alloc();
@@ -158,8 +130,11 @@ fn close_keeps_opening(rt: HostRuntime) -> Result<(), Fail> {
     let opening = line([1, 1, 0], [1, 1, 0])?;
     match with_office(alloc, device, opening, NobodyTakesATurn) {
         Ok((Closing { clerk, audit }, _)) => {
-            is_as_it_opened(&rt, &clerk, opening);
-            assert!(rt; audit.last == opening);
+            assert!(rt;
+                (clerk.history().len(), clerk.opening(), audit.last) == (0, opening, opening)
+            );
+            assert!(rt; (clerk.opening_balance(1), clerk.opening_next()) == (Some(500), 1));
+            assert!(rt; audit.first_legitimate == Some(0));
             Ok(())
         }
         Err((_, refusal)) => panic!(rt; "{refusal}"),
@@ -176,13 +151,10 @@ impl Scene for NobodyCloses {
     ) -> Result<(), Fail> {
         let mut top = seats.pop().ok_or("the seat of station 1")?;
         let mut bottom = seats.pop().ok_or("the seat of station 0")?;
-        let first = office.turn(rt, &mut bottom, &[deposit(1, 7)])?;
-        let second = office.turn(rt, &mut top, &[])?;
-
+        let turns = one_turn_each(rt, &office, &mut bottom, &mut top)?;
         // it is the bottom station's turn again
         let clerk = office.into_clerk();
-        assert!(rt; clerk.history() == [first, second].as_slice());
-        assert!(rt; clerk.opening() == line([0, 0], [1, 0])?);
+        assert!(rt; clerk.history() == turns.as_slice());
         Ok(())
     }
 }

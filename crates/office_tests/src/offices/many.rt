@@ -1,8 +1,6 @@
-//! Many turns in one office, and what its seats show then.
+//! Many turns in one office.
 
-use line_lock::{
-    Closing, Count, Office, OfficeWork, Opening, Seat, TurnRefusal, WithinRefusal, with_office,
-};
+use line_lock::{Closing, Count, Office, OfficeWork, Opening, Seat, TurnRefusal, with_office};
 use sector_device::MemoryDevice;
 use std::process::Abort;
 use std::sync::Wait;
@@ -11,10 +9,7 @@ use test_scenes::{formatted, line};
 
 const TURNS: u64 = 70_000;
 
-const SHOWN: &str =
-    "Seat { station: 0, turns: 70000, denied: None, reached: 0, .. } Seat { station: 1, turns: 70000, denied: Some(140000), reached: 5, .. }";
-
-// Each of two seats takes so many turns, and then shows them.
+// Each of two seats takes so many turns.
 #[derive(Drop)]
 struct SeventyThousandTurnsEach<'a, R> {
     rt: &'a R,
@@ -31,7 +26,6 @@ impl<'a, R: Abort + Wait> OfficeWork<MemoryDevice> for SeventyThousandTurnsEach<
         mut seats: Vec<Seat<L>>,
     ) -> Result<(Vec<Seat<L>>, ()), TurnRefusal> {
         let SeventyThousandTurnsEach { rt } = self;
-        let alloc = *seats.allocator();
         let [bottom, top] = seats.as_mut_slice() else {
             panic!(rt; "two seats");
         };
@@ -39,23 +33,8 @@ impl<'a, R: Abort + Wait> OfficeWork<MemoryDevice> for SeventyThousandTurnsEach<
             office.turn(rt, bottom, &[])?;
             office.turn(rt, top, &[])?;
         }
-        has_no_more_turns(rt, office, top);
-        let shown = format!(in alloc; "{bottom:?} {top:?}").expect(rt, "memory");
-        assert!(rt; shown.as_str() == SHOWN);
         Ok((seats, ()))
     }
-}
-
-// The bottom station has the privilege, and five turns are long taken.
-fn has_no_more_turns<L: Count + Opening, R: Abort + Wait>(
-    rt: &R,
-    office: &Office<MemoryDevice, L>,
-    top: &mut Seat<L>,
-) {
-    let denied = Some(WithinRefusal::Turn(TurnRefusal::NotPrivileged));
-    assert!(rt; office.turn_within(rt, top, &[], 3 * TURNS).err() == denied);
-    let reached = Some(WithinRefusal::Reached);
-    assert!(rt; office.turn_within(rt, top, &[], 5).err() == reached);
 }
 
 #[test]

@@ -11,9 +11,7 @@ use std::test::Fail;
 use std::thread::yield_now;
 use test_scenes::{deposit, formatted, line};
 
-const LOOKS: u32 = 100_000_000;
-
-// Gives leave to the held sync when station 1 has gathered for the first time, and then looks whether it has begun.
+// Gives leave to the held sync when station 1 has gathered for the first time, and then looks until it has begun.
 #[derive(Drop)]
 struct BesideSync {
     flags: Arc<HeldFlags, Global>,
@@ -28,7 +26,7 @@ impl Gate for BesideSync {
         }
         self.asked.store(true, Ordering::SeqCst);
         self.flags.go.store(true, Ordering::SeqCst);
-        for look in 0..LOOKS {
+        for look in 0..u64::MAX {
             if self.flags.begun.load(Ordering::SeqCst) {
                 self.seen.store(true, Ordering::SeqCst);
                 return;

@@ -1,75 +1,103 @@
 //! Days as a library has them.
 use super::TRIES;
-use office_day::{Ask, Day, DayRefusal, End, HeldEntries, OpenRefusal, Outcome, run_day};
-use sector_device::{Device, MemoryDevice};
+use fault_injector::{OneFault, Op};
+use line_lock::Line;
+use office_day::{Ask, Day, Device, End, HeldEntries, Outcome, StationDay, TurnRefusal, run_day};
 use std::alloc::Global;
+use std::process::Abort;
+use std::sync::Wait;
 use std::test::Fail;
+use std::thread::Threads;
 use test_scenes::{deposit, formatted, line};
 
-// What two stations hold: the bottom one a deposit.
-fn held(alloc: Global) -> Result<[HeldEntries; 2], Fail> {
-    let mut held = [HeldEntries::new(alloc)?, HeldEntries::new(alloc)?];
-    held[0].keep(deposit(1, 5)).ok_or("a place")?;
-    Ok(held)
+// A day of stations that each hold a deposit of their amount to account 1, or nothing for 0.
+pub(super) fn day_of<D: Device + Send + Drop, R: Abort + Wait + Threads + Sync>(
+    rt: &R,
+    alloc: Global,
+    device: D,
+    line: Line,
+    amounts: &[u64],
+    moves: u64,
+) -> Result<Day<D>, Fail> {
+    let mut held = Vec::new(alloc);
+    for amount in amounts {
+        let mut one = HeldEntries::new(alloc)?;
+        if *amount > 0 {
+            one.keep(deposit(1, *amount)).ok_or("a place")?;
+        }
+        held.push(one)?;
+    }
+    assert!(rt; held.len() == line.stations() as usize);
+    match run_day(rt, alloc, device, line, held.as_slice(), moves, TRIES) {
+        Ok(day) => Ok(day),
+        Err((_, refusal)) => panic!(rt; "{refusal}"),
+    }
+}
+
+// The station ended so, with one answer.
+fn answered(rt: &impl Abort, station: &StationDay, end: End, outcome: Outcome) {
+    assert!(rt; (station.end, station.answers.len(), station.unanswered.len()) == (end, 1, 0));
+    assert!(rt; (station.answers[0].ticket, station.answers[0].outcome) == (0, outcome));
 }
 
 #[test]
 fn a_day_accounts_for_each_request(rt: HostRuntime) -> Result<(), Fail> {
     let alloc = rt.alloc();
     let line = line([0, 0], [1, 0])?;
-    let device = formatted(alloc, 4)?;
-    let held = held(alloc)?;
-    assert!(rt; held.len() == line.stations() as usize);
-    let day = match run_day(&rt, alloc, device, line, &held, 3, TRIES) {
-        Ok(day) => day,
-        Err((_, refusal)) => panic!(rt; "{refusal}"),
-    };
     let Day {
         clerk,
         audit,
         stations,
-    } = day;
+    } = day_of(&rt, alloc, formatted(alloc, 4)?, line, &[5, 6], 3)?;
     assert!(rt; (clerk.history().len(), audit.first_legitimate) == (3, Some(0)));
-    assert!(rt; clerk.ledger().balance(1) == Some(5));
-    assert!(rt; stations.len() == 2);
-    assert!(rt; (stations[0].end, stations[1].end) == (End::Reached, End::Reached));
-    assert!(rt; stations[0].answers.len() == 1);
-    assert!(rt; stations[0].answers[0].outcome == Outcome::Posted(0));
-    assert!(rt; stations[0].unanswered.is_empty() && stations[1].answers.is_empty());
+    assert!(rt; (clerk.ledger().balance(1), stations.len()) == (Some(11), 2));
+    answered(&rt, &stations[0], End::Reached, Outcome::Posted(0));
+    answered(&rt, &stations[1], End::Reached, Outcome::Posted(1));
     Ok(())
 }
 
+// The station was told of the fault, or found it, and its deposit has no answer.
+fn unanswered(rt: &impl Abort, station: &StationDay, amount: u64) {
+    let ends = [End::Stopped, End::Refused(TurnRefusal::Faulted)];
+    assert!(rt; ends.contains(&station.end) && station.answers.is_empty());
+    let ask = Ask {
+        ticket: 0,
+        entry: deposit(1, amount),
+    };
+    assert!(rt; station.unanswered.as_slice() == [ask].as_slice());
+}
+
+// The opening syncs once, and then the body of the first record is synced: its gate is never written.
 #[test]
-fn a_day_that_can_not_be_opened_gives_the_device_back(rt: HostRuntime) -> Result<(), Fail> {
+fn a_station_on_a_failed_device_stops_the_others(rt: HostRuntime) -> Result<(), Fail> {
     let alloc = rt.alloc();
-    let line = line([0, 0], [1, 0])?;
-    let device = MemoryDevice::new(alloc, 9)?;
-    let held = held(alloc)?;
-    assert!(rt; held.len() == line.stations() as usize);
-    match run_day(&rt, alloc, device, line, &held, 3, TRIES) {
-        Ok(_) => panic!(rt; "a day on a device without a journal"),
-        Err((device, refusal)) => {
-            assert!(rt; refusal == DayRefusal::Opening(OpenRefusal::Unformatted));
-            assert!(rt; device.sectors() == 9);
-        }
-    }
+    let device = OneFault::new(formatted(alloc, 4)?, Op::Sync, 1);
+    let line = line([0, 0, 0], [1, 0, 0])?;
+    let Day {
+        clerk,
+        stations,
+        ..
+    } = day_of(&rt, alloc, device, line, &[5, 6, 7], 8)?;
+    assert!(rt; clerk.history().is_empty() && clerk.is_faulted() && stations.len() == 3);
+    let failed = End::Refused(TurnRefusal::Device);
+    answered(&rt, &stations[0], failed, Outcome::Undecided);
+    unanswered(&rt, &stations[1], 6);
+    unanswered(&rt, &stations[2], 7);
     Ok(())
 }
 
-// More requests than a station may hold: the first sixteen are kept.
 #[test]
-fn what_is_held_again_has_sixteen_places(rt: HostRuntime) -> Result<(), Fail> {
+fn of_more_requests_than_a_station_may_hold_the_first_sixteen_are_kept(
+    rt: HostRuntime,
+) -> Result<(), Fail> {
     let mut held = HeldEntries::new(rt.alloc())?;
-    held.keep(deposit(9, 9)).ok_or("a place")?;
     let mut asks = [Ask {
         ticket: 0,
         entry: deposit(1, 1),
     }; 17];
     asks[15].entry = deposit(2, 2);
-    held.keep_all(&asks[..2]);
-    assert!(rt; held.as_slice().len() == 2);
     held.keep_all(&asks);
-    assert!(rt; held.as_slice().len() == 16);
-    assert!(rt; held.as_slice().last() == Some(&deposit(2, 2)));
+    let kept = held.as_slice();
+    assert!(rt; (kept.len(), kept.last()) == (16, Some(&deposit(2, 2))));
     Ok(())
 }

@@ -1,7 +1,7 @@
 //! Days of many stations, and of many turns.
-use super::TRIES;
+use super::day::day_of;
 use line_lock::Line;
-use office_day::{End, HeldEntries, run_day};
+use office_day::End;
 use std::alloc::Global;
 use std::process::Abort;
 use std::sync::Wait;
@@ -17,28 +17,16 @@ fn empty_day<R: Abort + Wait + Threads + Sync>(
     line: Line,
     moves: u64,
 ) -> Result<usize, Fail> {
-    let mut held = Vec::new(alloc);
-    for _ in 0..line.stations() {
-        held.push(HeldEntries::new(alloc)?)?;
-    }
-    assert!(rt; held.len() == line.stations() as usize);
-    let day = match run_day(
-        rt,
-        alloc,
-        formatted(alloc, 4)?,
-        line,
-        held.as_slice(),
-        moves,
-        TRIES,
-    ) {
-        Ok(day) => day,
-        Err((_, refusal)) => panic!(rt; "{refusal}"),
-    };
-    assert!(rt; day.clerk.history().len() as u64 == moves);
-    assert!(rt; day.stations.len() == line.stations() as usize);
-    for station in &day.stations {
-        assert!(rt; station.end == End::Reached);
-    }
+    let stations = line.stations() as usize;
+    let none = [0; 64];
+    let amounts = none.get(..stations).ok_or("64 stations at most")?;
+    let day = day_of(rt, alloc, formatted(alloc, 4)?, line, amounts, moves)?;
+    assert!(rt; (day.clerk.history().len() as u64, day.stations.len()) == (moves, stations));
+    assert!(rt;
+        day.stations
+            .iter()
+            .all(|station| station.end == End::Reached)
+    );
     let bottom = day.clerk.history().iter().filter(|turn| turn.station == 0);
     Ok(bottom.count())
 }
@@ -48,14 +36,12 @@ fn empty_day<R: Abort + Wait + Threads + Sync>(
 fn sixty_four_stations_have_a_thread_each(rt: HostRuntime) -> Result<(), Fail> {
     let mut up = [0; 64];
     up[0] = 1;
-    let bottom = empty_day(&rt, rt.alloc(), line([0; 64], up)?, 200)?;
-    assert!(rt; bottom == 2);
+    assert!(rt; empty_day(&rt, rt.alloc(), line([0; 64], up)?, 200)? == 2);
     Ok(())
 }
 
 #[test]
 fn a_station_takes_seventeen_thousand_turns_in_a_day(rt: HostRuntime) -> Result<(), Fail> {
-    let bottom = empty_day(&rt, rt.alloc(), line([0, 0], [1, 0])?, 34_000)?;
-    assert!(rt; bottom == 17_000);
+    assert!(rt; empty_day(&rt, rt.alloc(), line([0, 0], [1, 0])?, 34_000)? == 17_000);
     Ok(())
 }

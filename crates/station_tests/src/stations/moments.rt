@@ -8,11 +8,9 @@ use std::test::Fail;
 use std::thread::yield_now;
 use test_scenes::{deposit, line};
 
-const LOOKS: u32 = 1_000_000;
-
-// Waits until there are so many, or for a while where there never are.
+// Waits until there are so many, however long other threads take.
 fn wait_for(count: &AtomicU64, many: u64) {
-    for _ in 0..LOOKS {
+    for _ in 0..u64::MAX {
         if count.load(Ordering::SeqCst) >= many {
             return;
         }
@@ -146,39 +144,40 @@ fn tries_begin_anew_with_a_turn(rt: HostRuntime) -> Result<(), Fail> {
 }
 
 // After a turn of station 0 of three station 1 moves up and down again, which gives station 0 the privilege anew, and
-// asks in vain. Station 0 waits long enough for it to end.
+// asks in vain. Station 0 waits until it has ended.
 #[derive(Drop)]
 struct PrivilegedAnew {
-    gathered: AtomicU64,
-    answered: AtomicU64,
+    answers: AtomicU64,
+    ends: AtomicU64,
 }
 
 impl Gate for PrivilegedAnew {
     fn gathered(&self, station: u8) {
         if station == 1 {
-            wait_for(&self.answered, 1);
-            self.gathered.fetch_add(1, Ordering::SeqCst);
+            wait_for(&self.answers, 1);
         }
     }
 
     fn answered(&self, station: u8) {
         if station == 0 {
-            self.answered.fetch_add(1, Ordering::SeqCst);
-            wait_for(&self.gathered, 3);
-            for _ in 0..LOOKS {
-                yield_now();
-            }
+            self.answers.fetch_add(1, Ordering::SeqCst);
+            wait_for(&self.ends, 1);
+        }
+    }
+
+    fn ended(&self, station: u8) {
+        if station == 1 {
+            self.ends.fetch_add(1, Ordering::SeqCst);
         }
     }
 }
 
-// Where station 1 runs before station 0 can begin, station 0 has no turn at all.
 #[test]
 fn a_station_that_gives_up_stops_one_that_is_privileged(rt: HostRuntime) -> Result<(), Fail> {
     let alloc = rt.alloc();
     let gate = PrivilegedAnew {
-        gathered: AtomicU64::new(0),
-        answered: AtomicU64::new(0),
+        answers: AtomicU64::new(0),
+        ends: AtomicU64::new(0),
     };
     let line = line([0, 0, 1], [1, 0, 0])?;
     let run = PartRun {
@@ -192,6 +191,6 @@ fn a_station_that_gives_up_stops_one_that_is_privileged(rt: HostRuntime) -> Resu
 
     assert!(rt; left.len() == 2);
     assert!(rt; (left[0].end, left[1].end) == (End::Stopped, End::Tries));
-    assert!(rt; left[0].turns.len() < 2);
+    assert!(rt; (left[0].turns.len(), left[1].turns.len()) == (1, 2));
     Ok(())
 }
