@@ -1,7 +1,6 @@
 //! What a station does when, as a gate sees it.
 use super::runs::{PartRun, desks, played};
-use station_desk::{Desk, End, Feed, Gate, desk};
-use std::alloc::Global;
+use station_desk::{End, Feed, Gate, desk};
 use std::sync::Mutex;
 use std::sync::atomic::{AtomicU64, Ordering};
 use std::test::Fail;

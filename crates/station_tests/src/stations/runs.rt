@@ -2,7 +2,7 @@
 ghost use Rattle.sector_device.specs.MemoryDevice.{memory_device_state};
 ghost use Rattle.line_lock.specs.Opening.{Names};
 
-use line_lock::{Blank, Count, Line, Office, Opening, Seat, Turn};
+use line_lock::{Blank, Count, Line, Office, Opening, Turn};
 use sector_device::MemoryDevice;
 use station_desk::{Desk, End, Gate, Station, desk, run_stations};
 use std::alloc::{AllocError, Global};
