@@ -62,7 +62,8 @@ def owner_of(header):
     trait_name, _, type_name = head.partition(" for ")
     parameters = "".join(joined(word) for word in re.findall(r"<(.*)>$", trait_name))
     shown = re.sub(r"'\w+ ", "", without_parameters(type_name))
-    return joined(type_name) + joined(trait_name) + parameters, f"<{shown} as {re.sub(r'<$', '', trait_name)}>"
+    last = without_parameters(trait_name).rpartition("::")[2]
+    return joined(type_name) + last + parameters, f"<{shown} as {re.sub(r'<$', '', trait_name)}>"
 
 
 def head_from(lines, start):

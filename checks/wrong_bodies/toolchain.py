@@ -43,7 +43,8 @@ def library(tree, name):
 
 
 def check_words(tree, crate, kept, aims):
-    """The command that proves of a crate, in whose folder it is run, these functions alone, or all without any."""
+    """The command that proves of a crate, in whose folder it is run, these functions alone, beside holes for the proofs of others,
+    or all without any."""
     used, rlibs = libraries_of(tree), kit() / "rlibs"
     root = "main" if (tree / "crates" / crate / "src" / "main.rt").is_file() else "lib"
     words = [str(kit() / "bin" / "rattle"), "check", "--crate-name", crate, f"src/{root}.rt"]
@@ -54,6 +55,7 @@ def check_words(tree, crate, kept, aims):
     logic = kit() / "rattle" / "logic" / "antt-project.json"
     words += ["--antt-project", str(logic), "--logic-built", str(kit() / "logic_built")]
     words += ["--links", f"{crate}=", "--jobs", "1", "--incremental", str(kept)]
+    words += ["--allow-holes"] if aims else []
     for aim in aims:
         words += ["--only", aim]
     return words

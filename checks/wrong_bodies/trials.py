@@ -13,6 +13,7 @@ import toolchain
 import verdicts
 from edits import BadEdit, made, places_of
 from places import path_at
+from stubs import leave_out
 
 # So few edits are tried at once that no processor is left alone with many of them.
 MOST_AT_ONCE = 16
@@ -173,6 +174,8 @@ class Trial:
                     shutil.copytree(crate / part, Path(room) / part)
             for file, text in batch.texts.items():
                 (Path(room) / file).write_text(text, encoding="utf-8")
+            if aims:
+                leave_out(Path(room), batch.crate, aims)
             words = toolchain.check_words(self.tree, batch.crate, kept, aims)
             ran = subprocess.run(words, cwd=room, stdin=subprocess.DEVNULL, stdout=subprocess.PIPE,
                                  stderr=subprocess.STDOUT, errors="replace", process_group=self.group)

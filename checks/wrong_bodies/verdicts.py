@@ -9,7 +9,8 @@ GOAL = re.compile(r"`([^`]+)`")
 UNPROVED = re.compile(r"`search` did not prove ((?:`[^`]+`(?:, | and )?)+)")
 NOTED = re.compile(r"^note: (?:\./)?(src/\S+?):(\d+):\d+: it is not proved that .*?\(`([^`]+)`\)", re.MULTILINE)
 NAMES_WHAT_IS_GONE = re.compile(r"has no field|is not in scope|has no `|was not admitted|is no name")
-ENDED = re.compile(r"^(?:only=\d+ proved=\d+|logic=(?:not-)?proved\b.*)$", re.MULTILINE)
+PROVED = re.compile(r"proved\b|no holes\b|depends on a hole\b")
+ENDED = re.compile(r"^(?:only=\d+ holes=\d+|logic=(?:not-)?proved\b.*)$", re.MULTILINE)
 UNREADABLE = re.compile(r"^(?:\./)?(?:src|specs)/\S+:\d+:\d+: error\b.*$|^error\b.*$", re.MULTILINE)
 
 
@@ -33,7 +34,7 @@ def verdicts_of(output, path_at):
     found = defaultdict(Verdict)
     for path, said in TOLD.findall(output):
         verdict = found[plain(path)]
-        verdict.is_proved, verdict.said = re.match(r"proved\b", said) is not None, said
+        verdict.is_proved, verdict.said = PROVED.match(said) is not None, said
         for goals in UNPROVED.findall(said):
             verdict.goals += GOAL.findall(goals)
     for path, said in ANSWER.findall(output):
