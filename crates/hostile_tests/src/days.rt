@@ -29,9 +29,6 @@ const SYNCS: u64 = 1 + 2 * 2 + 2;
 
 const CALLS: u64 = READS + WRITES + SYNCS;
 
-// How many outcomes of a power loss there are for all places of a fault.
-const OUTCOMES: u32 = 4230;
-
 // What clients were told: the sums of the deposits posted and of those undecided, and how many batches stand at least.
 #[derive(Clone, Copy)]
 struct Told {
@@ -187,24 +184,94 @@ fn a_day_without_a_fault_posts_all(rt: HostRuntime) -> Result<(), Fail> {
     Ok(())
 }
 
-#[test]
-fn what_clients_were_told_outlives_a_stop_at_each_call(rt: HostRuntime) -> Result<(), Fail> {
+// How many outcomes there are of a device that stops at each of these calls.
+fn after_stops<R: Abort + Wait + Threads + Sync>(
+    rt: &R,
+    alloc: Global,
+    (first, behind): (u64, u64),
+) -> Result<u32, Fail> {
     let mut all = 0u32;
-    for at in 0..CALLS {
-        all = all.saturating_add(lose_power(&rt, rt.alloc(), Fails::From(Op::Any, at))?);
+    for at in first..behind {
+        all = all.saturating_add(lose_power(rt, alloc, Fails::From(Op::Any, at))?);
     }
-    assert!(rt; all == OUTCOMES);
+    Ok(all)
+}
+
+// How many there are of one that fails at each of these calls of a kind.
+fn after_faults<R: Abort + Wait + Threads + Sync>(
+    rt: &R,
+    alloc: Global,
+    op: Op,
+    (first, behind): (u64, u64),
+) -> Result<u32, Fail> {
+    let mut all = 0u32;
+    for at in first..behind {
+        all = all.saturating_add(lose_power(rt, alloc, Fails::Once(op, at))?);
+    }
+    Ok(all)
+}
+
+// Each pending sector is left in four ways, and of more than four the two lowest and the two highest are: so 256 outcomes
+// are the most. The checkpoint's head is write 2 and call 28; 4 sectors are pending from write 6 and call 32 on, up to its
+// sync, which is call 47. Before that there are 119 outcomes of a stop, and behind it 15.
+const MOST: u32 = 256;
+
+#[test]
+fn what_clients_were_told_outlives_a_stop_before_a_checkpoint(rt: HostRuntime) -> Result<(), Fail> {
+    assert!(rt; after_stops(&rt, rt.alloc(), (0, 36))? == 119 + 4 * MOST);
     Ok(())
 }
 
 #[test]
-fn what_clients_were_told_outlives_a_fault_of_each_call(rt: HostRuntime) -> Result<(), Fail> {
-    let mut all = 0u32;
-    for (op, calls) in [(Op::Read, READS), (Op::Write, WRITES), (Op::Sync, SYNCS)] {
-        for at in 0..calls {
-            all = all.saturating_add(lose_power(&rt, rt.alloc(), Fails::Once(op, at))?);
-        }
-    }
-    assert!(rt; all == OUTCOMES);
+fn what_clients_were_told_outlives_a_stop_early_in_a_checkpoint(
+    rt: HostRuntime,
+) -> Result<(), Fail> {
+    assert!(rt; after_stops(&rt, rt.alloc(), (36, 40))? == 4 * MOST);
+    Ok(())
+}
+
+#[test]
+fn what_clients_were_told_outlives_a_stop_late_in_a_checkpoint(
+    rt: HostRuntime,
+) -> Result<(), Fail> {
+    assert!(rt; after_stops(&rt, rt.alloc(), (40, 44))? == 4 * MOST);
+    Ok(())
+}
+
+#[test]
+fn what_clients_were_told_outlives_a_stop_behind_a_checkpoint(rt: HostRuntime) -> Result<(), Fail> {
+    assert!(rt; after_stops(&rt, rt.alloc(), (44, CALLS))? == 4 * MOST + 15);
+    Ok(())
+}
+
+// Nothing is pending at a read or at the opening's sync. Of the other syncs five have one sector pending.
+#[test]
+fn what_clients_were_told_outlives_a_fault_of_each_read_and_sync(
+    rt: HostRuntime,
+) -> Result<(), Fail> {
+    assert!(rt; after_faults(&rt, rt.alloc(), Op::Read, (0, READS))? == READS as u32);
+    assert!(rt; after_faults(&rt, rt.alloc(), Op::Sync, (0, SYNCS))? == 1 + 5 * 4 + MOST);
+    Ok(())
+}
+
+// At the first writes 0, 0, 0, 1, 2 and 3 sectors are pending.
+#[test]
+fn what_clients_were_told_outlives_a_fault_of_the_first_writes(
+    rt: HostRuntime,
+) -> Result<(), Fail> {
+    assert!(rt; after_faults(&rt, rt.alloc(), Op::Write, (0, 9))? == 3 + 4 + 16 + 64 + 3 * MOST);
+    Ok(())
+}
+
+#[test]
+fn what_clients_were_told_outlives_a_fault_of_the_next_writes(rt: HostRuntime) -> Result<(), Fail> {
+    assert!(rt; after_faults(&rt, rt.alloc(), Op::Write, (9, 14))? == 5 * MOST);
+    Ok(())
+}
+
+// Behind the checkpoint's slot gate nothing is pending at a write.
+#[test]
+fn what_clients_were_told_outlives_a_fault_of_the_last_writes(rt: HostRuntime) -> Result<(), Fail> {
+    assert!(rt; after_faults(&rt, rt.alloc(), Op::Write, (14, WRITES))? == 7 * MOST + 3);
     Ok(())
 }

@@ -20,4 +20,6 @@ mod plain;
 #[cfg(test)]
 mod power;
 #[cfg(test)]
+mod replaced_bytes;
+#[cfg(test)]
 mod stops;

@@ -13,20 +13,11 @@ mod tries;
 
 use line_lock::{Closing, Count, Office, Opening, Seat};
 use sector_device::Device;
-use station_desk::{End, Feed, Gate, Reconciled, Station, desk, reconcile};
+use station_desk::{End, Feed, Reconciled, Station, desk, reconcile};
 use std::alloc::{AllocError, Global};
 use std::process::Abort;
 
 const TRIES: u64 = 100_000_000;
-
-// Tells nobody.
-struct NoGate;
-
-impl Gate for NoGate {
-    fn gathered(&self, _station: u8) {}
-
-    fn answered(&self, _station: u8) {}
-}
 
 // A feed for each seat, and the stations that serve them.
 fn seated<L: Count>(

@@ -6,17 +6,19 @@ ghost use Rattle.station_desk.specs.PairLaws.{AllStandAt};
 ghost use Rattle.station_desk.specs.Rings.{StandsAt};
 ghost use Rattle.station_desk.specs.Run.{HaveRun};
 
-use super::{NoGate, Remains, TRIES, closed, reconciled, seated};
+use super::{Remains, TRIES, closed, reconciled, seated};
 use line_lock::{Blank, Closing, Count, Line, Office, Opening};
 use sector_device::{Device, MemoryDevice};
-use station_desk::{Answer, End, Feed, Outcome, Reconciled, Station, run_stations};
+use station_desk::{
+    Answer, End, Errand, Feed, Gate, Outcome, Reconciled, Station, Turn, run_stations,
+};
 use std::alloc::Global;
 use std::marker::Brand;
 use std::process::Abort;
 use std::sync::Wait;
-use std::sync::atomic::{AtomicBool, Ordering};
+use std::sync::atomic::{AtomicBool, AtomicU64, Ordering};
 use std::test::Fail;
-use std::thread::{Threads, for_each_mut, join_mut, yield_now};
+use std::thread::{Parker, Threads, for_each_mut, join_mut, yield_now};
 use test_scenes::{deposit, formatted, line};
 
 const REQUESTS: u64 = 200;
@@ -97,6 +99,62 @@ fn work_all<R: Wait + Threads + Sync>(rt: &R, clients: &mut [Client], ended: &At
     for_each_mut(rt, clients, 2, &|_, client| client.work(rt, ended));
 }
 
+// Lets each of two stations sleep until the other one has taken its turn, and both go on once one has ended.
+#[derive(Drop)]
+struct InTurn {
+    turns: AtomicU64,
+    parkers: [Parker; 2],
+}
+
+impl InTurn {
+    fn new() -> InTurn {
+        InTurn {
+            turns: AtomicU64::new(0),
+            parkers: [Parker::new(), Parker::new()],
+        }
+    }
+
+    // Goes on to the next turn, or past all of them, and wakes both.
+    fn go_on(&self, turns: u64) {
+        self.turns.fetch_add(turns, Ordering::SeqCst);
+        for parker in &self.parkers {
+            parker.unpark();
+        }
+    }
+
+    // Whether a station has to wait, of whom the bottom one has the even turns.
+    fn waits(&self, station: u8) -> bool {
+        let turns = self.turns.load(Ordering::SeqCst);
+        turns < MOVES && turns % 2 != u64::from(station)
+    }
+}
+
+impl Gate for InTurn {
+    fn errand<R: Wait>(&self, rt: &R, station: u8) -> Errand {
+        if let Some(parker) = self.parkers.get(usize::from(station)) {
+            for _ in rt.forever() {
+                if !self.waits(station) {
+                    break;
+                }
+                parker.park(rt);
+            }
+        }
+        Errand::Turn
+    }
+
+    fn gathered(&self, _station: u8) {}
+
+    fn took(&self, _turn: &Turn) {
+        self.go_on(1);
+    }
+
+    fn answered(&self, _station: u8) {}
+
+    fn ended(&self, _station: u8) {
+        self.go_on(MOVES);
+    }
+}
+
 // Runs the stations, and beside them the clients until the stations have ended.
 fn run_beside<D: Device + Send, L: Count + Opening + Send + Sync, R: Wait + Threads + Sync>(
     rt: &R,
@@ -108,6 +166,7 @@ fn run_beside<D: Device + Send, L: Count + Opening + Send + Sync, R: Wait + Thre
     ensures stand { AllStandAt (map (λ client. client.feed) clients.old) (map (λ client. client.feed) clients.new) }
 {
     let ended = AtomicBool::new(false);
+    let gate = InTurn::new();
     // where no second thread can be made the stations come first, and the clients find that they have ended
     join_mut(
         rt,
@@ -117,7 +176,7 @@ fn run_beside<D: Device + Send, L: Count + Opening + Send + Sync, R: Wait + Thre
         &mut ||
             ensures { HaveRun L.device L.line stations.entry.now stations.exit.now MOVES (Unit {0}) }
         {
-            run_stations(rt, office, stations, &NoGate, MOVES, TRIES);
+            run_stations(rt, office, stations, &gate, MOVES, TRIES);
             ended.store(true, Ordering::SeqCst);
         },
     );

@@ -49,5 +49,5 @@ fn top_alone<R: Abort + Wait + Threads + Sync>(
 #[test]
 fn a_station_asks_once_more_than_it_may_be_refused(rt: HostRuntime) -> Result<(), Fail> {
     top_alone(&rt, rt.alloc(), 3)?;
-    top_alone(&rt, rt.alloc(), 70_000)
+    top_alone(&rt, rt.alloc(), 2_000)
 }
