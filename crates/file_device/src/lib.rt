@@ -5,7 +5,7 @@
 //! sync every later call fails. `ReadAhead` is the buffer that its reads go through: over any device it gives what that
 //! device gives.
 //!
-//! The test `reads_see_what_was_written` in `src/tests.rt` is an example.
+//! The test `a_file_is_made_and_grown_and_never_cut` in `src/tests.rt` is an example.
 #![tactic(auto)]
 
 mod buffer;
