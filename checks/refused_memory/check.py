@@ -28,9 +28,9 @@ OLDER = b"".join(bytes.fromhex(sector).ljust(512, b"\0") for sector in (
     "544c4447 0001 0000 0000000000000004",
     "544c4231 0000 0001" + 24 * "00" + "01000000 00000000 00000001 00000000 00000000000001f4 0000000000000003",
     "a5", "", "", "", "", "", ""))
-# How long a day is waited for, of which the stations ask 100,000,000 times before they give up where a thread is missing, and
-# anything else, which ends at once.
+# How long a day is waited for. The stations of one whose thread was refused ask 100,000,000 times before they give up.
 SECONDS_OF_A_DAY = 5
+# All else ends at once, and is waited for longer than any machine needs.
 SECONDS = 300
 IN_A_LINE = re.compile(rb"^(refused|station \d+) (Memory|Device)$")
 

@@ -3,7 +3,18 @@ use console_engine::{
     CloseRefusal, End, EndName, FormatRefusal, LineRefusal, OpenRefusal, Refusal, TurnRefusal,
 };
 use journal_recovery::Cause;
+use std::alloc::Global;
+use std::fmt::Display;
 use std::test::Fail;
+
+// What each of these is printed as, with a comma behind it.
+fn joined<T: Display>(alloc: Global, named: &[T]) -> Result<String, Fail> {
+    let mut names = String::new(alloc);
+    for one in named {
+        names.push_str(format!(in alloc; "{one}, ")?.as_str())?;
+    }
+    Ok(names)
+}
 
 fn damaged(slot: u64, cause: Cause) -> Refusal {
     Refusal::Open(OpenRefusal::Damaged { slot, cause })
@@ -46,12 +57,7 @@ fn every_refusal_has_its_name(rt: HostRuntime) -> Result<(), Fail> {
         Refusal::Close(CloseRefusal::SeatMissing),
         Refusal::Close(CloseRefusal::ForeignSeat),
     ];
-    let alloc = rt.alloc();
-    let mut names = String::new(alloc);
-    for refusal in refusals {
-        names.push_str(format!(in alloc; "{refusal}, ")?.as_str())?;
-    }
-    assert!(rt; names.as_str() == REFUSALS);
+    assert!(rt; joined(rt.alloc(), &refusals)?.as_str() == REFUSALS);
     Ok(())
 }
 
@@ -65,11 +71,7 @@ fn every_end_has_its_name(rt: HostRuntime) -> Result<(), Fail> {
         End::Refused(TurnRefusal::Exhausted),
         End::Refused(TurnRefusal::Device),
     ];
-    let alloc = rt.alloc();
-    let mut names = String::new(alloc);
-    for end in ends {
-        names.push_str(format!(in alloc; "{}, ", EndName(end))?.as_str())?;
-    }
+    let names = joined(rt.alloc(), &ends.map(EndName))?;
     assert!(rt; names.as_str() == "NotStarted, Reached, Stopped, Tries, Exhausted, Device, ");
     Ok(())
 }

@@ -184,94 +184,91 @@ fn a_day_without_a_fault_posts_all(rt: HostRuntime) -> Result<(), Fail> {
     Ok(())
 }
 
-// How many outcomes there are of a device that stops at each of these calls.
-fn after_stops<R: Abort + Wait + Threads + Sync>(
+impl Fails {
+    // The same at another call.
+    fn at(self, call: u64) -> Fails {
+        match self {
+            Fails::From(op, _) => Fails::From(op, call),
+            Fails::Once(op, _) => Fails::Once(op, call),
+        }
+    }
+}
+
+// How many outcomes there are of devices that fail like this one, from the first of these calls up to the second.
+fn outcomes<R: Abort + Wait + Threads + Sync>(
     rt: &R,
     alloc: Global,
+    fails: Fails,
     (first, behind): (u64, u64),
 ) -> Result<u32, Fail> {
     let mut all = 0u32;
-    for at in first..behind {
-        all = all.saturating_add(lose_power(rt, alloc, Fails::From(Op::Any, at))?);
+    for call in first..behind {
+        all = all.saturating_add(lose_power(rt, alloc, fails.at(call))?);
     }
     Ok(all)
 }
 
-// How many there are of one that fails at each of these calls of a kind.
-fn after_faults<R: Abort + Wait + Threads + Sync>(
-    rt: &R,
-    alloc: Global,
-    op: Op,
-    (first, behind): (u64, u64),
-) -> Result<u32, Fail> {
-    let mut all = 0u32;
-    for at in first..behind {
-        all = all.saturating_add(lose_power(rt, alloc, Fails::Once(op, at))?);
-    }
-    Ok(all)
-}
+const STOPS: Fails = Fails::From(Op::Any, 0);
 
 // Each pending sector is left in four ways, and of more than four the two lowest and the two highest are: so 256 outcomes
-// are the most. The checkpoint's head is write 2 and call 28; 4 sectors are pending from write 6 and call 32 on, up to its
-// sync, which is call 47. Before that there are 119 outcomes of a stop, and behind it 15.
+// are the most. The checkpoint's head is write 2 and call 28. Four sectors are pending from write 6 and call 32 on, up to
+// its sync, which is call 47. Before that there are 119 outcomes of a stop, and behind it 15.
 const MOST: u32 = 256;
 
 #[test]
-fn what_clients_were_told_outlives_a_stop_before_a_checkpoint(rt: HostRuntime) -> Result<(), Fail> {
-    assert!(rt; after_stops(&rt, rt.alloc(), (0, 36))? == 119 + 4 * MOST);
+fn what_clients_were_told_outlives_a_stop_at_calls_0_to_35(rt: HostRuntime) -> Result<(), Fail> {
+    assert!(rt; outcomes(&rt, rt.alloc(), STOPS, (0, 36))? == 119 + 4 * MOST);
     Ok(())
 }
 
 #[test]
-fn what_clients_were_told_outlives_a_stop_early_in_a_checkpoint(
-    rt: HostRuntime,
-) -> Result<(), Fail> {
-    assert!(rt; after_stops(&rt, rt.alloc(), (36, 40))? == 4 * MOST);
+fn what_clients_were_told_outlives_a_stop_at_calls_36_to_39(rt: HostRuntime) -> Result<(), Fail> {
+    assert!(rt; outcomes(&rt, rt.alloc(), STOPS, (36, 40))? == 4 * MOST);
     Ok(())
 }
 
 #[test]
-fn what_clients_were_told_outlives_a_stop_late_in_a_checkpoint(
-    rt: HostRuntime,
-) -> Result<(), Fail> {
-    assert!(rt; after_stops(&rt, rt.alloc(), (40, 44))? == 4 * MOST);
+fn what_clients_were_told_outlives_a_stop_at_calls_40_to_43(rt: HostRuntime) -> Result<(), Fail> {
+    assert!(rt; outcomes(&rt, rt.alloc(), STOPS, (40, 44))? == 4 * MOST);
     Ok(())
 }
 
 #[test]
-fn what_clients_were_told_outlives_a_stop_behind_a_checkpoint(rt: HostRuntime) -> Result<(), Fail> {
-    assert!(rt; after_stops(&rt, rt.alloc(), (44, CALLS))? == 4 * MOST + 15);
+fn what_clients_were_told_outlives_a_stop_from_call_44_on(rt: HostRuntime) -> Result<(), Fail> {
+    assert!(rt; outcomes(&rt, rt.alloc(), STOPS, (44, CALLS))? == 4 * MOST + 15);
     Ok(())
 }
 
 // Nothing is pending at a read or at the opening's sync. Of the other syncs five have one sector pending.
 #[test]
-fn what_clients_were_told_outlives_a_fault_of_each_read_and_sync(
+fn what_clients_were_told_outlives_a_fault_of_a_read_or_a_sync(
     rt: HostRuntime,
 ) -> Result<(), Fail> {
-    assert!(rt; after_faults(&rt, rt.alloc(), Op::Read, (0, READS))? == READS as u32);
-    assert!(rt; after_faults(&rt, rt.alloc(), Op::Sync, (0, SYNCS))? == 1 + 5 * 4 + MOST);
+    let (reads, syncs) = (Fails::Once(Op::Read, 0), Fails::Once(Op::Sync, 0));
+    assert!(rt; outcomes(&rt, rt.alloc(), reads, (0, READS))? == READS as u32);
+    assert!(rt; outcomes(&rt, rt.alloc(), syncs, (0, SYNCS))? == 1 + 5 * 4 + MOST);
     Ok(())
 }
 
-// At the first writes 0, 0, 0, 1, 2 and 3 sectors are pending.
+const WRITE_FAULTS: Fails = Fails::Once(Op::Write, 0);
+
+// At the first six writes 0, 0, 0, 1, 2 and 3 sectors are pending.
 #[test]
-fn what_clients_were_told_outlives_a_fault_of_the_first_writes(
-    rt: HostRuntime,
-) -> Result<(), Fail> {
-    assert!(rt; after_faults(&rt, rt.alloc(), Op::Write, (0, 9))? == 3 + 4 + 16 + 64 + 3 * MOST);
+fn what_clients_were_told_outlives_a_fault_of_writes_0_to_8(rt: HostRuntime) -> Result<(), Fail> {
+    let expected = 3 + 4 + 16 + 64 + 3 * MOST;
+    assert!(rt; outcomes(&rt, rt.alloc(), WRITE_FAULTS, (0, 9))? == expected);
     Ok(())
 }
 
 #[test]
-fn what_clients_were_told_outlives_a_fault_of_the_next_writes(rt: HostRuntime) -> Result<(), Fail> {
-    assert!(rt; after_faults(&rt, rt.alloc(), Op::Write, (9, 14))? == 5 * MOST);
+fn what_clients_were_told_outlives_a_fault_of_writes_9_to_13(rt: HostRuntime) -> Result<(), Fail> {
+    assert!(rt; outcomes(&rt, rt.alloc(), WRITE_FAULTS, (9, 14))? == 5 * MOST);
     Ok(())
 }
 
-// Behind the checkpoint's slot gate nothing is pending at a write.
+// Nothing is pending at the last three, of which the first opens the gate of the checkpoint.
 #[test]
-fn what_clients_were_told_outlives_a_fault_of_the_last_writes(rt: HostRuntime) -> Result<(), Fail> {
-    assert!(rt; after_faults(&rt, rt.alloc(), Op::Write, (14, WRITES))? == 7 * MOST + 3);
+fn what_clients_were_told_outlives_a_fault_from_write_14_on(rt: HostRuntime) -> Result<(), Fail> {
+    assert!(rt; outcomes(&rt, rt.alloc(), WRITE_FAULTS, (14, WRITES))? == 7 * MOST + 3);
     Ok(())
 }
