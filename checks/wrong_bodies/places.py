@@ -96,6 +96,12 @@ def home_of(type_name, crate, file):
     return module_of(file)
 
 
+def alias_parameters(owner, source):
+    """The parameters behind the owner's name as the prover writes them, if it is an alias that has some: `+F` of `On<F>`."""
+    declared = re.search(rf"^(?:pub(?:\([\w: ]+\))? )?type {owner}<([\w, ]+)>", source, re.MULTILINE)
+    return "".join(f"+{name.strip()}" for name in declared[1].split(",")) if declared else ""
+
+
 def function_at(source, crate, file, at):
     """The function in which the text at this place stands, its contract included, or None outside of one."""
     lines = source.splitlines()
@@ -126,7 +132,8 @@ def named(lines, start, crate, file, found):
         if OWNER.match(lines[above]):
             owner, shown = owner_of(head_from(lines, above))
             home = module if shown.startswith("<") else home_of(owner, crate, file)
-            return Function(home, f"{owner}::{name}", f"{shown}::{name}")
+            behind = alias_parameters(owner, "\n".join(lines))
+            return Function(home, f"{owner}{behind}::{name}", f"{shown}::{name}")
     return Function(module, name, name)
 
 
