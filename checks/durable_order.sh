@@ -23,7 +23,7 @@ turns=200
 sectors=$((4 * turns + 39))
 writing=write,writev,pwrite64,pwritev,pwritev2,ftruncate,fallocate,copy_file_range,sendfile,splice
 syncing=fsync,fdatasync,sync_file_range,msync,sync,syncfs
-opening=open,openat,openat2,creat,close,flock,fcntl,read,readv,pread64,preadv,$writing,$syncing
+opening=open,openat,openat2,creat,close,unlink,unlinkat,flock,fcntl,read,readv,pread64,preadv,$writing,$syncing
 
 # An opening of the ledger that is there, or isn't, under strace with these words of its own: its trace goes to the
 # first word.
@@ -72,8 +72,7 @@ if open_ledger "$work/full" -e inject=pwrite64:error=ENOSPC:when=2 < "$work/empt
     exit 1
 fi
 grep -qx "device failed" "$work/told"
-test ! -s "$work/ledger"
-rm "$work/ledger"
+test ! -e "$work/ledger"
 open_ledger "$work/new" < "$work/empty"
 open_ledger "$work/again" < "$work/empty"
 python3 checks/durable_order/opening.py "$work/ledger" $((512 * sectors)) \

@@ -135,7 +135,7 @@ truncate -s 511 short
 run 3 nothing "folder: it is neither a file nor a disk" check folder
 run 3 nothing "missing: there is no such file" journal missing
 [ ! -e missing ] || { echo "a missing file was made"; exit 1; }
-run 3 nothing "short: its length is no multiple of 512 bytes" balances short
+run 3 nothing "short: its length is no multiple of 512 bytes; it is no ledger, or something was appended to it" balances short
 run 3 nothing "short/none: there is no such file" check short/none
 run 3 nothing "/dev/zero: it is neither a file nor a disk" check /dev/zero
 mkfifo script
@@ -146,7 +146,7 @@ for _ in $(seq 1000); do
     "$tool" check -q office 2> told || break
     sleep 0.1
 done
-run 3 nothing "office: another program has it" check office
+run 3 nothing "office: another program has it; end that one first" check office
 run 0 "$wanted/check.out" "office: it isn't locked, so what is printed may be torn" check office --unlocked
 exec 3>&-
 wait "$holder"

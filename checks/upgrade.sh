@@ -70,12 +70,12 @@ second_layout second
 printf 'migrated 1\nopened 2 next 2 total 10\naccount 1 10\ntotal 10\n' > looked
 run 0 "a file of layout 2" look looked "" --migrate second --device newer --slots 1
 
-# Nothing is written over, by a second run or by two paths in the wrong place. A short file grows, as at each opening.
+# Nothing is written over, by a second run or by two paths in the wrong place, and no older file grows.
 for words in "first new" "first newer" "new first" "new second"; do
     read -r old device <<< "$words"
     cp "$device" before
     run 1 "NotEmpty, $words" nothing nothing "migrate refused NotEmpty" --migrate "$old" --device "$device" --slots 1
-    cmp -n "$(stat -c %s before)" before "$device" || { echo "$device was changed"; exit 1; }
+    cmp before "$device" || { echo "$device was changed"; exit 1; }
 done
 
 run 1 "TooSmall" nothing nothing "migrate refused TooSmall" --migrate first --device small --sectors 54 --slots 4

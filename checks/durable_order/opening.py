@@ -10,8 +10,10 @@ import sys
 LINE = re.compile(r"\d+ +(?P<name>\w+)\((?P<words>.*)\) += (?P<result>-?\d+)(?:<[^>]*>)?(?: (?P<error>E\w+))?")
 FILE = re.compile(r"^(?P<number>\d+)<(?P<path>[^>]*)>(?:, )?")
 OPENED = re.compile(r'^AT_FDCWD(?:<[^>]*>)?, "(?P<path>[^"]*)", (?P<how>[A-Z_|]*)')
+REMOVED = re.compile(r'^(?:AT_FDCWD(?:<[^>]*>)?, )?"(?P<path>[^"]*)"')
 PIECE = 256 * 512
 LOCK = "flock(ledger, LOCK_EX|LOCK_NB)"
+LOOK = "pread64(ledger, zeros, 512, 0)"
 SYNCS = ["fsync(ledger)", "fsync(folder)"]
 
 
@@ -23,8 +25,10 @@ def calls_of(trace, names):
             continue
         name, words = found["name"], found["words"]
         result = f" = {found['error']}" if found["error"] else ""
-        file, opened = FILE.match(words), OPENED.match(words)
-        if opened and opened["path"] in names:
+        file, opened, removed = FILE.match(words), OPENED.match(words), REMOVED.match(words)
+        if name.startswith("unlink") and removed and removed["path"] in names:
+            yield -1, f"unlink({names[removed['path']]}){result}"
+        elif opened and opened["path"] in names:
             how = re.sub(r"\|O_(NOCTTY|CLOEXEC)", "", opened["how"])
             yield int(found["result"]), f"{name}({names[opened['path']]}, {how}){result}"
         elif file and file["path"] in names:
@@ -79,12 +83,12 @@ def main():
     said = [text for _, text in opening_of(new, ledger)]
     require_calls("the opening of a new file", said, [*made, LOCK, *grown, *SYNCS])
     said = [text for _, text in opening_of(again, ledger)]
-    require_calls("the opening of the same file again", said, [*found, LOCK, *SYNCS])
+    require_calls("the opening of the same file again", said, [*found, LOCK, LOOK, *SYNCS])
     said = [text for _, text in opening_of(full, ledger)]
-    failed = [*grown[:3], f"{grown[3]} = ENOSPC", "ftruncate(ledger, 0)"]
+    failed = [*grown[:3], f"{grown[3]} = ENOSPC", "ftruncate(ledger, 0)", "unlink(ledger)"]
     require_calls("the opening of a new file on a full disk", said, [*made, LOCK, *failed])
     for trace in closed:
-        wanted = [LOCK, *SYNCS] if os.path.basename(trace).startswith("again") else [LOCK, *grown, *SYNCS]
+        wanted = [LOCK, LOOK, *SYNCS] if os.path.basename(trace).startswith("again") else [LOCK, *grown, *SYNCS]
         require_moved(os.path.basename(trace), opening_of(trace, ledger), wanted)
 
 

@@ -268,8 +268,7 @@ class Case:
 
     def formatted(self, counters, slots, *words, **more):
         """An office on a device that it formats."""
-        sized = ("--format", str(slots), "--sectors", str(39 + 4 * slots))
-        return self.office(counters, *sized, *words, **more)
+        return self.office(counters, "--format", str(slots), *words, **more)
 
     def holds_ledger(self):
         """Whether the file begins as a ledger does."""

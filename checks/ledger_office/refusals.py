@@ -79,7 +79,7 @@ def wrong_words(case):
         (*device, *one, "--stations", "x"), (*device, *all_three, "--stations", "2"), (*device, *too_many),
         (*device, *one, "--format", "0"), (*device, *one, "--format", "1000001"), (*device, *one, "--sectors", "0"),
         (*device, *one, "--sectors", "4000040"), (*device, *one, "more"), (*device, *one, "--terminal", "yes"),
-        (*device, "--counter"), (*device, *one, "--chart"), (*device, *device, *one), (*device, "--stations", "2"),
+        (*device, "--counter"), (*device, *one, "--chart"), (*device, *device, *one), (*device, "--stations", "2"), (*device, *one, "--overwrite"),
     ):
         with case.run(*words) as office:
             status = office.status()

@@ -82,9 +82,11 @@ impl<'a> ProgramFault<'a> {
         ensures { result ≡ of_device path.entry refusal }
     {
         match refusal {
-            DeviceRefusal::File(FileRefusal::Memory) => ProgramFault::MEMORY,
-            DeviceRefusal::File(FileRefusal::File) => ProgramFault::Device,
             DeviceRefusal::Disk(fault) => ProgramFault::Disk(RefusedDisk { path, fault }),
+            DeviceRefusal::File(_) => match FileRefusal::from(refusal) {
+                FileRefusal::Memory => ProgramFault::MEMORY,
+                FileRefusal::File => ProgramFault::Device,
+            },
         }
     }
 }

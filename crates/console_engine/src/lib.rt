@@ -25,7 +25,7 @@ pub use command_line::options;
 pub use disks::RefusedDisk;
 pub use engine::run_script;
 pub use faults::{MigrationFault, ProgramFault, ScriptFault};
-pub use file_device::{DeviceRefusal, DiskFault, FileDevice, FileRefusal};
+pub use file_device::{DeviceRefusal, DiskFault, FileDevice, FileFault, FileRefusal};
 pub use four_state::LineRefusal;
 pub use gate_journal::FormatRefusal;
 pub use journal_recovery::MigrateRefusal;

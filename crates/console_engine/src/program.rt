@@ -14,6 +14,7 @@ use crate::settings::{Options, Plan, Upgrade, WrongWords};
 use clap::Error;
 use clap::error::ErrorKind;
 use file_device::FileDevice;
+use ledger_file::open_for_script;
 use script_streams::write_all;
 use sector_device::MemoryDevice;
 use std::alloc::Global;
@@ -33,8 +34,8 @@ const WRONG_WORDS: u8 = 2;
 
 /// Runs the program and gives its status: 0 if the script ran to its end, or help was asked for, 1 after a fault, 2
 /// after wrong words. The first of the words is the program's name. A file that is the device is opened, made and grown
-/// before the script is read. Answers go to the writer, what is told of faults and wrong words to `errors`, of which a
-/// fault is ignored. It may wait if the script has a day.
+/// before the script is read; a part of a ledger, or one of another version, isn't grown. Answers go to the writer, what
+/// is told of faults and wrong words to `errors`, of which a fault is ignored. It may wait if the script has a day.
 pub fn run_program<F: Files<File = File> + Threads + Wait + Sync, R: Read, W: Write, E: Write>(
     rt: &F,
     alloc: Global,
@@ -122,7 +123,7 @@ fn open_device<'a, F: Files<File = File>>(
     let opened = if options.overwrite {
         FileDevice::overwrite(rt, alloc, path, options.sectors)
     } else {
-        FileDevice::open_with_cause(rt, alloc, path, options.sectors)
+        open_for_script(rt, alloc, path, options.sectors)
     };
     match opened {
         Ok(device) => Ok(device),

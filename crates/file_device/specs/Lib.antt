@@ -1,5 +1,6 @@
 pub mod Disks
 pub mod FailStop
+pub mod LockedFile
 pub mod ReadBuffer
 pub mod ReadOnly
 pub mod RealFile

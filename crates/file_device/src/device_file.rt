@@ -7,7 +7,7 @@ use std::os::fd::AsRawFd;
 use std::os::unix::fs::{FileExt, FileTypeExt, MetadataExt};
 
 /// A file as an opening needs it: what `File` does of its own, so that a test can stand in for it.
-pub(crate) trait DeviceFile: OpenFile + FileExt + AsRawFd {
+pub trait DeviceFile: OpenFile + FileExt + AsRawFd {
     /// Locks the file, if nobody else has it, for as long as it is open.
     fn try_lock(&self) -> io::Result<()>;
 

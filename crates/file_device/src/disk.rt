@@ -1,12 +1,12 @@
 //! Disks that a device is opened on: block devices.
-ghost use Rattle.std.specs.Prelude.{◌≡◌, ◌*◌, ◌+◌, ◌/◌, ◌<◌, ◌≤◌, ◌^◌, ◌↔◌, ◌⊎◌, length, IsTrue, IfOk, Err};
+ghost use Rattle.std.specs.Prelude.{◌≡◌, ◌*◌, ◌/◌, ◌<◌, ◌≤◌, ◌^◌, ◌↔◌, ◌⊎◌, IsOk, IsTrue, IfOk, OnOk, Err};
 ghost use Rattle.file_device.specs.Disks.{BeginsAsLedger, IsZero};
 
 use crate::device_file::DeviceFile;
 use crate::disk_tables::{DeviceNumber, fault_told};
-use crate::opening::{MOST_SECTORS, SECTOR_LENGTH, Wanted};
-use crate::refusal::{DeviceRefusal, DiskFault, FileRefusal};
-use crate::sector_file::SectorFile;
+use crate::locked_file::Wanted;
+use crate::opening::{SECTOR_LENGTH, check_length};
+use crate::refusal::{DeviceRefusal, DiskFault, FileFault};
 use sector_device::Sector;
 use std::alloc::Global;
 use std::fs::Files;
@@ -16,54 +16,65 @@ const MAGIC: [u8; 4] = *b"TLDG";
 
 /// A block device, as an opening finds it.
 #[derive(Clone, Copy)]
-pub(crate) struct Disk {
+pub struct Disk {
     /// How many bytes it has.
-    pub(crate) length: u64,
+    pub length: u64,
     /// The system's number for it.
-    pub(crate) number: DeviceNumber,
+    pub number: DeviceNumber,
 }
 
-/// The sectors of a disk that is locked, if nothing else uses it, it has as many as are wanted, and it holds a ledger or
-/// nothing or may be written over. `front` is room for its first sectors. It is never grown or cut.
-pub(crate) fn open_disk<F: DeviceFile + Drop, R: Files<File = F>>(
-    rt: &R,
-    alloc: Global,
-    file: F,
-    disk: Disk,
-    wanted: Wanted,
-    front: &mut [Sector],
-) -> Result<SectorFile<F>, DeviceRefusal>
-    ensures enough { IfOk result (λ file. wanted.entry.sectors ≤ file.sectors) }
-    ensures fits { IfOk result (λ file. file.sectors * 512 < 2 ^ 63) }
-    ensures failures { IfOk result (λ file. file.failures ≡ 0) }
-{
-    if let Some(fault) = fault_told(rt, alloc, disk.number).map_err(FileRefusal::of)? {
-        return Err(DeviceRefusal::Disk(fault));
-    }
-    let sectors = disk_sectors(disk.length, wanted.sectors)?;
-    if !wanted.overwrite {
-        look_at_front(&file, sectors, front)?;
-    }
-    file.sync_all().map_err(FileRefusal::from)?;
-    Ok(SectorFile::new(file, sectors))
-}
-
-/// How many sectors a disk of so many bytes has, if it has as many as are asked for.
-pub(crate) fn disk_sectors(length: u64, asked: u64) -> Result<u64, DeviceRefusal>
+/// How many sectors a disk of so many bytes has.
+pub(crate) fn disk_sectors(length: u64) -> Result<u64, FileFault>
     ensures sectors { IfOk result (λ sectors. sectors ≡ length / 512) }
-    ensures enough { IfOk result (λ sectors. asked ≤ sectors) }
     ensures fits { IfOk result (λ sectors. sectors * 512 < 2 ^ 63) }
-    ensures too_small { (result ≡ Err (DeviceRefusal.Disk DiskFault.TooSmall))
-        ↔ (length / 512 < asked) }
 {
     let sectors = length / SECTOR_LENGTH;
+    check_length(sectors)?;
+    Ok(sectors)
+}
+
+/// The same of a disk that is to be written, if nothing else uses it.
+pub(crate) fn idle_disk_sectors<R: Files>(
+    rt: &R,
+    alloc: Global,
+    disk: Disk,
+) -> Result<u64, DeviceRefusal>
+    ensures sectors { IfOk result (λ sectors. sectors ≡ disk.length / 512) }
+    ensures fits { IfOk result (λ sectors. sectors * 512 < 2 ^ 63) }
+{
+    if let Some(fault) = fault_told(rt, alloc, disk.number)? {
+        return Err(DeviceRefusal::Disk(fault));
+    }
+    Ok(disk_sectors(disk.length)?)
+}
+
+/// That a disk that is locked has as many sectors as are wanted, and holds a ledger or nothing or may be written over. It is
+/// synced then, and never grown or cut. `front` is room for its first sectors.
+pub(crate) fn make_sure_of_disk<F: DeviceFile>(
+    file: &F,
+    sectors: u64,
+    wanted: Wanted,
+    front: &mut [Sector],
+) -> Result<(), DeviceRefusal>
+    ensures enough { OnOk result (wanted.sectors ≤ sectors) }
+{
+    check_sectors(sectors, wanted.sectors)?;
+    if !wanted.overwrite {
+        look_at_front(file, sectors, front)?;
+    }
+    file.sync_all()?;
+    Ok(())
+}
+
+// That a disk has as many sectors as are asked for.
+fn check_sectors(sectors: u64, asked: u64) -> Result<(), DeviceRefusal>
+    ensures enough { IsOk result ↔ (asked ≤ sectors) }
+    ensures too_small { (result ≡ Err (DeviceRefusal.Disk DiskFault.TooSmall)) ↔ (sectors < asked) }
+{
     if sectors < asked {
         return Err(DeviceRefusal::Disk(DiskFault::TooSmall));
     }
-    if sectors > MOST_SECTORS {
-        return Err(DeviceRefusal::File(FileRefusal::File));
-    }
-    Ok(sectors)
+    Ok(())
 }
 
 // Reads the first sectors, as many as there is room for, and refuses those of somebody else.
@@ -74,7 +85,7 @@ fn look_at_front<F: DeviceFile>(
 ) -> Result<(), DeviceRefusal> {
     let count = sectors.min(front.len() as u64) as usize;
     let bytes = front[..count].as_flattened_mut();
-    file.read_exact_at(bytes, 0).map_err(FileRefusal::from)?;
+    file.read_exact_at(bytes, 0)?;
     if may_be_written(bytes) {
         return Ok(());
     }

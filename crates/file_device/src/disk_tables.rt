@@ -13,7 +13,7 @@ const SWAPS: &str = "/proc/swaps";
 
 /// The number of a block device, as the system prints it: `8:16`.
 #[derive(Clone, Copy, Debug, PartialEq, Eq)]
-pub(crate) struct DeviceNumber {
+pub struct DeviceNumber {
     major: u64,
     minor: u64,
 }

@@ -5,7 +5,7 @@
 //! sync every later call fails. `ReadAhead` is the buffer that its reads go through: over any device it gives what that
 //! device gives.
 //!
-//! The test `a_file_is_made_and_grown_and_never_cut` in `src/tests.rt` is an example.
+//! The test `a_file_is_made_and_grown_and_never_cut` in `src/files.rt` of the crate `file_tests` is an example.
 #![tactic(auto)]
 
 mod buffer;
@@ -15,6 +15,7 @@ mod disk;
 mod disk_tables;
 mod fail_stop;
 mod growth;
+mod locked_file;
 mod looking;
 mod opening;
 mod read_ahead;
@@ -24,15 +25,17 @@ mod refusal;
 mod sector_file;
 
 pub use buffer::ReadBuffer;
-pub use device::FileDevice;
+pub use device::{DeviceOn, FileDevice};
+pub use device_file::DeviceFile;
+pub use disk::Disk;
+pub use disk_tables::DeviceNumber;
 pub use fail_stop::FailStop;
-pub use looking::{Locking, LookRefusal, ReadOnlyFile};
+pub use locked_file::{LockedFile, Wanted};
+pub use looking::{Locking, ReadOnlyFile, ReadOnlyOn};
+pub use opening::Making;
 pub use read_ahead::ReadAhead;
 pub use read_only::ReadOnly;
 pub use read_run::ReadRun;
-pub use refusal::{DeviceRefusal, DiskFault, FileRefusal};
+pub use refusal::{DeviceRefusal, DiskFault, FileFault, FileRefusal};
 pub use sector_device::{Device, DeviceFault, SECTOR, Sector};
 pub use sector_file::SectorFile;
-
-#[cfg(test)]
-mod tests;

@@ -7,16 +7,18 @@ use crate::disk::disk_sectors;
 use crate::opening::whole_sectors;
 use crate::read_ahead::ReadAhead;
 use crate::read_only::ReadOnly;
+use crate::refusal::FileFault;
 use crate::sector_file::SectorFile;
-use std::alloc::{AllocError, Global};
+use std::alloc::Global;
+use std::fs;
 use std::fs::{File, Files, Metadata};
-use std::io::ErrorKind;
 use std::os::unix::fs::FileTypeExt;
-use std::{fs, io};
-use thiserror::Error;
 
 /// A file or a disk that is only read, through a buffer of 128 KiB. Nothing is promised of what it holds.
-pub type ReadOnlyFile = ReadOnly<ReadAhead<SectorFile<File>>>;
+pub type ReadOnlyFile = ReadOnlyOn<File>;
+
+/// The same of whatever files these are.
+pub type ReadOnlyOn<F> = ReadOnly<ReadAhead<SectorFile<F>>>;
 
 /// How others are kept off a file while it is looked at.
 #[derive(Clone, Copy, Debug, PartialEq, Eq)]
@@ -27,63 +29,24 @@ pub enum Locking {
     Unlocked,
 }
 
-/// Why a file can't be looked at.
-#[derive(Clone, Copy, Debug, PartialEq, Eq, Error)]
-pub enum LookRefusal {
-    /// There is nothing at the path.
-    #[error("there is no such file")]
-    Missing,
-    /// It may not be read by this user.
-    #[error("it may not be read")]
-    Denied,
-    /// It is neither a regular file nor a disk.
-    #[error("it is neither a file nor a disk")]
-    NoFile,
-    /// Its length isn't a multiple of 512.
-    #[error("its length is no multiple of 512 bytes")]
-    NotSectors,
-    /// Another program has it as its device.
-    #[error("another program has it")]
-    InUse,
-    /// There was no memory for the buffer.
-    #[error("out of memory")]
-    Memory,
-    /// The system can't open it, lock it or tell its length.
-    #[error("it can't be read")]
-    Failed,
-}
-
-impl ReadOnlyFile {
+impl<F: DeviceFile + Drop> ReadOnlyOn<F> {
     /// Opens a file or a disk for reading alone. It isn't made, grown, synced or written.
-    pub fn open<R: Files<File = File>>(
+    pub fn open<R: Files<File = F>>(
         rt: &R,
         alloc: Global,
         path: &str,
         locking: Locking,
-    ) -> Result<ReadOnlyFile, LookRefusal>
+    ) -> Result<ReadOnlyOn<F>, FileFault>
         ensures fits { IfOk result (λ device. device.inner.sectors * 512 < 2 ^ 63) }
         ensures failures { IfOk result (λ device.
             (device.inner.failures ≡ 0) × (device.refused ≡ 0)) }
     {
-        open_to_look(rt, alloc, path, locking)
+        let buffer = ReadBuffer::new(alloc)?;
+        let file = open_locked(rt, path, locking)?;
+        let sectors = sectors_of(&file)?;
+        let file = SectorFile::new(file, sectors);
+        Ok(ReadOnly::new(ReadAhead::new(file, buffer)))
     }
-}
-
-/// `ReadOnlyFile`'s opening, of whatever files these are.
-pub(crate) fn open_to_look<F: DeviceFile + Drop, R: Files<File = F>>(
-    rt: &R,
-    alloc: Global,
-    path: &str,
-    locking: Locking,
-) -> Result<ReadOnly<ReadAhead<SectorFile<F>>>, LookRefusal>
-    ensures fits { IfOk result (λ device. device.inner.sectors * 512 < 2 ^ 63) }
-    ensures failures { IfOk result (λ device. (device.inner.failures ≡ 0) × (device.refused ≡ 0)) }
-{
-    let buffer = ReadBuffer::new(alloc)?;
-    let file = open_locked(rt, path, locking)?;
-    let sectors = sectors_of(&file)?;
-    let file = SectorFile::new(file, sectors);
-    Ok(ReadOnly::new(ReadAhead::new(file, buffer)))
 }
 
 // What is at the path, opened for reading. A pipe is refused before it is opened, which would wait for a writer.
@@ -91,10 +54,10 @@ fn open_locked<F: DeviceFile + Drop, R: Files<File = F>>(
     rt: &R,
     path: &str,
     locking: Locking,
-) -> Result<F, LookRefusal> {
+) -> Result<F, FileFault> {
     let found = fs::metadata(rt, path)?;
     if !is_file_or_disk(&found) {
-        return Err(LookRefusal::NoFile);
+        return Err(FileFault::NoFile);
     }
     let file = fs::open(rt, path)?;
     if locking == Locking::Shared {
@@ -108,34 +71,12 @@ fn is_file_or_disk(metadata: &Metadata) -> bool {
 }
 
 // How many sectors it has.
-fn sectors_of<F: DeviceFile>(file: &F) -> Result<u64, LookRefusal>
+fn sectors_of<F: DeviceFile>(file: &F) -> Result<u64, FileFault>
     ensures fits { IfOk result (λ sectors. sectors * 512 < 2 ^ 63) }
 {
     let metadata = file.metadata()?;
     match file.disk(&metadata)? {
-        Some(disk) => disk_sectors(disk.length, 0).or(Err(LookRefusal::Failed)),
-        None => whole_sectors(&metadata).or(Err(LookRefusal::NotSectors)),
-    }
-}
-
-impl From<AllocError> for LookRefusal {
-    ghost use Rattle.file_device.specs.declared.looking.LookRefusal.TheVariants.{Memory};
-
-    ghost from_gives = { λ _ refusal. refusal ≡ Memory };
-
-    fn from(_error: AllocError) -> LookRefusal {
-        LookRefusal::Memory
-    }
-}
-
-impl From<io::Error> for LookRefusal {
-    fn from(error: io::Error) -> LookRefusal {
-        match error.kind() {
-            ErrorKind::NotFound | ErrorKind::NotADirectory => LookRefusal::Missing,
-            ErrorKind::PermissionDenied => LookRefusal::Denied,
-            ErrorKind::WouldBlock | ErrorKind::ResourceBusy => LookRefusal::InUse,
-            ErrorKind::OutOfMemory => LookRefusal::Memory,
-            _ => LookRefusal::Failed,
-        }
+        Some(disk) => disk_sectors(disk.length),
+        None => whole_sectors(&metadata),
     }
 }

@@ -1,13 +1,9 @@
-ghost use Rattle.std.specs.Prelude.{◌≡◌, ◌*◌, ◌%◌, ◌<◌, ◌≤◌, ◌^◌, ◌<ℤ◌, pos, length, IsOk, IfOk, IfErr, IfSome};
+ghost use Rattle.std.specs.Prelude.{◌≡◌, ◌≢◌, ◌*◌, ◌%◌, ◌<◌, ◌≤◌, ◌^◌, ◌↔◌, ◌<ℤ◌, pos, false, IsOk, IfOk, IfErr, IfSome, Err};
 ghost use Rattle.std.specs.Fs.{metadata_len, file_type, IsFile};
 
 use crate::device_file::DeviceFile;
-use crate::disk::open_disk;
-use crate::growth::grow;
-use crate::refusal::{DeviceRefusal, DiskFault, FileRefusal};
-use crate::sector_file::SectorFile;
-use sector_device::{SECTOR, Sector};
-use std::alloc::Global;
+use crate::refusal::{DeviceRefusal, FileFault};
+use sector_device::SECTOR;
 use std::fs::{Files, Metadata, OpenFile, OpenOptions};
 use std::io::ErrorKind;
 use std::os::fd::{AsRawFd, RawFd};
@@ -24,94 +20,55 @@ pub(crate) const MOST_SECTORS: u64 = i64::MAX as u64 / SECTOR_LENGTH;
 /// The number of standard error. Those of standard input and output are lower.
 const LAST_STREAM: RawFd = 2;
 
-/// What is to be opened.
-#[derive(Clone, Copy)]
-pub(crate) struct Wanted<'a> {
-    pub(crate) path: &'a str,
-    /// How many sectors it has to have.
-    pub(crate) sectors: u64,
-    /// Whether it is a disk that may hold anything. Else it may be a file too.
-    pub(crate) overwrite: bool,
+/// Whether a file is made where there is none.
+#[derive(Clone, Copy, Debug, PartialEq, Eq)]
+pub enum Making {
+    IfMissing,
+    Never,
 }
 
-/// Opens a file with at least so many sectors, or makes or grows it; or a disk that has them; and keeps others off it.
-/// `zeros` are zero sectors to grow a file by, and what becomes of them isn't said.
-pub(crate) fn open_sectors<F: DeviceFile + Drop, R: Files<File = F>>(
+/// A file that is open.
+#[derive(Drop)]
+pub(crate) struct Opened<F: OpenFile> {
+    pub(crate) file: F,
+    /// The folder that has its name, unless it may not be read, and so not synced.
+    pub(crate) folder: Option<F>,
+    /// Whether it was made by this opening.
+    pub(crate) is_new: bool,
+}
+
+/// What is at the path, which is made if that is asked for and nothing is there, and locked.
+pub(crate) fn open_locked<F: DeviceFile + Drop, R: Files<File = F>>(
     rt: &R,
-    alloc: Global,
-    wanted: Wanted,
-    zeros: &mut [Sector],
-) -> Result<SectorFile<F>, DeviceRefusal>
-    requires { 0 < length zeros.old }
-    ensures enough { IfOk result (λ file. wanted.entry.sectors ≤ file.sectors) }
-    ensures fits { IfOk result (λ file. file.sectors * 512 < 2 ^ 63) }
-    ensures failures { IfOk result (λ file. file.failures ≡ 0) }
+    path: &str,
+    making: Making,
+) -> Result<Opened<F>, FileFault>
+    ensures not_made { making ≡ Making.Never → IfOk result (λ opened. opened.is_new ≡ false) }
 {
-    if wanted.sectors > MOST_SECTORS {
-        return Err(DeviceRefusal::File(FileRefusal::File));
-    }
-    let (file, folder) = match open_locked(rt, wanted) {
-        Ok(opened) => opened,
-        Err(error) => return Err(cause(rt, wanted.path, error)),
-    };
-    let metadata = file.metadata().map_err(FileRefusal::from)?;
-    match file.disk(&metadata).map_err(FileRefusal::from)? {
-        Some(disk) => open_disk(rt, alloc, file, disk, wanted, zeros),
-        None if wanted.overwrite => Err(DeviceRefusal::Disk(DiskFault::NoDisk)),
-        None => Ok(open_file(file, folder, &metadata, wanted.sectors, zeros)?),
-    }
-}
-
-// What is at the path, which is made where it isn't there, unless it is to be written over; and the folder that has its
-// name.
-fn open_locked<F: DeviceFile + Drop, R: Files<File = F>>(
-    rt: &R,
-    wanted: Wanted,
-) -> io::Result<(F, Option<F>)> {
-    let (file, folder) = if wanted.overwrite {
-        (existing().open(rt, wanted.path)?, None)
-    } else {
-        open_in_folder(rt, wanted.path)?
-    };
+    let Opened {
+        file,
+        folder,
+        is_new,
+    } = open_in_folder(rt, path, making)?;
     let file = clear_of_streams(file)?;
     file.try_lock()?;
-    Ok((file, folder))
+    Ok(Opened {
+        file,
+        folder,
+        is_new,
+    })
 }
 
-// Why what is at the path can't be opened and locked. A disk has causes of its own.
-fn cause<R: Files>(rt: &R, path: &str, error: io::Error) -> DeviceRefusal {
-    let fault = match error.kind() {
-        ErrorKind::PermissionDenied | ErrorKind::ReadOnlyFilesystem => DiskFault::Denied,
-        ErrorKind::WouldBlock | ErrorKind::ResourceBusy => DiskFault::InUse,
-        _ => return DeviceRefusal::File(FileRefusal::File),
+/// Why what is at the path isn't a device, for a fault of its opening. A disk has faults of its own.
+pub(crate) fn cause<R: Files>(rt: &R, path: &str, fault: FileFault) -> DeviceRefusal {
+    let of_disk = match fault.of_disk() {
+        Some(of_disk) => of_disk,
+        None => return DeviceRefusal::File(fault),
     };
     match fs::metadata(rt, path) {
-        Ok(found) if found.file_type().is_block_device() => DeviceRefusal::Disk(fault),
-        _ => DeviceRefusal::File(FileRefusal::File),
+        Ok(found) if found.file_type().is_block_device() => DeviceRefusal::Disk(of_disk),
+        _ => DeviceRefusal::File(fault.for_writing()),
     }
-}
-
-// The sectors of a file that is locked, which is grown until it has so many.
-fn open_file<F: DeviceFile + Drop>(
-    file: F,
-    folder: Option<F>,
-    metadata: &Metadata,
-    sectors: u64,
-    zeros: &[Sector],
-) -> Result<SectorFile<F>, FileRefusal>
-    requires some { 0 < length zeros.now }
-    requires room { sectors * 512 < 2 ^ 63 }
-    ensures enough { IfOk result (λ file. sectors ≤ file.sectors) }
-    ensures fits { IfOk result (λ file. file.sectors * 512 < 2 ^ 63) }
-    ensures failures { IfOk result (λ file. file.failures ≡ 0) }
-{
-    let found = whole_sectors(metadata)?;
-    grow(&file, found, sectors, zeros)?;
-    file.sync_all()?;
-    if let Some(folder) = folder {
-        folder.sync_all()?;
-    }
-    Ok(SectorFile::new(file, found.max(sectors)))
 }
 
 // How what is there is opened.
@@ -121,17 +78,31 @@ fn existing() -> OpenOptions {
     how
 }
 
-// The file, which is made where it isn't there, and the folder that has its name. A folder that may not be read can't be
-// synced: there a file is opened, and none is made.
-fn open_in_folder<R: Files>(rt: &R, path: &str) -> io::Result<(R::File, Option<R::File>)> {
+// The file, and the folder that has its name. A folder that may not be read can't be synced: there a file is opened, and
+// none is made.
+fn open_in_folder<R: Files>(
+    rt: &R,
+    path: &str,
+    making: Making,
+) -> Result<Opened<R::File>, FileFault>
+    ensures not_made { making ≡ Making.Never → IfOk result (λ opened. opened.is_new ≡ false) }
+{
     let mut how = existing();
     match how.open(rt, path) {
-        Ok(file) => Ok((file, readable_folder(rt, path)?)),
-        Err(error) if error.kind() == ErrorKind::NotFound => {
-            let folder = fs::open(rt, folder_of(path))?;
-            Ok((how.create(true).open(rt, path)?, Some(folder)))
+        Ok(file) => Ok(Opened {
+            file,
+            folder: readable_folder(rt, path)?,
+            is_new: false,
+        }),
+        Err(error) if error.kind() == ErrorKind::NotFound && making == Making::IfMissing => {
+            let folder = folder_to_make_in(rt, path)?;
+            Ok(Opened {
+                file: how.create(true).open(rt, path)?,
+                folder: Some(folder),
+                is_new: true,
+            })
         }
-        Err(error) => Err(error),
+        Err(error) => Err(FileFault::from(error)),
     }
 }
 
@@ -140,6 +111,16 @@ fn readable_folder<R: Files>(rt: &R, path: &str) -> io::Result<Option<R::File>> 
         Ok(folder) => Ok(Some(folder)),
         Err(error) if error.kind() == ErrorKind::PermissionDenied => Ok(None),
         Err(error) => Err(error),
+    }
+}
+
+fn folder_to_make_in<R: Files>(rt: &R, path: &str) -> Result<R::File, FileFault> {
+    match fs::open(rt, folder_of(path)) {
+        Ok(folder) => Ok(folder),
+        Err(error) => Err(match FileFault::from(error) {
+            FileFault::Missing => FileFault::NoFolder,
+            fault => fault,
+        }),
     }
 }
 
@@ -165,18 +146,35 @@ fn clear_of_streams<F: OpenFile + AsRawFd + Drop>(file: F) -> io::Result<F>
     Err(io::Error::from(ErrorKind::Other))
 }
 
+/// That a file may have so many sectors.
+pub(crate) fn check_length(sectors: u64) -> Result<(), FileFault>
+    ensures fits { IsOk result ↔ (sectors * 512 < 2 ^ 63) }
+    ensures refused { IfErr result (λ fault. fault ≡ FileFault.NoRoom) }
+{
+    if sectors > MOST_SECTORS {
+        return Err(FileFault::NoRoom);
+    }
+    Ok(())
+}
+
 /// How many sectors a file has, if it is a regular one of whole sectors.
-pub(crate) fn whole_sectors(metadata: &Metadata) -> Result<u64, FileRefusal>
+pub(crate) fn whole_sectors(metadata: &Metadata) -> Result<u64, FileFault>
     ensures whole { IfOk result (λ sectors.
         IsFile (file_type metadata.now) × (metadata_len metadata.now ≡ sectors * 512)) }
     ensures fits { IfOk result (λ sectors. sectors * 512 < 2 ^ 63) }
+    ensures no_file { (result ≡ Err FileFault.NoFile) ↔ (IsFile (file_type metadata.now) → ⊥) }
+    ensures not_sectors { (result ≡ Err FileFault.NotSectors)
+        ↔ (IsFile (file_type metadata.now) × (metadata_len metadata.now % 512 ≢ 0)) }
     ensures accepted { IsFile (file_type metadata.now)
         → metadata_len metadata.now % 512 ≡ 0 → metadata_len metadata.now < 2 ^ 63 → IsOk result }
-    ensures refused { IfErr result (λ refusal. refusal ≡ FileRefusal.File) }
 {
     let length = metadata.len();
-    if !metadata.is_file() || length % SECTOR_LENGTH != 0 || length / SECTOR_LENGTH > MOST_SECTORS {
-        return Err(FileRefusal::File);
+    if !metadata.is_file() {
+        return Err(FileFault::NoFile);
     }
+    if length % SECTOR_LENGTH != 0 {
+        return Err(FileFault::NotSectors);
+    }
+    check_length(length / SECTOR_LENGTH)?;
     Ok(length / SECTOR_LENGTH)
 }

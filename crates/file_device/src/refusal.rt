@@ -1,5 +1,5 @@
 ghost use Rattle.std.specs.Prelude.{◌≡◌};
-ghost use Rattle.file_device.specs.declared.refusal.FileRefusal.TheVariants.{Memory, File};
+ghost use Rattle.file_device.specs.declared.refusal.FileFault.TheVariants.{Memory};
 ghost use Rattle.file_device.specs.Disks.{as_file, of_file};
 
 use std::alloc::AllocError;
@@ -15,9 +15,44 @@ pub enum FileRefusal {
     Memory,
     /// The file, or the folder that it lies in, can't be opened, read, grown or synced, it is neither a regular file
     /// nor a disk, its length isn't a multiple of 512, another holds it, or the system has no locks for it. It may have been
-    /// made; and grown, if it couldn't be synced after that. Or it is a disk with a fault of its own.
+    /// grown, if it couldn't be synced after that. Or it is a disk with a fault of its own.
     #[error("the file can't be used as a device")]
     File,
+}
+
+/// Why a file can't be had: to look at it, or as a device.
+#[derive(Clone, Copy, Debug, PartialEq, Eq, Error)]
+pub enum FileFault {
+    /// There is nothing at the path.
+    #[error("there is no such file")]
+    Missing,
+    /// There is no folder in which the file could be made.
+    #[error("there is no such folder; make it first")]
+    NoFolder,
+    /// This user may not read it.
+    #[error("it may not be read; its owner can allow that")]
+    NotReadable,
+    /// This user may not both read and write it, or may not make it.
+    #[error("it may not be read and written; its owner can allow that")]
+    NotWritable,
+    /// It is neither a regular file nor a disk.
+    #[error("it is neither a file nor a disk")]
+    NoFile,
+    /// Its length isn't a multiple of 512.
+    #[error("its length is no multiple of 512 bytes; it is no ledger, or something was appended to it")]
+    NotSectors,
+    /// Another program has it.
+    #[error("another program has it; end that one first")]
+    InUse,
+    /// The file system has no room for so many sectors, or no file may have them.
+    #[error("its file system has no room for it; make room, or take another path")]
+    NoRoom,
+    /// There was no memory: for the buffer, or for what the system says of a disk.
+    #[error("out of memory")]
+    Memory,
+    /// A call of the system failed for another reason.
+    #[error("the system fails to open, lock, read or write it")]
+    Failed,
 }
 
 /// Why a disk, which is a block device, didn't become a device. Nothing was written to it.
@@ -45,35 +80,66 @@ pub enum DiskFault {
 pub enum DeviceRefusal {
     /// Out of memory, or a cause that no disk has of its own.
     #[error("{0}")]
-    File(FileRefusal),
+    File(FileFault),
     /// It is a disk, or should be one.
     #[error("{0}")]
     Disk(DiskFault),
 }
 
-impl FileRefusal {
-    // As a fault of the system's is told, where memory may be wanted too.
-    pub(crate) fn of(error: io::Error) -> FileRefusal {
-        match error.kind() {
-            ErrorKind::OutOfMemory => FileRefusal::Memory,
-            _ => FileRefusal::File,
+impl FileFault {
+    // The same of a file that was to be written too.
+    pub(crate) fn for_writing(self) -> FileFault {
+        match self {
+            FileFault::NotReadable => FileFault::NotWritable,
+            fault => fault,
+        }
+    }
+
+    // What it is of a disk, if a disk has a fault of its own for it.
+    pub(crate) fn of_disk(self) -> Option<DiskFault> {
+        match self {
+            FileFault::NotReadable | FileFault::NotWritable => Some(DiskFault::Denied),
+            FileFault::InUse => Some(DiskFault::InUse),
+            _ => None,
         }
     }
 }
 
-impl From<AllocError> for FileRefusal {
-    ghost from_gives = { λ _ refusal. refusal ≡ Memory };
+impl From<AllocError> for FileFault {
+    ghost from_gives = { λ _ fault. fault ≡ Memory };
 
-    fn from(_error: AllocError) -> FileRefusal {
-        FileRefusal::Memory
+    fn from(_error: AllocError) -> FileFault {
+        FileFault::Memory
     }
 }
 
-impl From<io::Error> for FileRefusal {
-    ghost from_gives = { λ _ refusal. refusal ≡ File };
+impl From<io::Error> for FileFault {
+    fn from(error: io::Error) -> FileFault {
+        match error.kind() {
+            ErrorKind::NotFound | ErrorKind::NotADirectory => FileFault::Missing,
+            ErrorKind::PermissionDenied | ErrorKind::ReadOnlyFilesystem => FileFault::NotReadable,
+            ErrorKind::IsADirectory => FileFault::NoFile,
+            ErrorKind::WouldBlock | ErrorKind::ResourceBusy => FileFault::InUse,
+            ErrorKind::StorageFull | ErrorKind::QuotaExceeded | ErrorKind::FileTooLarge => {
+                FileFault::NoRoom
+            }
+            ErrorKind::OutOfMemory => FileFault::Memory,
+            _ => FileFault::Failed,
+        }
+    }
+}
 
-    fn from(_error: io::Error) -> FileRefusal {
-        FileRefusal::File
+impl From<FileFault> for DeviceRefusal {
+    ghost from_gives = { λ fault refusal. refusal ≡ of_file fault };
+
+    fn from(fault: FileFault) -> DeviceRefusal {
+        DeviceRefusal::File(fault)
+    }
+}
+
+impl From<io::Error> for DeviceRefusal {
+    fn from(error: io::Error) -> DeviceRefusal {
+        DeviceRefusal::File(FileFault::from(error).for_writing())
     }
 }
 
@@ -82,16 +148,19 @@ impl From<DeviceRefusal> for FileRefusal {
 
     fn from(refusal: DeviceRefusal) -> FileRefusal {
         match refusal {
-            DeviceRefusal::File(refusal) => refusal,
+            DeviceRefusal::File(FileFault::Memory) => FileRefusal::Memory,
+            DeviceRefusal::File(
+                FileFault::Missing
+                | FileFault::NoFolder
+                | FileFault::NotReadable
+                | FileFault::NotWritable
+                | FileFault::NoFile
+                | FileFault::NotSectors
+                | FileFault::InUse
+                | FileFault::NoRoom
+                | FileFault::Failed,
+            ) => FileRefusal::File,
             DeviceRefusal::Disk(_) => FileRefusal::File,
         }
-    }
-}
-
-impl From<FileRefusal> for DeviceRefusal {
-    ghost from_gives = { λ file refusal. refusal ≡ of_file file };
-
-    fn from(refusal: FileRefusal) -> DeviceRefusal {
-        DeviceRefusal::File(refusal)
     }
 }

@@ -42,8 +42,8 @@ const NO_DEVICE: &str = "an office needs a --device";
 /// # Errors
 /// What `clap` answers to wrong words, to the wish for help, and out of memory.
 pub fn options<'a>(alloc: Global, words: &'a [&'a str]) -> Result<Options<'a>, Error>
-    ensures some { IfOk result (λ options. 1 ≤ options.sectors) }
-    ensures most { IfOk result (λ options. options.sectors ≤ 4000039) }
+    ensures sectors { IfOk result (λ options.
+        IfSome options.sectors (λ count. (1 ≤ count) × (count ≤ 4000039))) }
     ensures slots { IfOk result (λ options.
         IfSome options.format (λ slots. non_zero_u64_get slots ≤ 1000000)) }
     ensures stations { IfOk result (λ options. IfSome options.stations (λ count. (2 ≤ count) × (count ≤ 64))) }
@@ -69,13 +69,14 @@ pub fn options<'a>(alloc: Global, words: &'a [&'a str]) -> Result<Options<'a>, E
         terminal: matches.get_flag("terminal"),
         stations: numbers.stations,
         format: numbers.format,
+        overwrite: matches.get_flag("overwrite"),
     })
 }
 
 // The numbers among the words.
 #[derive(Clone, Copy)]
 struct Numbers {
-    sectors: u64,
+    sectors: Option<u64>,
     stations: Option<u64>,
     format: Option<NonZeroU64>,
 }
@@ -83,14 +84,14 @@ struct Numbers {
 impl Numbers {
     // None if one is out of its range.
     fn of(matches: &ArgMatches<'_>) -> Option<Numbers>
-        ensures some { IfSome result (λ numbers. 1 ≤ numbers.sectors) }
-        ensures most { IfSome result (λ numbers. numbers.sectors ≤ 4000039) }
+        ensures sectors { IfSome result (λ numbers.
+            IfSome numbers.sectors (λ count. (1 ≤ count) × (count ≤ 4000039))) }
         ensures slots { IfSome result (λ numbers.
             IfSome numbers.format (λ slots. non_zero_u64_get slots ≤ 1000000)) }
         ensures stations { IfSome result (λ numbers. IfSome numbers.stations (λ count. (2 ≤ count) × (count ≤ 64))) }
     {
         Some(Numbers {
-            sectors: within(matches.get_one::<u64>("sectors"), 1, MOST_SECTORS)??,
+            sectors: within(matches.get_one::<u64>("sectors"), 1, MOST_SECTORS)?,
             stations: within(matches.get_one::<u64>("stations"), 2, MOST_STATIONS)?,
             format: slots_of(matches.get_one::<u64>("format"))?,
         })
@@ -137,7 +138,7 @@ fn office_command<'a>(alloc: Global) -> Result<Command<'a>, Error> {
             alloc,
             "device",
             "FILE",
-            "The file that has the ledger; made and grown where it is smaller. Or a disk",
+            "The file or the disk that has the ledger",
         )
         .required(true))?
         .arg(option(
@@ -166,19 +167,22 @@ fn office_command<'a>(alloc: Global) -> Result<Command<'a>, Error> {
             alloc,
             "format",
             "SLOTS",
-            "First make FILE an empty ledger of two banks with SLOTS slots each, 1 to 1000000; refused if it holds one",
+            "First make an empty ledger of two banks with SLOTS slots each, 1 to 1000000; refused if FILE holds anything",
         )
         .value_parser(value_parser!(u64).range(1..1_000_001)))?
         .arg(
-            option(
-                alloc,
-                "sectors",
-                "K",
-                "How many sectors of 512 bytes FILE has at least, 1 to 4000039",
-            )
-            .value_parser(value_parser!(u64).range(1..4_000_040))
-            .default_value("64"),
-        )?;
+            Arg::new(alloc, "overwrite")
+                .long("overwrite")
+                .help("With --format: FILE may hold anything, which is erased")
+                .action(ArgAction::SetTrue),
+        )?
+        .arg(option(
+            alloc,
+            "sectors",
+            "K",
+            "Grow FILE to K sectors of 512 bytes, 1 to 4000039, if it has fewer; a ledger needs 4 SLOTS + 39",
+        )
+        .value_parser(value_parser!(u64).range(1..4_000_040)))?;
     Ok(command)
 }
 

@@ -1,9 +1,8 @@
 //! Why the program ends early.
 use crate::pipes::{PipeRefusal, Side};
-use file_device::DeviceRefusal;
 use four_state::LineRefusal;
-use gate_journal::FormatRefusal;
 use journal_recovery::OpenRefusal;
+use ledger_file::LedgerRefusal;
 use line_lock::OfficeRefusal;
 use live_office::LiveRefusal;
 use office_day::TurnRefusal;
@@ -45,22 +44,11 @@ pub enum OfficeFault<'a> {
     /// A counter's pipe can't be used.
     #[error("{0}")]
     Pipe(PipeFault<'a>),
-    /// The file can't be the device.
+    /// There is no ledger at the path that could be opened, or made.
     #[error("{path}: {refusal}")]
-    Device {
+    File {
         path: &'a str,
-        refusal: DeviceRefusal,
-    },
-    /// The device holds a ledger, which formatting would erase.
-    #[error("{path}: it holds a ledger already, so it isn't formatted")]
-    HoldsLedger {
-        path: &'a str,
-    },
-    /// The device wasn't formatted.
-    #[error("{path}: {refusal}")]
-    Unformatted {
-        path: &'a str,
-        refusal: FormatRefusal,
+        refusal: LedgerRefusal,
     },
     /// The device holds no sound ledger.
     #[error("{path}: {refusal}")]
@@ -94,6 +82,16 @@ impl From<LiveRefusal> for OfficeFault<'_> {
             LiveRefusal::Threads => OfficeFault::Threads,
             LiveRefusal::Office(_) => OfficeFault::Office(refusal),
         }
+    }
+}
+
+impl<'a> OfficeFault<'a> {
+    // Out of memory is told as such.
+    pub(crate) fn of_file(path: &'a str, refusal: LedgerRefusal) -> OfficeFault<'a> {
+        if refusal.is_memory() {
+            return OfficeFault::Memory;
+        }
+        OfficeFault::File { path, refusal }
     }
 }
 

@@ -4,13 +4,12 @@ ghost use Rattle.std.specs.Prelude.{◌≤◌};
 use crate::command_line::options;
 use crate::faults::{OfficeFault, PipeFault};
 use crate::pipes::{PipeNumber, Side, open_pipe};
-use crate::settings::Options;
+use crate::settings::{Options, WrongWords};
 use crate::source::{Source, Target};
 use crate::telling::{DONE, FAULT, WRONG_WORDS, tell, tell_no_memory, tell_words};
-use file_device::FileDevice;
 use four_state::Line;
-use gate_journal::{FormatRefusal, begins_as_journal, format};
 use journal_recovery::{Recovered, recover};
+use ledger_file::{FileDevice, Formatting, format_ledger, open_ledger};
 use live_office::{Closed, Counter, Kind, keep_open};
 use office_day::{End, StationDay};
 use script_streams::{Output, StreamFault};
@@ -18,7 +17,6 @@ use sector_device::Device;
 use std::alloc::Global;
 use std::fs::{File, Files};
 use std::io::{Read, Write};
-use std::num::NonZeroU64;
 use std::sync::Wait;
 use std::thread::Threads;
 use std::time::Clock;
@@ -62,14 +60,14 @@ pub fn run_office_program<
         Ok(options) => options,
         Err(error) => return tell_words(alloc, error, writer, errors),
     };
-    let stations = match options.stations_wanted() {
-        Ok(stations) => stations,
+    let plan = match plan_of(&options) {
+        Ok(plan) => plan,
         Err(wrong) => {
             tell(alloc, wrong, errors);
             return WRONG_WORDS;
         }
     };
-    match run_office(rt, alloc, &options, stations, terminal, writer) {
+    match run_office(rt, alloc, &options, plan, terminal, writer) {
         Ok(()) => DONE,
         Err(OfficeFault::Memory) => tell_no_memory(alloc, errors),
         Err(fault) => {
@@ -77,6 +75,20 @@ pub fn run_office_program<
             FAULT
         }
     }
+}
+
+// What is worked out of the options.
+#[derive(Clone, Copy)]
+struct Plan {
+    stations: u64,
+    formatting: Option<Formatting>,
+}
+
+fn plan_of(options: &Options<'_>) -> Result<Plan, WrongWords> {
+    Ok(Plan {
+        stations: options.stations_wanted()?,
+        formatting: options.formatting()?,
+    })
 }
 
 // Keeps the office open that the options ask for, and tells of its end.
@@ -90,14 +102,14 @@ fn run_office<
     rt: &R,
     alloc: Global,
     options: &Options<'a>,
-    stations: u64,
+    plan: Plan,
     terminal: Terminal<I, O>,
     writer: &mut W,
 ) -> Result<(), OfficeFault<'a>> {
     let counters = open_counters(rt, alloc, options, terminal)?;
     let mut output = Output::new(alloc, writer)?;
-    let device = open_device(rt, alloc, options, &mut output)?;
-    let (device, line) = tell_opened(alloc, options.device, device, stations, &mut output)?;
+    let device = open_device(rt, alloc, options, plan.formatting, &mut output)?;
+    let (device, line) = tell_opened(alloc, options.device, device, plan.stations, &mut output)?;
     match keep_open(rt, alloc, device, line, counters, SPAN) {
         Ok(closed) => tell_closed(closed, &mut output),
         Err((_, refusal)) => Err(OfficeFault::from(refusal)),
@@ -167,44 +179,27 @@ fn pipe_of<'a, R: Files<File = File>>(
     }
 }
 
-// The device, formatted if that is asked for and it holds no ledger.
+// The device, formatted first if that is asked for.
 fn open_device<'a, R: Files<File = File>, W: Write>(
     rt: &R,
     alloc: Global,
     options: &Options<'a>,
+    formatting: Option<Formatting>,
     output: &mut Output<'_, W>,
 ) -> Result<FileDevice, OfficeFault<'a>> {
     let path = options.device;
-    let mut device = match FileDevice::open_with_cause(rt, alloc, path, options.sectors) {
+    let opened = match formatting {
+        Some(formatting) => format_ledger(rt, alloc, path, formatting),
+        None => open_ledger(rt, alloc, path, options.sectors.unwrap_or(0)),
+    };
+    let device = match opened {
         Ok(device) => device,
-        Err(refusal) => return Err(OfficeFault::Device { path, refusal }),
+        Err(refusal) => return Err(OfficeFault::of_file(path, refusal)),
     };
-    let Some(slots) = options.format else {
-        return Ok(device);
-    };
-    format_empty(path, &mut device, slots)?;
-    output.line(format_args!("formatted {slots}"))?;
+    if let Some(Formatting { slots, .. }) = formatting {
+        output.line(format_args!("formatted {slots}"))?;
+    }
     Ok(device)
-}
-
-// Formats a device that doesn't begin as a ledger does.
-fn format_empty<'a, D: Device>(
-    path: &'a str,
-    device: &mut D,
-    slots: NonZeroU64,
-) -> Result<(), OfficeFault<'a>> {
-    match begins_as_journal(device) {
-        Ok(false) => {}
-        Ok(true) => return Err(OfficeFault::HoldsLedger { path }),
-        Err(_) => {
-            let refusal = FormatRefusal::Device;
-            return Err(OfficeFault::Unformatted { path, refusal });
-        }
-    }
-    match format(device, slots.get()) {
-        Ok(()) => Ok(()),
-        Err(refusal) => Err(OfficeFault::Unformatted { path, refusal }),
-    }
 }
 
 // Tells what the device holds, and gives the line that its office begins with.

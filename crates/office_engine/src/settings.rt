@@ -1,6 +1,7 @@
 //! What the program is asked for.
-ghost use Rattle.std.specs.Prelude.{◌≡◌, ◌≤◌, ◌<◌, ◌+◌, length, false, [], IsTrue, IfOk, Err};
+ghost use Rattle.std.specs.Prelude.{◌≡◌, ◌≤◌, ◌<◌, ◌+◌, ◌↔◌, length, false, [], None, option_map, unwrap_or, IsTrue, IfOk, IfSome, Err};
 
+use ledger_file::Formatting;
 use std::num::NonZeroU64;
 use thiserror::Error;
 
@@ -14,8 +15,8 @@ const MOST_STATIONS: usize = 64;
 pub struct Options<'a> {
     /// The path of the file or the disk that is the device.
     pub device: &'a str,
-    /// How many sectors the device has at least: 1 to 4,000,039.
-    pub sectors: u64,
+    /// How many sectors the device has at least, if that is said: 1 to 4,000,039.
+    pub sectors: Option<u64>,
     /// The folders of the counters, that of station 0 first.
     pub counters: Vec<&'a str>,
     /// Whether the terminal is a counter too, behind the others.
@@ -24,6 +25,8 @@ pub struct Options<'a> {
     pub stations: Option<u64>,
     /// How many slots each bank gets where the device is formatted first: at most 1,000,000.
     pub format: Option<NonZeroU64>,
+    /// Whether what is formatted may hold anything.
+    pub overwrite: bool,
 }
 
 /// Why words that are well read don't go together.
@@ -38,6 +41,9 @@ pub enum WrongWords {
     /// Each counter is that of a station.
     #[error("there are more counters than --stations")]
     TooFewStations,
+    /// Only formatting erases anything.
+    #[error("--overwrite needs --format")]
+    NoFormat,
 }
 
 impl Options<'_> {
@@ -68,5 +74,33 @@ impl Options<'_> {
             Some(stations) => Ok(stations),
             None => Ok(fewest),
         }
+    }
+
+    /// How the device is to be made, if that is asked for.
+    ///
+    /// # Errors
+    /// `NoFormat`, if what isn't formatted was to be overwritten.
+    pub fn formatting(&self) -> Result<Option<Formatting>, WrongWords>
+        ensures slots { IfOk result (λ formatting.
+            option_map (λ f. f.slots) formatting ≡ self.now.format) }
+        ensures sectors { IfOk result (λ formatting.
+            IfSome formatting (λ f. f.sectors ≡ unwrap_or self.now.sectors 0)) }
+        ensures overwrite { IfOk result (λ formatting.
+            IfSome formatting (λ f. f.overwrite ≡ self.now.overwrite)) }
+        ensures refused { (result ≡ Err WrongWords.NoFormat)
+            ↔ ((self.now.format ≡ None) × IsTrue self.now.overwrite) }
+    {
+        let Some(slots) = self.format else {
+            return if self.overwrite {
+                Err(WrongWords::NoFormat)
+            } else {
+                Ok(None)
+            };
+        };
+        Ok(Some(Formatting {
+            slots,
+            sectors: self.sectors.unwrap_or(0),
+            overwrite: self.overwrite,
+        }))
     }
 }

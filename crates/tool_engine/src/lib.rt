@@ -19,7 +19,7 @@ mod unsound_ledger;
 
 pub use command_line::read_request;
 pub use end::{End, end_of};
-pub use file_device::{Locking, LookRefusal};
+pub use file_device::{FileFault, Locking};
 pub use ledger_map::Place;
 pub use ledger_printing::{Date, Format, JournalWish, Progress, Selection};
 pub use ledger_reading::{Cause, Device, OpenRefusal};

@@ -13,7 +13,7 @@ use crate::sound_ledger::{print_map, print_sound};
 use crate::unsound_ledger::{Telling, damage};
 use clap::Error;
 use clap::error::ErrorKind;
-use file_device::{Locking, LookRefusal, ReadOnlyFile};
+use file_device::{FileFault, Locking, ReadOnlyFile};
 use ledger_printing::PrintFault;
 use ledger_reading::{Device, OpenRefusal, ReadRefusal, Sound, look};
 use script_streams::{StreamFault, write_all};
@@ -62,7 +62,7 @@ fn run_request<F: Files<File = File>, W: Write, E: Write>(
             tell_locking(alloc, request, errors);
             run_on_device(alloc, request, device, writer, errors, shows_progress)
         }
-        Err(refusal) => tell_look_refusal(alloc, request.path, refusal, errors),
+        Err(fault) => tell_file_fault(alloc, request.path, fault, errors),
     }
 }
 
@@ -76,15 +76,10 @@ fn tell_locking<E: Write>(alloc: Global, request: &Request<'_>, errors: &mut E) 
 }
 
 // Tells why a file can't be looked at.
-fn tell_look_refusal<E: Write>(
-    alloc: Global,
-    path: &str,
-    refusal: LookRefusal,
-    errors: &mut E,
-) -> End {
-    match refusal {
-        LookRefusal::Memory => fail(alloc, OUT_OF_MEMORY, errors),
-        refusal => fail(alloc, format_args!("{path}: {refusal}"), errors),
+fn tell_file_fault<E: Write>(alloc: Global, path: &str, fault: FileFault, errors: &mut E) -> End {
+    match fault {
+        FileFault::Memory => fail(alloc, OUT_OF_MEMORY, errors),
+        fault => fail(alloc, format_args!("{path}: {fault}"), errors),
     }
 }
 

@@ -1,18 +1,13 @@
-use crate::{Device, DeviceFault, FileDevice, FileRefusal, SECTOR, Sector};
+//! Real files.
+use file_device::{Device, DeviceFault, FileDevice, FileRefusal, SECTOR, Sector};
 use std::fs;
 use std::fs::{File, Files};
 use std::os::unix::fs::FileExt;
 use std::process::Abort;
 use std::test::Fail;
 
-mod disk;
-mod disks;
-mod looking;
-mod steps;
-mod transfers;
-
-// A sector of its own for each number.
-fn sector_of(number: u64) -> Sector {
+/// A sector of its own for each number.
+pub fn sector_of(number: u64) -> Sector {
     let mut bytes = [0x5a; SECTOR];
     let [low, next, .., last, _] = number.to_le_bytes();
     bytes[0] = low;
@@ -21,14 +16,14 @@ fn sector_of(number: u64) -> Sector {
     bytes
 }
 
-fn read_at<D: Device>(rt: &impl Abort, device: &mut D, at: u64) -> Result<Sector, DeviceFault> {
+pub fn read_at<D: Device>(rt: &impl Abort, device: &mut D, at: u64) -> Result<Sector, DeviceFault> {
     assert!(rt; at < device.sectors());
     let mut bytes = [0; SECTOR];
     device.read(at, &mut bytes)?;
     Ok(bytes)
 }
 
-fn write_at<D: Device>(
+pub fn write_at<D: Device>(
     rt: &impl Abort,
     device: &mut D,
     at: u64,
@@ -38,8 +33,8 @@ fn write_at<D: Device>(
     device.write(at, from)
 }
 
-// The sector of this number holds these bytes.
-fn expect_sector<D: Device>(
+/// The sector of this number holds these bytes.
+pub fn expect_sector<D: Device>(
     rt: &impl Abort,
     device: &mut D,
     at: u64,
@@ -49,8 +44,8 @@ fn expect_sector<D: Device>(
     Ok(())
 }
 
-// An empty folder of the test's own.
-fn make_folder(rt: &HostRuntime, folder: &str) -> Result<(), Fail> {
+/// An empty folder of the test's own.
+pub fn make_folder(rt: &HostRuntime, folder: &str) -> Result<(), Fail> {
     let _ = fs::remove_dir_all(rt, folder);
     fs::create_dir(rt, folder)?;
     Ok(())

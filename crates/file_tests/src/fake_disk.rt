@@ -1,13 +1,9 @@
 // A disk with one file, which notes what is asked of it and does as much as it is told to.
 ghost use Rattle.std.specs.Prelude.{◌+◌, ◌≤◌, IsErr};
 
-use crate::device_file::DeviceFile;
-use crate::disk::Disk as BlockDevice;
-use crate::disk_tables::DeviceNumber;
-use crate::looking::open_to_look;
-use crate::opening::{Wanted, open_sectors};
-use crate::{
-    DeviceRefusal, FileRefusal, Locking, LookRefusal, ReadAhead, ReadOnly, SECTOR, SectorFile,
+use file_device::{
+    DeviceFile, DeviceNumber, DeviceOn, DeviceRefusal, Disk as BlockDevice, FileFault, Locking,
+    ReadOnlyOn,
 };
 use std::alloc::{Allocator, Global};
 use std::cell::Cell;
@@ -45,6 +41,7 @@ pub enum Asked {
     SyncData,
     SyncFile,
     SyncFolder,
+    Remove,
 }
 
 /// What stands in a file where it was made longer and nothing was written.
@@ -74,6 +71,8 @@ pub struct Limits {
     pub number: RawFd,
     /// Whether the file is a block device.
     pub is_disk: bool,
+    /// What the system's table of mounts has.
+    pub mounts: &'static [u8],
 }
 
 /// A disk that fails nowhere.
@@ -83,6 +82,7 @@ pub const WHOLE: Limits = Limits {
     bytes_a_call: usize::MAX,
     number: 3,
     is_disk: false,
+    mounts: b"",
 };
 
 impl<'a> Disk<'a> {
@@ -99,32 +99,24 @@ impl<'a> Disk<'a> {
         }
     }
 
-    /// Opens a file with five sectors, which grows by pieces of two.
-    pub fn open_five(&'a self, path: &str) -> Result<SectorFile<Opened<'a>>, FileRefusal> {
-        Ok(self.open_any(path, false)?)
+    /// Opens a file or a disk with so many sectors.
+    pub fn open(&'a self, path: &str, sectors: u64) -> Result<DeviceOn<Opened<'a>>, DeviceRefusal> {
+        DeviceOn::open_with_cause(&OnDisk { disk: self }, self.alloc, path, sectors)
     }
 
-    /// Opens a file or a disk with five sectors, or a disk that may be written over, and looks at the first two of it.
-    pub fn open_any(
-        &'a self,
-        path: &str,
-        overwrite: bool,
-    ) -> Result<SectorFile<Opened<'a>>, DeviceRefusal> {
-        let wanted = Wanted {
-            path,
-            sectors: 5,
-            overwrite,
-        };
-        let files = OnDisk { disk: self };
-        open_sectors(&files, self.alloc, wanted, &mut [[0; SECTOR]; 2])
+    /// Opens a disk that may be written over.
+    pub fn overwrite(&'a self, sectors: u64) -> Result<DeviceOn<Opened<'a>>, DeviceRefusal> {
+        DeviceOn::overwrite(&OnDisk { disk: self }, self.alloc, self.path, sectors)
     }
 
     /// Opens its file for reading alone.
-    pub fn look(
-        &'a self,
-        locking: Locking,
-    ) -> Result<ReadOnly<ReadAhead<SectorFile<Opened<'a>>>>, LookRefusal> {
-        open_to_look(&OnDisk { disk: self }, self.alloc, self.path, locking)
+    pub fn look(&'a self, locking: Locking) -> Result<ReadOnlyOn<Opened<'a>>, FileFault> {
+        ReadOnlyOn::open(&OnDisk { disk: self }, self.alloc, self.path, locking)
+    }
+
+    /// Its files.
+    pub fn files(&'a self) -> OnDisk<'a> {
+        OnDisk { disk: self }
     }
 
     /// The disk with a file of these bytes.
@@ -187,6 +179,8 @@ pub struct Opened<'a> {
     disk: &'a Disk<'a>,
     is_folder: bool,
     number: RawFd,
+    // what is left to be read of a table of the system's
+    told: &'static [u8],
 }
 
 fn unsupported<T>() -> io::Result<T>
@@ -209,10 +203,18 @@ impl<'a> Files for OnDisk<'a> {
 
     fn open_file(&self, how: &OpenOptions, path: &str) -> io::Result<Opened<'a>> {
         how.check()?;
+        let disk = self.disk;
+        if path == "/proc/self/mountinfo" {
+            return Ok(Opened {
+                disk,
+                is_folder: false,
+                number: 3,
+                told: disk.limits.get().mounts,
+            });
+        }
         if path.starts_with("/proc/") || path.starts_with("/sys/") {
             return missing();
         }
-        let disk = self.disk;
         let is_folder = path == disk.folder && !how.asks_write();
         if is_folder {
             disk.ask(Asked::OpenFolder)?;
@@ -235,6 +237,7 @@ impl<'a> Files for OnDisk<'a> {
             disk,
             is_folder,
             number: disk.limits.get().number,
+            told: b"",
         })
     }
 
@@ -249,8 +252,8 @@ impl<'a> Files for OnDisk<'a> {
         Ok(Metadata::of_file(0))
     }
 
-    fn symlink_metadata(&self, _path: &str) -> io::Result<Metadata> {
-        unsupported()
+    fn symlink_metadata(&self, path: &str) -> io::Result<Metadata> {
+        self.metadata(path)
     }
 
     fn copy(&self, _from: &str, _to: &str) -> io::Result<u64> {
@@ -262,7 +265,9 @@ impl<'a> Files for OnDisk<'a> {
     }
 
     fn remove_file(&self, _path: &str) -> io::Result<()> {
-        unsupported()
+        self.disk.ask(Asked::Remove)?;
+        self.disk.there.set(false);
+        Ok(())
     }
 
     fn create_dir(&self, _path: &str) -> io::Result<()> {
@@ -323,6 +328,7 @@ impl OpenFile for Opened<'_> {
             disk: self.disk,
             is_folder: self.is_folder,
             number: 7,
+            told: b"",
         })
     }
 }
@@ -377,8 +383,8 @@ impl DeviceFile for Opened<'_> {
 }
 
 impl Read for Opened<'_> {
-    fn read(&mut self, _buf: &mut [u8]) -> io::Result<usize> {
-        unsupported()
+    fn read(&mut self, buf: &mut [u8]) -> io::Result<usize> {
+        self.told.read(buf)
     }
 }
 

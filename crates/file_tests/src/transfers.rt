@@ -1,7 +1,7 @@
 // Sectors that the system moves whole or in parts, and calls that fail within.
-use super::disk::{Asked, Disk, Limits, Opened, WHOLE};
-use super::{expect_sector, read_at, sector_of, write_at};
-use crate::{Device, DeviceFault, ReadRun, SECTOR, Sector, SectorFile};
+use crate::fake_disk::{Asked, Disk, Limits, Opened, WHOLE};
+use crate::files::{expect_sector, read_at, sector_of, write_at};
+use file_device::{Device, DeviceFault, ReadRun, SECTOR, Sector, SectorFile};
 use std::process::Abort;
 use std::test::Fail;
 
@@ -36,9 +36,9 @@ fn in_parts(fails: usize) -> Limits {
 
 // Five sectors of a new file, which nothing has been asked of yet.
 fn new_sectors<'a>(disk: &'a Disk<'a>) -> Result<SectorFile<Opened<'a>>, Fail> {
-    let file = disk.open_five("ledger")?;
+    let device = disk.open("ledger", 5)?;
     let _ = disk.take_asked();
-    Ok(file)
+    Ok(device.into_inner().into_inner())
 }
 
 // Reads all five sectors in one call.

@@ -1,41 +1,46 @@
-// What an opening asks of a disk, step by step, and what it does where a step fails.
-use super::disk::{Asked, Disk, Limits, WHOLE};
-use crate::{Device, FileRefusal};
+// What an opening asks of the system, step by step, and what it does where a step fails.
+use crate::fake_disk::{Asked, Disk, Limits, WHOLE};
+use file_device::{Device, DeviceRefusal, FileFault};
 use std::alloc::Global;
 use std::io::ErrorKind;
 use std::process::Abort;
 use std::test::Fail;
 
-/// The steps of an opening of a new file with five sectors, by pieces of two.
+/// How many sectors are asked for, and the length that they have.
+const SECTORS: u64 = 600;
+
+const LENGTH: usize = 307_200;
+
+/// The steps of an opening of a new file. It grows by 256 sectors at a time.
 const NEW: [Asked; 13] = [
     Asked::Open,
     Asked::OpenFolder,
     Asked::Make,
     Asked::Lock,
     Asked::Look,
-    Asked::Length(1024),
-    Asked::Write(0, 1024),
-    Asked::Length(2048),
-    Asked::Write(1024, 1024),
-    Asked::Length(2560),
-    Asked::Write(2048, 512),
+    Asked::Length(131_072),
+    Asked::Write(0, 131_072),
+    Asked::Length(262_144),
+    Asked::Write(131_072, 131_072),
+    Asked::Length(307_200),
+    Asked::Write(262_144, 45_056),
     Asked::SyncFile,
     Asked::SyncFolder,
 ];
 
-/// The steps of an opening with five sectors of a file that has three.
+/// The steps of an opening of a file that has all but three of them.
 const OLD: [Asked; 8] = [
     Asked::Open,
     Asked::OpenFolder,
     Asked::Lock,
     Asked::Look,
-    Asked::Length(2560),
-    Asked::Write(1536, 1024),
+    Asked::Length(307_200),
+    Asked::Write(305_664, 1536),
     Asked::SyncFile,
     Asked::SyncFolder,
 ];
 
-/// The steps of an opening of a file that has as many sectors as are asked for.
+/// The steps of an opening of a file that has as many as are asked for.
 const FULL: [Asked; 6] = [
     Asked::Open,
     Asked::OpenFolder,
@@ -45,7 +50,12 @@ const FULL: [Asked; 6] = [
     Asked::SyncFolder,
 ];
 
-/// An opening with five sectors, and what is to become of it.
+/// What follows a growth that failed, of a file that this opening made and of one that was there.
+const TAKEN_BACK: [Asked; 3] = [Asked::Length(0), Asked::Look, Asked::Remove];
+
+const CUT_BACK: [Asked; 1] = [Asked::Length(305_664)];
+
+/// An opening, and what is to become of it.
 #[derive(Clone, Copy)]
 struct Opening<'a> {
     /// The file's path, and the folder that it lies in.
@@ -55,11 +65,11 @@ struct Opening<'a> {
     before: Option<usize>,
     limits: Limits,
     /// How many sectors there are, or why it is refused.
-    outcome: Result<u64, FileRefusal>,
-    /// What the disk is asked for, and then this, if anything.
+    outcome: Result<u64, FileFault>,
+    /// What the disk is asked for, and what follows.
     steps: &'a [Asked],
-    last: Option<Asked>,
-    /// How many bytes the file has from before, and with the zeros behind them, or None where it isn't made.
+    then: &'a [Asked],
+    /// How many bytes the file has from before, and with the zeros behind them, or None where there is no file.
     after: Option<(usize, usize)>,
 }
 
@@ -68,39 +78,34 @@ const OF_A_NEW_FILE: Opening<'static> = Opening {
     folder: ".",
     before: None,
     limits: WHOLE,
-    outcome: Ok(5),
+    outcome: Ok(SECTORS),
     steps: &NEW,
-    last: None,
-    after: Some((0, 2560)),
+    then: &[],
+    after: Some((0, LENGTH)),
 };
 
 const OF_AN_OLD_FILE: Opening<'static> = Opening {
     path: "ledger",
     folder: ".",
-    before: Some(1536),
+    before: Some(305_664),
     limits: WHOLE,
-    outcome: Ok(5),
+    outcome: Ok(SECTORS),
     steps: &OLD,
-    last: None,
-    after: Some((1536, 2560)),
+    then: &[],
+    after: Some((305_664, LENGTH)),
 };
 
-const REFUSED: Result<u64, FileRefusal> = Err(FileRefusal::File);
-
-// Opens five sectors at this path, and gives how many there are.
-fn opened(disk: &Disk, path: &str) -> Result<u64, FileRefusal> {
-    Ok(disk.open_five(path)?.sectors())
+// Opens the file at this path, and gives how many sectors it has.
+fn opened(disk: &Disk, path: &str) -> Result<u64, FileFault> {
+    match disk.open(path, SECTORS) {
+        Ok(device) => Ok(device.sectors()),
+        Err(DeviceRefusal::File(fault)) => Err(fault),
+        Err(DeviceRefusal::Disk(_)) => Ok(0),
+    }
 }
 
 fn failing_at(fails: usize) -> Limits {
     Limits { fails, ..WHOLE }
-}
-
-// A disk whose file has so many bytes, none of which is zero.
-fn disk_with(alloc: Global, length: usize, limits: Limits) -> Result<Disk<'static>, Fail> {
-    let disk = Disk::new(alloc, "ledger", ".", limits);
-    disk.holds(vec![in alloc; 7; length]?);
-    Ok(disk)
 }
 
 // The file has so many bytes from before, and then zeros up to this length.
@@ -111,16 +116,22 @@ fn expect_bytes(rt: &impl Abort, disk: &Disk, after: Option<(usize, usize)>) {
     };
     let bytes = disk.take_bytes().expect(rt, "a file");
     assert!(rt; bytes.len() == length);
-    for (place, byte) in bytes.iter().enumerate() {
-        assert!(rt; *byte == (if place < old { 7 } else { 0 }), "{place}");
-    }
+    assert!(rt;
+        bytes.as_slice()[..old.min(length)]
+            .iter()
+            .all(|byte| *byte == 7)
+    );
+    assert!(rt;
+        bytes.as_slice()[old.min(length)..]
+            .iter()
+            .all(|byte| *byte == 0)
+    );
 }
 
-// The disk was asked for these steps, and then for this one, if any.
-fn expect_steps(rt: &impl Abort, disk: &Disk, steps: &[Asked], last: Option<Asked>) {
+// The disk was asked for these steps, and then for those.
+fn expect_steps(rt: &impl Abort, disk: &Disk, steps: &[Asked], then: &[Asked]) {
     let asked = disk.take_asked();
-    let behind = asked.as_slice().strip_prefix(steps);
-    assert!(rt; behind == Some(last.as_slice()));
+    assert!(rt; asked.as_slice().strip_prefix(steps) == Some(then));
 }
 
 // Makes the disk and opens its file.
@@ -130,7 +141,7 @@ fn comes_to_pass(rt: &impl Abort, alloc: Global, opening: &Opening) -> Result<()
         disk.holds(vec![in alloc; 7; length]?);
     }
     assert!(rt; opened(&disk, opening.path) == opening.outcome);
-    expect_steps(rt, &disk, opening.steps, opening.last);
+    expect_steps(rt, &disk, opening.steps, opening.then);
     expect_bytes(rt, &disk, opening.after);
     Ok(())
 }
@@ -139,7 +150,7 @@ fn comes_to_pass(rt: &impl Abort, alloc: Global, opening: &Opening) -> Result<()
 fn a_file_is_locked_grown_and_synced(rt: HostRuntime) -> Result<(), Fail> {
     comes_to_pass(&rt, rt.alloc(), &OF_A_NEW_FILE)?;
     comes_to_pass(&rt, rt.alloc(), &OF_AN_OLD_FILE)?;
-    for (length, sectors) in [(2560, 5), (4096, 8)] {
+    for (length, sectors) in [(LENGTH, SECTORS), (LENGTH + 1536, SECTORS + 3)] {
         let opening = Opening {
             before: Some(length),
             outcome: Ok(sectors),
@@ -152,20 +163,20 @@ fn a_file_is_locked_grown_and_synced(rt: HostRuntime) -> Result<(), Fail> {
     Ok(())
 }
 
-// The file is made by the third step, and its growth goes from the sixth to the eleventh.
+// The file is made by the third step, and from the fifth on it is removed again.
 #[test]
-fn where_a_step_fails_a_new_file_is_empty_or_whole(rt: HostRuntime) -> Result<(), Fail> {
+fn where_a_step_fails_no_new_file_is_left_that_grew(rt: HostRuntime) -> Result<(), Fail> {
     for fails in 0..NEW.len() {
         let opening = Opening {
             limits: failing_at(fails),
-            outcome: REFUSED,
+            outcome: Err(FileFault::Failed),
             steps: &NEW[..=fails],
-            last: (5..=10).contains(&fails).then_some(Asked::Length(0)),
-            after: match fails {
-                0..=2 => None,
-                3..=10 => Some((0, 0)),
-                _ => Some((0, 2560)),
+            then: match fails {
+                0..=4 => &[],
+                5..=10 => &TAKEN_BACK,
+                _ => &TAKEN_BACK[1..],
             },
+            after: matches!(fails, 3..=4).then_some((0, 0)),
             ..OF_A_NEW_FILE
         };
         comes_to_pass(&rt, rt.alloc(), &opening)?;
@@ -178,13 +189,43 @@ fn where_a_step_fails_an_old_file_keeps_its_bytes(rt: HostRuntime) -> Result<(),
     for fails in 0..OLD.len() {
         let opening = Opening {
             limits: failing_at(fails),
-            outcome: REFUSED,
+            outcome: Err(FileFault::Failed),
             steps: &OLD[..=fails],
-            last: (4..=5).contains(&fails).then_some(Asked::Length(1536)),
-            after: Some((1536, if fails > 5 { 2560 } else { 1536 })),
+            then: if (4..=5).contains(&fails) {
+                &CUT_BACK
+            } else {
+                &[]
+            },
+            after: Some((305_664, if fails > 5 { LENGTH } else { 305_664 })),
             ..OF_AN_OLD_FILE
         };
         comes_to_pass(&rt, rt.alloc(), &opening)?;
+    }
+    Ok(())
+}
+
+// Each cause of a step is told: which fails, why, and how it is told.
+#[test]
+fn each_failed_step_has_its_cause(rt: HostRuntime) -> Result<(), Fail> {
+    let rows = [
+        (0, ErrorKind::PermissionDenied, FileFault::NotWritable),
+        (0, ErrorKind::IsADirectory, FileFault::NoFile),
+        (1, ErrorKind::NotFound, FileFault::NoFolder),
+        (1, ErrorKind::PermissionDenied, FileFault::NotWritable),
+        (2, ErrorKind::StorageFull, FileFault::NoRoom),
+        (3, ErrorKind::WouldBlock, FileFault::InUse),
+        (6, ErrorKind::StorageFull, FileFault::NoRoom),
+        (6, ErrorKind::QuotaExceeded, FileFault::NoRoom),
+        (5, ErrorKind::FileTooLarge, FileFault::NoRoom),
+        (11, ErrorKind::TimedOut, FileFault::Failed),
+    ];
+    for (fails, reason, fault) in rows {
+        let limits = Limits {
+            reason,
+            ..failing_at(fails)
+        };
+        let disk = Disk::new(rt.alloc(), "ledger", ".", limits);
+        assert!(rt; opened(&disk, "ledger") == Err(fault), "{fails}");
     }
     Ok(())
 }
@@ -204,7 +245,7 @@ fn a_folder_that_may_not_be_read_keeps_no_old_file_closed(rt: HostRuntime) -> Re
     comes_to_pass(&rt, rt.alloc(), &of_an_old_file)?;
     let of_a_new_file = Opening {
         limits,
-        outcome: REFUSED,
+        outcome: Err(FileFault::NotWritable),
         steps: &NEW[..2],
         after: None,
         ..OF_A_NEW_FILE
@@ -212,20 +253,29 @@ fn a_folder_that_may_not_be_read_keeps_no_old_file_closed(rt: HostRuntime) -> Re
     comes_to_pass(&rt, rt.alloc(), &of_a_new_file)
 }
 
-// A kilobyte takes eleven writes of a hundred bytes, and the last sector six. So with the three lengths the growth has
-// 31 steps, of which the first is the sixth step of all.
+// A piece takes three writes of 50,000 bytes, and the last one a single one: so with the three lengths the growth has ten
+// steps, of which the first is the sixth step of all.
 #[test]
 fn zeros_that_are_written_in_part_are_finished(rt: HostRuntime) -> Result<(), Fail> {
-    for fails in 5..37 {
+    for fails in 5..16 {
         let limits = Limits {
-            bytes_a_call: 100,
-            fails,
-            ..WHOLE
+            bytes_a_call: 50_000,
+            ..failing_at(fails)
         };
         let disk = Disk::new(rt.alloc(), "ledger", ".", limits);
-        assert!(rt; opened(&disk, "ledger") == REFUSED);
-        expect_bytes(&rt, &disk, Some((0, if fails == 36 { 2560 } else { 0 })));
+        assert!(rt; opened(&disk, "ledger") == Err(FileFault::Failed));
+        let asked = disk.take_asked();
+        assert!(rt; !asked.contains(&Asked::SyncFile) || fails == 15, "{fails}");
+        assert!(rt; disk.take_bytes().is_none(), "{fails}");
     }
+    let limits = Limits {
+        bytes_a_call: 50_000,
+        ..WHOLE
+    };
+    let disk = Disk::new(rt.alloc(), "ledger", ".", limits);
+    assert!(rt; opened(&disk, "ledger") == Ok(SECTORS));
+    assert!(rt; disk.take_asked().len() == 5 + 10 + 2);
+    expect_bytes(&rt, &disk, Some((0, LENGTH)));
     Ok(())
 }
 
@@ -256,8 +306,9 @@ fn the_folder_of_the_name_is_synced(rt: HostRuntime) -> Result<(), Fail> {
 fn a_file_with_the_number_of_a_stream_gets_another(rt: HostRuntime) -> Result<(), Fail> {
     for number in 0..4 {
         let limits = Limits { number, ..WHOLE };
-        let disk = disk_with(rt.alloc(), 2560, limits)?;
-        assert!(rt; opened(&disk, "ledger") == Ok(5), "{number}");
+        let disk = Disk::new(rt.alloc(), "ledger", ".", limits);
+        disk.holds(vec![in rt.alloc(); 7; LENGTH]?);
+        assert!(rt; opened(&disk, "ledger") == Ok(SECTORS), "{number}");
         let asked = disk.take_asked();
         let moved = if number <= 2 { 3 } else { 2 };
         assert!(rt; asked.contains(&Asked::Move) == (number <= 2), "{number}");
@@ -269,16 +320,15 @@ fn a_file_with_the_number_of_a_stream_gets_another(rt: HostRuntime) -> Result<()
 #[test]
 fn without_another_number_the_file_is_refused(rt: HostRuntime) -> Result<(), Fail> {
     let opening = Opening {
-        before: Some(2560),
+        before: Some(LENGTH),
         limits: Limits {
             number: 1,
-            fails: 2,
-            ..WHOLE
+            ..failing_at(2)
         },
-        outcome: REFUSED,
+        outcome: Err(FileFault::Failed),
         steps: &FULL[..2],
-        last: Some(Asked::Move),
-        after: Some((2560, 2560)),
+        then: &[Asked::Move],
+        after: Some((LENGTH, LENGTH)),
         ..OF_AN_OLD_FILE
     };
     comes_to_pass(&rt, rt.alloc(), &opening)

@@ -1,7 +1,7 @@
 // Files that are only read.
-use super::disk::{Asked, Disk, Limits, WHOLE};
-use super::{make_folder, read_at, sector_of, write_at};
-use crate::{Device, FileDevice, FileRefusal, Locking, LookRefusal, ReadOnlyFile};
+use crate::fake_disk::{Asked, Disk, Limits, WHOLE};
+use crate::files::{make_folder, read_at, sector_of, write_at};
+use file_device::{Device, FileDevice, FileFault, FileRefusal, Locking, ReadOnlyFile};
 use std::alloc::Global;
 use std::fs;
 use std::fs::{File, Files};
@@ -41,11 +41,11 @@ fn a_look_locks_and_asks_for_nothing_else(rt: HostRuntime) -> Result<(), Fail> {
 #[test]
 fn each_failed_step_of_a_look_is_told(rt: HostRuntime) -> Result<(), Fail> {
     let rows = [
-        (0, 1, ErrorKind::NotFound, LookRefusal::Missing),
-        (0, 1, ErrorKind::PermissionDenied, LookRefusal::Denied),
-        (0, 1, ErrorKind::OutOfMemory, LookRefusal::Memory),
-        (1, 2, ErrorKind::WouldBlock, LookRefusal::InUse),
-        (2, 3, ErrorKind::TimedOut, LookRefusal::Failed),
+        (0, 1, ErrorKind::NotFound, FileFault::Missing),
+        (0, 1, ErrorKind::PermissionDenied, FileFault::NotReadable),
+        (0, 1, ErrorKind::OutOfMemory, FileFault::Memory),
+        (1, 2, ErrorKind::WouldBlock, FileFault::InUse),
+        (2, 3, ErrorKind::TimedOut, FileFault::Failed),
     ];
     for (fails, asked, reason, refusal) in rows {
         let limits = Limits {
@@ -69,7 +69,7 @@ fn looked<R: Files<File = File>>(
     alloc: Global,
     path: &str,
     locking: Locking,
-) -> Result<u64, LookRefusal> {
+) -> Result<u64, FileFault> {
     Ok(ReadOnlyFile::open(files, alloc, path, locking)?.sectors())
 }
 
@@ -77,7 +77,7 @@ const PATH: &str = "file_device_looked/sectors";
 
 // Whoever has the file keeps others out, but for a look that doesn't lock it.
 fn is_had<R: Files<File = File> + AllocGlobal + Abort>(rt: &R) -> Result<(), Fail> {
-    assert!(rt; looked(rt, rt.alloc(), PATH, Locking::Shared) == Err(LookRefusal::InUse));
+    assert!(rt; looked(rt, rt.alloc(), PATH, Locking::Shared) == Err(FileFault::InUse));
     assert!(rt; looked(rt, rt.alloc(), PATH, Locking::Unlocked) == Ok(3));
     let second = FileDevice::open(rt, rt.alloc(), PATH, 5).err();
     assert!(rt; second == Some(FileRefusal::File));

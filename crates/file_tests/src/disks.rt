@@ -1,27 +1,28 @@
 // What an opening asks of a block device, and which it refuses.
-use super::disk::{Asked, Disk, Limits, WHOLE};
-use super::make_folder;
-use crate::disk_tables::{DeviceNumber, has_entries, number_in, source_in};
-use crate::{Device, DeviceRefusal, DiskFault, FileRefusal, SECTOR};
+use crate::fake_disk::{Asked, Disk, Limits, WHOLE};
+use file_device::{Device, DeviceNumber, DeviceRefusal, DiskFault, FileFault, FileRefusal, SECTOR};
 use std::alloc::Global;
-use std::fs;
 use std::process::Abort;
 use std::test::Fail;
 
-/// The steps of an opening of a disk, whose first two sectors are looked at.
+/// How many sectors are looked at, as bytes.
+const FRONT: usize = 131_072;
+
+/// The steps of an opening of a disk, whose first 256 sectors are looked at.
 const LOOKED_AT: [Asked; 7] = [
     Asked::Open,
     Asked::OpenFolder,
     Asked::Lock,
     Asked::Look,
     Asked::End,
-    Asked::Read(0, 1024),
+    Asked::Read(0, FRONT),
     Asked::SyncFile,
 ];
 
 /// The steps of an opening of a disk that may be written over.
-const OVERWRITTEN: [Asked; 5] = [
+const OVERWRITTEN: [Asked; 6] = [
     Asked::Open,
+    Asked::OpenFolder,
     Asked::Lock,
     Asked::Look,
     Asked::End,
@@ -32,8 +33,6 @@ const WHOLE_DISK: Limits = Limits {
     is_disk: true,
     ..WHOLE
 };
-
-const FILE: DeviceRefusal = DeviceRefusal::File(FileRefusal::File);
 
 const NO_LEDGER: DeviceRefusal = DeviceRefusal::Disk(DiskFault::NoLedger);
 
@@ -49,11 +48,11 @@ struct Held<'a> {
 
 fn bytes_of(alloc: Global, held: Held) -> Result<Vec<u8>, Fail> {
     let mut bytes = Vec::from_slice(alloc, held.begin)?;
-    bytes.resize(held.sectors.min(100) * SECTOR, held.rest)?;
+    bytes.resize(held.sectors.min(1000) * SECTOR, held.rest)?;
     Ok(bytes)
 }
 
-// Opens such a disk, and gives how many sectors it has and what was asked of it. It keeps its bytes.
+// Opens such a disk with at least 300 sectors, and gives how many it has and what was asked of it. It keeps its bytes.
 fn opened(
     rt: &impl Abort,
     alloc: Global,
@@ -63,9 +62,12 @@ fn opened(
 ) -> Result<(Result<u64, DeviceRefusal>, Vec<Asked>), Fail> {
     let disk = Disk::new(alloc, "/dev/ledger", "/dev", limits);
     disk.holds(bytes_of(alloc, held)?);
-    let outcome = disk
-        .open_any("/dev/ledger", overwrite)
-        .map(|file| file.sectors());
+    let device = if overwrite {
+        disk.overwrite(300)
+    } else {
+        disk.open("/dev/ledger", 300)
+    };
+    let outcome = device.map(|device| device.sectors());
     let asked = disk.take_asked();
     let kept = disk.take_bytes().expect(rt, "the disk");
     assert!(rt; kept == bytes_of(alloc, held)?);
@@ -73,7 +75,7 @@ fn opened(
 }
 
 const BLANK: Held<'static> = Held {
-    sectors: 8,
+    sectors: 400,
     begin: b"",
     rest: 0,
 };
@@ -81,23 +83,21 @@ const BLANK: Held<'static> = Held {
 #[test]
 fn a_disk_is_locked_looked_at_and_synced(rt: HostRuntime) -> Result<(), Fail> {
     let (outcome, asked) = opened(&rt, rt.alloc(), BLANK, WHOLE_DISK, false)?;
-    assert!(rt; (outcome, asked.as_slice()) == (Ok(8), LOOKED_AT.as_slice()));
+    assert!(rt; (outcome, asked.as_slice()) == (Ok(400), LOOKED_AT.as_slice()));
     let (outcome, asked) = opened(&rt, rt.alloc(), BLANK, WHOLE_DISK, true)?;
-    assert!(rt; (outcome, asked.as_slice()) == (Ok(8), OVERWRITTEN.as_slice()));
+    assert!(rt; (outcome, asked.as_slice()) == (Ok(400), OVERWRITTEN.as_slice()));
     Ok(())
 }
 
-// Only the first two sectors are looked at.
 #[test]
 fn a_disk_is_taken_where_it_holds_a_ledger_or_nothing(rt: HostRuntime) -> Result<(), Fail> {
     let table = [
-        (5, b"TLDG".as_slice(), 7, Ok(5)),
-        (5, b"TLDF".as_slice(), 7, Err(NO_LEDGER)),
-        (5, b"TLD".as_slice(), 0, Err(NO_LEDGER)),
-        (5, [0; 512].as_slice(), 1, Err(NO_LEDGER)),
-        (5, [0; 1023].as_slice(), 1, Err(NO_LEDGER)),
-        (5, [0; 1024].as_slice(), 1, Ok(5)),
-        (4, b"TLDG".as_slice(), 7, Err(TOO_SMALL)),
+        (300, b"TLDG".as_slice(), 7, Ok(300)),
+        (300, b"TLDF".as_slice(), 7, Err(NO_LEDGER)),
+        (300, b"TLD".as_slice(), 0, Err(NO_LEDGER)),
+        (300, [0; FRONT - 1].as_slice(), 1, Err(NO_LEDGER)),
+        (300, [0; FRONT].as_slice(), 1, Ok(300)),
+        (299, b"TLDG".as_slice(), 7, Err(TOO_SMALL)),
         (0, b"".as_slice(), 0, Err(TOO_SMALL)),
     ];
     for (sectors, begin, rest, wanted) in table {
@@ -109,7 +109,11 @@ fn a_disk_is_taken_where_it_holds_a_ledger_or_nothing(rt: HostRuntime) -> Result
         let (outcome, _asked) = opened(&rt, rt.alloc(), held, WHOLE_DISK, false)?;
         assert!(rt; outcome == wanted, "{sectors} {rest}");
         let (outcome, _asked) = opened(&rt, rt.alloc(), held, WHOLE_DISK, true)?;
-        let enough = if sectors < 5 { Err(TOO_SMALL) } else { Ok(5) };
+        let enough = if sectors < 300 {
+            Err(TOO_SMALL)
+        } else {
+            Ok(300)
+        };
         assert!(rt; outcome == enough, "{sectors} {rest}");
     }
     Ok(())
@@ -123,7 +127,7 @@ fn where_a_step_fails_a_disk_is_refused(rt: HostRuntime) -> Result<(), Fail> {
             ..WHOLE_DISK
         };
         let (outcome, asked) = opened(&rt, rt.alloc(), BLANK, limits, false)?;
-        assert!(rt; outcome == Err(FILE));
+        assert!(rt; outcome == Err(DeviceRefusal::File(FileFault::Failed)));
         assert!(rt;
             Some(asked.as_slice()) == LOOKED_AT.get(..=fails),
             "{fails}"
@@ -132,13 +136,38 @@ fn where_a_step_fails_a_disk_is_refused(rt: HostRuntime) -> Result<(), Fail> {
     Ok(())
 }
 
+// The disk's number is 7:1.
+#[test]
+fn a_disk_that_is_mounted_is_refused(rt: HostRuntime) -> Result<(), Fail> {
+    let rows = [
+        (
+            b"36 35 8:1 / /srv rw,noatime master:1 - ext4 /dev/sda1 rw\n37 35 7:1 / /mnt rw - ext4 /dev/loop1 rw\n".as_slice(),
+            Err(DeviceRefusal::Disk(DiskFault::InUse)),
+        ),
+        (
+            b"36 35 8:1 / /srv rw,noatime master:1 - ext4 /dev/sda1 rw\n37 35 7:11 / /7:1 rw - ext4 7:1 rw\n".as_slice(),
+            Ok(400),
+        ),
+    ];
+    for (mounts, wanted) in rows {
+        let limits = Limits {
+            mounts,
+            ..WHOLE_DISK
+        };
+        let (outcome, _asked) = opened(&rt, rt.alloc(), BLANK, limits, false)?;
+        assert!(rt; outcome == wanted);
+    }
+    Ok(())
+}
+
 #[test]
 fn what_is_no_disk_is_not_written_over(rt: HostRuntime) -> Result<(), Fail> {
     let no_disk = DeviceRefusal::Disk(DiskFault::NoDisk);
     let (outcome, asked) = opened(&rt, rt.alloc(), BLANK, WHOLE, true)?;
-    assert!(rt; (outcome, Some(asked.as_slice())) == (Err(no_disk), OVERWRITTEN.get(..3)));
+    assert!(rt; (outcome, Some(asked.as_slice())) == (Err(no_disk), OVERWRITTEN.get(..4)));
     let disk = Disk::new(rt.alloc(), "ledger", ".", WHOLE);
-    assert!(rt; disk.open_any("ledger", true).err() == Some(FILE));
+    let missing = DeviceRefusal::File(FileFault::Missing);
+    assert!(rt; disk.overwrite(300).err() == Some(missing));
     assert!(rt; disk.take_bytes().is_none());
     Ok(())
 }
@@ -156,30 +185,6 @@ fn a_number_is_printed_as_the_system_does(rt: HostRuntime) -> Result<(), Fail> {
         let number = DeviceNumber::from(word);
         assert!(rt; number.to_string(rt.alloc())?.as_str() == text);
     }
-    Ok(())
-}
-
-#[test]
-fn a_line_tells_what_is_mounted(rt: HostRuntime) {
-    let line = b"36 35 8:1 / /srv rw,noatime master:1 shared:2 - ext4 /dev/sda1 rw";
-    assert!(rt; number_in(line) == Some(b"8:1".as_slice()));
-    assert!(rt; source_in(line) == Some(b"/dev/sda1".as_slice()));
-    let line = b"37 35 0:46 /home /home rw - btrfs /dev/sdb rw,space_cache";
-    assert!(rt; number_in(line) == Some(b"0:46".as_slice()));
-    assert!(rt; source_in(line) == Some(b"/dev/sdb".as_slice()));
-    assert!(rt; (number_in(b""), source_in(b"36 35 8:1 / - ext4")) == (None, None));
-}
-
-// The system has an entry in a folder for each device that holds a disk.
-#[test]
-fn a_folder_has_entries_or_none(rt: HostRuntime) -> Result<(), Fail> {
-    make_folder(&rt, "file_device_holders")?;
-    let path = "file_device_holders";
-    assert!(rt; !has_entries(&rt, rt.alloc(), path)?);
-    fs::create_dir(&rt, "file_device_holders/dm-0")?;
-    assert!(rt; has_entries(&rt, rt.alloc(), path)?);
-    fs::remove_dir_all(&rt, path)?;
-    assert!(rt; !has_entries(&rt, rt.alloc(), path)?);
     Ok(())
 }
 

@@ -1,0 +1,268 @@
+// What a file is asked for that is opened as a ledger or formatted, and which keep their bytes and their length.
+use crate::fake_disk::{Asked, Disk, Limits, WHOLE};
+use file_device::{Device, DeviceRefusal, FileFault, SECTOR};
+use ledger_file::{
+    Formatting, HeldFault, LedgerRefusal, PartFault, format_ledger, open_for_script, open_ledger,
+};
+use std::alloc::Global;
+use std::io::ErrorKind;
+use std::num::NonZeroU64;
+use std::process::Abort;
+use std::test::Fail;
+
+/// How an opening begins, and where it ends if nothing is written.
+const LOOKED_AT: [Asked; 5] = [
+    Asked::Open,
+    Asked::OpenFolder,
+    Asked::Lock,
+    Asked::Look,
+    Asked::Read(0, 512),
+];
+
+// A superblock by the table of the format.
+fn superblock(version: u8, slots: u8) -> [u8; 16] {
+    let mut bytes = *b"TLDG\0\0\0\0\0\0\0\0\0\0\0\0";
+    bytes[5] = version;
+    bytes[15] = slots;
+    bytes
+}
+
+// A disk whose file begins so, with so many sectors.
+fn disk_of(alloc: Global, begin: &[u8], sectors: usize) -> Result<Disk<'static>, Fail> {
+    let disk = Disk::new(alloc, "ledger", ".", WHOLE);
+    let mut bytes = Vec::from_slice(alloc, begin)?;
+    bytes.resize(sectors.min(1000) * SECTOR, 0)?;
+    disk.holds(bytes);
+    Ok(disk)
+}
+
+// The disk wrote nothing, and its file has so many sectors.
+fn expect_kept(rt: &impl Abort, disk: &Disk, begin: &[u8], sectors: usize) {
+    let asked = disk.take_asked();
+    assert!(rt;
+        asked.iter().all(|call| {
+            !matches!(call, Asked::Length(_) | Asked::Write(_, _) | Asked::Remove)
+        })
+    );
+    let bytes = disk.take_bytes().expect(rt, "a file");
+    assert!(rt; bytes.as_slice().starts_with(begin));
+    assert!(rt; Some(bytes.len()) == sectors.checked_mul(SECTOR));
+}
+
+// Four slots, which need 55 sectors.
+fn four_slots(rt: &impl Abort, overwrite: bool) -> Formatting {
+    Formatting {
+        slots: NonZeroU64::new(4).expect(rt, "four"),
+        sectors: 0,
+        overwrite,
+    }
+}
+
+// How the file begins, how many sectors it has, and why it is no whole ledger.
+const PARTS: [([u8; 16], usize, PartFault); 4] = [
+    (
+        *b"TLDG\0\x03\0\0\0\0\0\0\0\0\0\x04",
+        54,
+        PartFault::Short {
+            slots: 4,
+            found: 54,
+            needed: 55,
+        },
+    ),
+    (
+        *b"TLDG\0\x03\0\0\0\0\0\0\0\0\0\x40",
+        60,
+        PartFault::Short {
+            slots: 64,
+            found: 60,
+            needed: 295,
+        },
+    ),
+    (
+        *b"TLDG\0\x01\0\0\0\0\0\0\0\0\0\x04",
+        9,
+        PartFault::OtherVersion(1),
+    ),
+    (*b"TLDG\0\x03\0\0\0\0\0\0\0\0\0\0", 55, PartFault::Unsound),
+];
+
+#[test]
+fn a_part_of_a_ledger_is_looked_at_and_left(rt: HostRuntime) -> Result<(), Fail> {
+    for (begin, sectors, fault) in PARTS {
+        let disk = disk_of(rt.alloc(), &begin, sectors)?;
+        let opened = open_ledger(&disk.files(), rt.alloc(), "ledger", 400).err();
+        assert!(rt; opened == Some(LedgerRefusal::Part(fault)), "{sectors}");
+        let asked = disk.take_asked();
+        assert!(rt; asked.as_slice() == LOOKED_AT.as_slice(), "{sectors}");
+        let made = format_ledger(&disk.files(), rt.alloc(), "ledger", four_slots(&rt, false));
+        let held = LedgerRefusal::Held(HeldFault::Part(fault));
+        assert!(rt; made.err() == Some(held), "{sectors}");
+        expect_kept(&rt, &disk, begin.as_slice(), sectors);
+    }
+    Ok(())
+}
+
+// A script gets it as it is, and finds what is wrong with it.
+#[test]
+fn a_part_of_a_ledger_is_not_grown_for_a_script(rt: HostRuntime) -> Result<(), Fail> {
+    for (begin, sectors, _) in PARTS {
+        let disk = disk_of(rt.alloc(), &begin, sectors)?;
+        let device = open_for_script(&disk.files(), rt.alloc(), "ledger", 400)?;
+        assert!(rt; device.sectors() == sectors as u64);
+        expect_kept(&rt, &disk, begin.as_slice(), sectors);
+    }
+    Ok(())
+}
+
+// A whole ledger of four slots, and for a script anything that begins as none.
+#[test]
+fn what_may_grow_is_looked_at_first(rt: HostRuntime) -> Result<(), Fail> {
+    let whole = superblock(3, 4);
+    let disk = disk_of(rt.alloc(), &whole, 55)?;
+    assert!(rt; open_ledger(&disk.files(), rt.alloc(), "ledger", 60)?.sectors() == 60);
+    let asked = disk.take_asked();
+    let grown = [
+        Asked::Length(60 * 512),
+        Asked::Write(55 * 512, 5 * 512),
+        Asked::SyncFile,
+        Asked::SyncFolder,
+    ];
+    assert!(rt; asked.as_slice().strip_prefix(&LOOKED_AT) == Some(grown.as_slice()));
+    assert!(rt; open_ledger(&disk.files(), rt.alloc(), "ledger", 0)?.sectors() == 60);
+    for begin in [
+        whole.as_slice(),
+        b"".as_slice(),
+        b"SQLite format 3".as_slice(),
+    ] {
+        let disk = disk_of(rt.alloc(), begin, 55)?;
+        assert!(rt; open_for_script(&disk.files(), rt.alloc(), "ledger", 60)?.sectors() == 60);
+    }
+    Ok(())
+}
+
+#[test]
+fn what_is_no_ledger_is_not_opened(rt: HostRuntime) -> Result<(), Fail> {
+    for (begin, sectors) in [
+        (b"SQLite format 3".as_slice(), 8),
+        (b"TLDF".as_slice(), 55),
+        (b"".as_slice(), 55),
+        (b"".as_slice(), 0),
+    ] {
+        let disk = disk_of(rt.alloc(), begin, sectors)?;
+        let opened = open_ledger(&disk.files(), rt.alloc(), "ledger", 60).err();
+        assert!(rt; opened == Some(LedgerRefusal::NoLedger), "{sectors}");
+        expect_kept(&rt, &disk, begin, sectors);
+    }
+    let disk = Disk::new(rt.alloc(), "ledger", ".", WHOLE);
+    let opened = open_ledger(&disk.files(), rt.alloc(), "ledger", 60).err();
+    assert!(rt; opened == Some(LedgerRefusal::Missing));
+    assert!(rt; disk.take_bytes().is_none());
+    Ok(())
+}
+
+// How a file begins, its sectors, and why it isn't formatted.
+#[test]
+fn what_holds_anything_is_not_formatted(rt: HostRuntime) -> Result<(), Fail> {
+    let mut last = [0; 300 * SECTOR];
+    last[300 * SECTOR - 1] = 1;
+    let whole = superblock(3, 4);
+    let rows = [
+        (whole.as_slice(), 55, HeldFault::Ledger),
+        (b"SQLite format 3".as_slice(), 8, HeldFault::Foreign),
+        (b"TLDF\0\x03".as_slice(), 55, HeldFault::Foreign),
+        (last.as_slice(), 300, HeldFault::Foreign),
+    ];
+    for (begin, sectors, fault) in rows {
+        let disk = disk_of(rt.alloc(), begin, sectors)?;
+        let made = format_ledger(&disk.files(), rt.alloc(), "ledger", four_slots(&rt, false));
+        assert!(rt; made.err() == Some(LedgerRefusal::Held(fault)), "{sectors}");
+        expect_kept(&rt, &disk, begin, sectors);
+    }
+    Ok(())
+}
+
+#[test]
+fn what_holds_nothing_or_may_be_overwritten_is_formatted(rt: HostRuntime) -> Result<(), Fail> {
+    let rows = [
+        (b"".as_slice(), 0, false, 55),
+        (b"".as_slice(), 3, false, 55),
+        (b"".as_slice(), 700, false, 700),
+        (b"SQLite format 3".as_slice(), 8, true, 55),
+        (b"TLDG\0\x01".as_slice(), 9, true, 55),
+    ];
+    for (begin, sectors, overwrite, found) in rows {
+        let disk = disk_of(rt.alloc(), begin, sectors)?;
+        let formatting = four_slots(&rt, overwrite);
+        let device = format_ledger(&disk.files(), rt.alloc(), "ledger", formatting)?;
+        assert!(rt; device.sectors() == found);
+        drop(device);
+        assert!(rt; open_ledger(&disk.files(), rt.alloc(), "ledger", 0)?.sectors() == found);
+    }
+    Ok(())
+}
+
+// The sectors that the slots need are taken, or more that are asked for.
+#[test]
+fn a_ledger_takes_the_sectors_that_it_needs(rt: HostRuntime) -> Result<(), Fail> {
+    for (asked, found) in [(0, 55), (54, 55), (400, 400)] {
+        let disk = Disk::new(rt.alloc(), "ledger", ".", WHOLE);
+        let formatting = Formatting {
+            sectors: asked,
+            ..four_slots(&rt, false)
+        };
+        let device = format_ledger(&disk.files(), rt.alloc(), "ledger", formatting)?;
+        assert!(rt; device.sectors() == found);
+    }
+    Ok(())
+}
+
+// The sixth call sets the length of a new file, and the seventh writes its zeros.
+#[test]
+fn without_room_no_file_is_left(rt: HostRuntime) -> Result<(), Fail> {
+    for fails in [5, 6] {
+        let limits = Limits {
+            fails,
+            reason: ErrorKind::StorageFull,
+            ..WHOLE
+        };
+        let disk = Disk::new(rt.alloc(), "ledger", ".", limits);
+        let made = format_ledger(&disk.files(), rt.alloc(), "ledger", four_slots(&rt, false));
+        let no_room = DeviceRefusal::File(FileFault::NoRoom);
+        assert!(rt; made.err() == Some(LedgerRefusal::Device(no_room)));
+        assert!(rt; disk.take_bytes().is_none());
+    }
+    Ok(())
+}
+
+#[test]
+fn a_file_with_more_sectors_than_a_file_may_have_is_not_left(rt: HostRuntime) -> Result<(), Fail> {
+    let disk = Disk::new(rt.alloc(), "ledger", ".", WHOLE);
+    let formatting = Formatting {
+        sectors: u64::MAX,
+        ..four_slots(&rt, false)
+    };
+    let made = format_ledger(&disk.files(), rt.alloc(), "ledger", formatting);
+    let no_room = DeviceRefusal::File(FileFault::NoRoom);
+    assert!(rt; made.err() == Some(LedgerRefusal::Device(no_room)));
+    assert!(rt; disk.take_bytes().is_none());
+    Ok(())
+}
+
+#[test]
+fn a_disk_that_is_too_small_says_both_numbers(rt: HostRuntime) -> Result<(), Fail> {
+    let disk = disk_of(rt.alloc(), b"", 54)?;
+    disk.limit(Limits {
+        is_disk: true,
+        ..WHOLE
+    });
+    let made = format_ledger(&disk.files(), rt.alloc(), "ledger", four_slots(&rt, false)).err();
+    let too_small = LedgerRefusal::TooSmall {
+        slots: 4,
+        found: 54,
+        needed: 55,
+    };
+    assert!(rt; made == Some(too_small));
+    let text = too_small.to_string(rt.alloc())?;
+    assert!(rt; text.as_str() == "it has 54 sectors, and a ledger of 4 slots needs 55");
+    Ok(())
+}

@@ -1,0 +1,19 @@
+//! Files that hold ledgers: how they are opened, grown and formatted so that no part of a ledger, and nothing of another
+//! program, is written over by mistake.
+//!
+//! A file is opened and locked first, and looked at. What becomes of it is decided by its first sector, its length and what
+//! was asked for ([`sectors_planned`], [`check_formatting`]), before anything of it changes. No contract speaks of what a
+//! real file holds.
+//!
+//! `checks/files.sh` has examples.
+#![tactic(auto)]
+
+mod opening;
+mod plan;
+mod refusal;
+
+pub use file_device::{DeviceRefusal, DiskFault, FileDevice, FileFault};
+pub use gate_journal::FormatRefusal;
+pub use opening::{Formatting, format_ledger, open_for_script, open_ledger};
+pub use plan::{HeldFault, PartFault, check_formatting, sectors_planned};
+pub use refusal::LedgerRefusal;

@@ -1,0 +1,83 @@
+ghost use Rattle.std.specs.Prelude.{◌≡◌, ◌↔◌, IsTrue};
+ghost use Rattle.ledger_file.specs.declared.refusal.LedgerRefusal.TheVariants.{Part, Held, Format};
+ghost use Rattle.ledger_file.specs.Refusals.{IsToldAs};
+
+use crate::plan::{HeldFault, PartFault};
+use file_device::{DeviceRefusal, FileFault};
+use gate_journal::FormatRefusal;
+use thiserror::Error;
+
+/// Why there is no ledger at a path that could be opened, or made.
+#[derive(Clone, Copy, Debug, PartialEq, Eq, Error)]
+pub enum LedgerRefusal {
+    /// It can't be had as a device.
+    #[error("{0}")]
+    Device(DeviceRefusal),
+    /// There is nothing at the path.
+    #[error("there is no such file; --format SLOTS makes a ledger there")]
+    Missing,
+    /// It doesn't begin as a ledger does.
+    #[error("it holds no ledger; --format SLOTS makes one of a file without anything")]
+    NoLedger,
+    /// It begins as a ledger does, and isn't a whole one.
+    #[error("{0}")]
+    Part(PartFault),
+    /// It was to be formatted, and holds something.
+    #[error("{0}")]
+    Held(HeldFault),
+    /// It is a disk that was to be formatted, with fewer sectors than that many slots need.
+    #[error("it has {found} sectors, and a ledger of {slots} slots needs {needed}")]
+    TooSmall { slots: u64, found: u64, needed: u64 },
+    /// It wasn't formatted, or not to its end.
+    #[error("{0}")]
+    Format(FormatRefusal),
+}
+
+impl LedgerRefusal {
+    /// Whether there was no memory.
+    pub fn is_memory(self) -> bool
+        ensures { IsTrue result
+            ↔ (self ≡ LedgerRefusal.Device (DeviceRefusal.File FileFault.Memory)) }
+    {
+        match self {
+            LedgerRefusal::Device(DeviceRefusal::File(fault)) => fault == FileFault::Memory,
+            _ => false,
+        }
+    }
+}
+
+/// A file that isn't there is told as one that could be made.
+impl From<DeviceRefusal> for LedgerRefusal {
+    ghost from_gives = { IsToldAs };
+
+    fn from(refusal: DeviceRefusal) -> LedgerRefusal {
+        match refusal {
+            DeviceRefusal::File(FileFault::Missing) => LedgerRefusal::Missing,
+            refusal => LedgerRefusal::Device(refusal),
+        }
+    }
+}
+
+impl From<PartFault> for LedgerRefusal {
+    ghost from_gives = { λ fault refusal. refusal ≡ Part fault };
+
+    fn from(fault: PartFault) -> LedgerRefusal {
+        LedgerRefusal::Part(fault)
+    }
+}
+
+impl From<HeldFault> for LedgerRefusal {
+    ghost from_gives = { λ fault refusal. refusal ≡ Held fault };
+
+    fn from(fault: HeldFault) -> LedgerRefusal {
+        LedgerRefusal::Held(fault)
+    }
+}
+
+impl From<FormatRefusal> for LedgerRefusal {
+    ghost from_gives = { λ inner refusal. refusal ≡ Format inner };
+
+    fn from(refusal: FormatRefusal) -> LedgerRefusal {
+        LedgerRefusal::Format(refusal)
+    }
+}
