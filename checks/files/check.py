@@ -1,0 +1,55 @@
+"""Runs each case on a folder of its own, and tells of those that fail."""
+import argparse
+import pathlib
+import random
+import sys
+
+import holdings
+import makings
+import parts
+from programs import Mismatch, Programs
+
+CASES = (
+    parts.every_prefix,
+    parts.a_ledger_of_600_deposits,
+    parts.a_whole_ledger_grows,
+    parts.earlier_versions,
+    holdings.of_other_programs,
+    holdings.of_nothing,
+    holdings.that_cant_be_opened,
+    holdings.that_another_program_has,
+    makings.a_mistyped_path,
+    makings.as_many_sectors_as_needed,
+    makings.without_room,
+    makings.killed,
+)
+
+
+def attempt(words, work):
+    """Whether the case holds, which is told."""
+    folder = words.folder / work.__name__
+    folder.mkdir()
+    folder.chmod(0o755)
+    try:
+        work(Programs(words.console, words.office, words.tool, folder), random.Random(words.seed))
+    except (Mismatch, OSError, ValueError) as told:
+        print(f"{work.__module__} {work.__name__}: {told if isinstance(told, Mismatch) else repr(told)}")
+        return False
+    print(f"{work.__module__} {work.__name__}: as it must be")
+    return True
+
+
+def main():
+    parser = argparse.ArgumentParser(description=__doc__)
+    parser.add_argument("console", help="the turn_console that was built")
+    parser.add_argument("office", help="the ledger_office that was built")
+    parser.add_argument("tool", help="the ledger_tool that was built")
+    parser.add_argument("folder", type=pathlib.Path, help="a folder, in which full/ may be a file system without room")
+    parser.add_argument("--seed", type=int, default=random.SystemRandom().randrange(1_000_000))
+    words = parser.parse_args()
+    held = [attempt(words, work) for work in CASES]
+    if not all(held):
+        sys.exit(f"{held.count(False)} cases failed, with the seed {words.seed}")
+
+
+main()

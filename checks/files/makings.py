@@ -1,0 +1,88 @@
+"""Files that are made: where, how long, and what is left where that can't be done or is ended in between."""
+import os
+import resource
+import signal
+import subprocess
+import time
+
+from holdings import FOREIGN
+from programs import Said, kept, require_same
+
+MISSING = "there is no such file; --format SLOTS makes a ledger there"
+NO_ROOM = "its file system has no room for it; make room, or take another path"
+
+
+def a_mistyped_path(programs, _moments):
+    """No file is made of one without --format, nor in a folder that isn't there."""
+    for path in (programs.folder / "offise.ledger", programs.folder / "nowhere" / "office.ledger"):
+        for words in ((), ("--sectors", "295")):
+            programs.require_refused(path, MISSING, *words)
+        require_same(programs.check(path), Said(3, "", f"{path}: there is no such file"), "the tool")
+    programs.require_refused(path, "there is no such folder; make it first", "--format", "4")
+    require_same(os.listdir(programs.folder), [], "what was made")
+    said = programs.open_office(programs.folder / "ledger", "--overwrite")
+    require_same(said, Said(2, "", "--overwrite needs --format"), "--overwrite alone")
+
+
+def as_many_sectors_as_needed(programs, _moments):
+    """A ledger gets the sectors that it needs, or more that are asked for. A link is followed."""
+    for slots, words, sectors in (4, (), 55), (4, ("--sectors", "54"), 55), (4, ("--sectors", "60"), 60), (300, (), 1239):
+        path = programs.folder / f"ledger_{slots}_{len(words)}_{sectors}"
+        programs.require_formatted(path, slots, sectors, *words)
+    link = programs.folder / "link"
+    link.symlink_to(programs.folder / "linked")
+    programs.require_formatted(link, 4, 55)
+    require_same(link.is_symlink(), True, "the link")
+
+
+def limited():
+    """Makes a file longer than 100 sectors fail, as a full disk does."""
+    signal.signal(signal.SIGXFSZ, signal.SIG_IGN)
+    resource.setrlimit(resource.RLIMIT_FSIZE, (51_200, 51_200))
+
+
+def without_room(programs, _moments):
+    """A new file is removed again, a blank one keeps its length, and so does a whole ledger."""
+    path = programs.folder / "ledger"
+    programs.require_refused(path, NO_ROOM, "--format", "100", preexec_fn=limited)
+    path.write_bytes(bytes(512))
+    programs.require_refused(path, NO_ROOM, "--format", "100", preexec_fn=limited)
+    programs.require_formatted(path, 4, 55)
+    programs.require_refused(path, NO_ROOM, "--sectors", "200", preexec_fn=limited)
+    full = programs.folder.parent / "full"
+    if os.path.ismount(full):
+        programs.require_refused(full / "ledger", NO_ROOM, "--format", "100")
+        programs.require_formatted(full / "ledger", 4, 55)
+        programs.require_refused(full / "ledger", NO_ROOM, "--sectors", "200")
+
+
+def killed(programs, moments):
+    """An office that is killed while it makes a ledger leaves none, a whole one, or what --overwrite takes."""
+    path, found = programs.folder / "ledger", set()
+    words = (programs.office, "--device", str(path), "--terminal", "--format", "2000")
+    for _ in range(20):
+        path.unlink(missing_ok=True)
+        with subprocess.Popen(words, stdin=subprocess.PIPE, stdout=subprocess.DEVNULL, stderr=subprocess.DEVNULL) as run:
+            time.sleep(moments.uniform(0, 0.1))
+            run.kill()
+        found.add(require_goes_on(programs, path))
+    programs.require_formatted(path, 2000, 8039, "--overwrite")
+    # a formatting writes its superblock last
+    path.write_bytes(bytes(512) + path.read_bytes()[512:])
+    require_same(require_goes_on(programs, path), "unfinished", "a ledger without its superblock")
+    print(f"killed while a ledger was made: {', '.join(sorted(found))}")
+
+
+def require_goes_on(programs, path):
+    """That the next start makes the ledger anew, finds it whole, or tells that it is unfinished. Which of these it was."""
+    before = kept(path)
+    said = programs.open_office(path, "--format", "2000")
+    if said.status == 0:
+        return "made anew"
+    require_same(kept(path), before, "what a killed office left, behind a refusal")
+    if said.told == f"{path}: {FOREIGN}":
+        programs.require_formatted(path, 2000, 8039, "--overwrite")
+        return "unfinished"
+    require_same(said, Said(1, "", f"{path}: it holds a ledger already, so it isn't formatted"), "the start behind a kill")
+    require_same(programs.open_office(path).printed.splitlines()[0], "opened 2 next 0 total 0", "the ledger that is whole")
+    return "whole"
