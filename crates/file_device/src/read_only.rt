@@ -2,15 +2,15 @@ ghost use Rattle.std.specs.Prelude.{◌≡◌, ◌+◌, ◌<◌, ◌≤◌, leng
 ghost use Rattle.sector_device.specs.Image.{sector_at, with_sector};
 ghost use Rattle.sector_device.specs.Device.{AreCalls};
 ghost use Rattle.sector_device.specs.Crash.{IsLook, IsWrite, IsDurable};
-ghost use Rattle.sector_device.specs.Wrapped.{one_more};
-ghost use Rattle.file_device.specs.ReadOnly.{ReadOnlyState, read_only_state, sound_read_only};
+ghost use Rattle.sector_device.specs.Wrapped.{one_more, sound_with_failures};
+ghost use Rattle.file_device.specs.ReadOnly.{ReadOnlyState, IsSettled, read_only_state};
 
 use sector_device::{Device, DeviceFault, Sector};
 use std::marker::Model;
 
-/// A device that is only read: no call but a read reaches the device within. A write fails and is counted, and a sync
-/// answers at once, since nothing of this device is ever pending. It is honest exactly if the inner device is. No call
-/// takes memory.
+/// A device that is only read: no call but a read reaches the device within. A write fails and is counted. A sync answers
+/// `Ok` at once, and makes nothing durable: if the inner device is honest, nothing of it was pending when it was handed
+/// in, and reads leave that so. It is honest exactly if the inner device is. No call takes memory.
 #[derive(Debug, Drop)]
 pub struct ReadOnly<D: Device> {
     inner: D,
@@ -21,11 +21,14 @@ impl<D: Device> Model for ReadOnly<D> {
     ghost Value = { ReadOnlyState D };
 
     ghost view = { λ r. record { inner = r.inner; refused = r.refused } };
+
+    ghost invariant = { λ r. IsSettled (D.state r.inner) };
 }
 
 impl<D: Device> ReadOnly<D> {
-    /// The device, of which no write was refused.
+    /// The device, of which no write was refused. If it is honest, nothing may be pending: sync it first.
     pub fn new(inner: D) -> ReadOnly<D>
+        requires { IsSettled (D.state inner) }
         ensures { result ≡ record { inner = inner; refused = 0 } }
     {
         ReadOnly { inner, refused: 0 }
@@ -57,8 +60,6 @@ impl<D: Device> Device for ReadOnly<D> {
             → OnOk result (into.new ≡ sector_at (D.state self.old.inner).reads at) }
         ensures passed_on { AreCalls (D.state self.old.inner) (D.state self.new.inner)
             (IsErr result) }
-        ensures inner { (D.state self.old.inner).honest
-            → IsLook (D.state self.old.inner) (D.state self.new.inner) }
         ensures refused { self.new.refused ≡ self.old.refused }
     {
         self.inner.read(at, into)
@@ -93,8 +94,10 @@ impl<D: Device> Device for ReadOnly<D> {
         ensures works { result ≡ Ok tt }
         ensures unreached { self.new ≡ self.old }
     {
+        // for the contract alone: nothing is pending
+        let _ = &self.inner;
         Ok(())
     }
 
-    ghost sound = { λ r honest. sound_read_only D.state r (D.sound r.inner honest) };
+    ghost sound = { λ r honest. sound_with_failures (D.state r.inner) r.refused (D.sound r.inner honest) };
 }

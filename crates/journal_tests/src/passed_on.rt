@@ -1,6 +1,6 @@
 //! What reaches a device behind another one: each call that is passed on, once and in order, and no other.
 use fault_injector::{Call, Fuse, Held, HeldFlags, Noting, OneFault, Op};
-use file_device::FailStop;
+use file_device::{FailStop, ReadOnly};
 use sector_device::{Device, DeviceFault, MemoryDevice, SECTOR};
 use std::alloc::{AllocError, Global};
 use std::process::Abort;
@@ -120,6 +120,22 @@ fn stop_hands_on(
     Ok(())
 }
 
+// A device that is only read hands on reads alone. It is synced before, so that nothing is pending.
+fn read_only_hands_on(rt: &impl Abort, alloc: Global, broken: u64) -> Result<(), AllocError> {
+    let mut within = behind(alloc, broken)?;
+    if within.sync().is_err() {
+        return Ok(());
+    }
+    let mut device = ReadOnly::new(within);
+    ask(rt, &mut device);
+    let handed_on = [Call::Sync, Call::Read(1), Call::Read(3)];
+    assert!(rt;
+        device.into_inner().calls() == handed_on.as_slice(),
+        "{broken}"
+    );
+    Ok(())
+}
+
 // A noting device hands on each call, and notes those that it has room for.
 fn noting_hands_on(
     rt: &impl Abort,
@@ -158,6 +174,7 @@ fn each_call_that_is_handed_on_reaches_the_device_once_and_in_order(
         held_hands_on(&rt, alloc, broken, 0)?;
         let handed_on = if broken <= 2 { 3 } else { ASKED.len() };
         stop_hands_on(&rt, alloc, broken, &ASKED[..handed_on])?;
+        read_only_hands_on(&rt, alloc, broken)?;
         for room in [0, 2, ROOM] {
             noting_hands_on(&rt, alloc, broken, room)?;
         }
