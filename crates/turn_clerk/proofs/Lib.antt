@@ -6,6 +6,7 @@ mod AfterTurn
 mod AfterAnswer
 mod AfterOpening
 mod AfterLooks
+mod Searches
 mod Standing
 mod Running
 mod Lives
