@@ -7,5 +7,3 @@ mod clerks;
 mod desks;
 #[cfg(test)]
 mod offices;
-#[cfg(test)]
-mod searches;

@@ -1,4 +1,4 @@
-//! Tests that need several crates beside each other: failing devices, power losses, and what is recovered then.
+//! Tests that need several crates beside each other: failing devices, power losses, what is recovered then, and what is read.
 #![tactic(auto)]
 
 #[cfg(test)]
@@ -13,6 +13,8 @@ mod limits;
 mod reads;
 #[cfg(test)]
 mod refusals;
+#[cfg(test)]
+mod searches;
 #[cfg(test)]
 mod shown;
 #[cfg(test)]

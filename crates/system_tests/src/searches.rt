@@ -1,0 +1,206 @@
+//! What searches read, and what they tell if somebody else wrote the device.
+ghost use Rattle.sector_device.specs.MemoryDevice.{memory_device_state};
+
+use crate::devices::opened;
+use fault_injector::{Call, Noting};
+use gate_journal::{Journal, ReadRefusal};
+use sector_device::{Device, DeviceFault, MemoryDevice, SECTOR, Sector};
+use std::alloc::{AllocError, Global};
+use std::process::Abort;
+use std::test::Fail;
+use test_scenes::{FIRST, formatted, line, second};
+use turn_clerk::{Clerk, Entry, FindRefusal, Found};
+
+fn with_reference(reference: u64) -> Entry {
+    let (to, amount) = (1, 1);
+    Entry::Deposit {
+        to,
+        amount,
+        reference,
+    }
+}
+
+// A clerk on the device takes so many turns, the bottom station those with an even number and the top one the others; each
+// posts a deposit whose reference is the number.
+fn posted(
+    rt: &impl Abort,
+    alloc: Global,
+    device: MemoryDevice,
+    turns: u64,
+) -> Result<MemoryDevice, Fail> {
+    let mut clerk = opened(rt, alloc, device, line([0, 0], [1, 0])?);
+    for number in 0..turns {
+        let turn = clerk.turn(u8::from(number % 2 == 1), &[with_reference(number)])?;
+        assert!(rt; turn.posted == Some(number));
+    }
+    Ok(clerk.into_device())
+}
+
+// A clerk on a device that notes its calls, and how many it has noted by then: the clerk is opened twice, and the calls of
+// the first opening are counted.
+fn noted(
+    rt: &impl Abort,
+    alloc: Global,
+    device: MemoryDevice,
+) -> Result<(Clerk<Noting<MemoryDevice>>, usize), Fail> {
+    let two_stations = line([0, 0], [1, 0])?;
+    let noting = Noting::new(alloc, device, 4000).map_err(AllocError::from)?;
+    let noting = opened(rt, alloc, noting, two_stations).into_device();
+    let noted = noting.calls().len();
+    Ok((
+        opened(rt, alloc, noting, two_stations),
+        noted.saturating_mul(2),
+    ))
+}
+
+// The calls from that one on are reads of the bodies of these records, in order, one each, and no others.
+fn expect_reads(rt: &impl Abort, calls: &[Call], from: usize, steps: &[(u64, u64)]) {
+    assert!(rt; from <= calls.len());
+    let mut rest = calls[from..].iter();
+    for (first, end) in steps {
+        assert!(rt; *end <= 1_000_000);
+        for number in *first..*end {
+            assert!(rt;
+                rest.next() == Some(&Call::Read(FIRST.body(number))),
+                "{number}"
+            );
+        }
+    }
+    assert!(rt; rest.next().is_none());
+}
+
+// A search looks at 256 records, or up to the one that it finds, and reads the body of each once and nothing else.
+#[test]
+fn a_search_reads_the_records_of_its_step_alone(rt: HostRuntime) -> Result<(), Fail> {
+    let alloc = rt.alloc();
+    let device = posted(&rt, alloc, formatted(alloc, 258)?, 258)?;
+    let (mut clerk, from) = noted(&rt, alloc, device)?;
+    assert!(rt; clerk.find(256, 0)? == Found::Further(256));
+    assert!(rt; clerk.find(256, 256)? == Found::Posted(256));
+    assert!(rt; clerk.find(300, 2)? == Found::Nowhere(0));
+    assert!(rt; clerk.find(5, 0)? == Found::Posted(5));
+    let device = clerk.into_device();
+    let steps = [(0, 256), (256, 257), (2, 258), (0, 6)];
+    expect_reads(&rt, device.calls(), from, &steps);
+    Ok(())
+}
+
+// No slot was free, so that the third record is the first one behind a checkpoint, in the other bank.
+#[test]
+fn a_search_behind_a_checkpoint_reads_the_other_bank(rt: HostRuntime) -> Result<(), Fail> {
+    let alloc = rt.alloc();
+    let device = posted(&rt, alloc, formatted(alloc, 2)?, 3)?;
+    let (mut clerk, from) = noted(&rt, alloc, device)?;
+    assert!(rt; clerk.find(0, 0)? == Found::Nowhere(2));
+    assert!(rt; clerk.find(2, 0)? == Found::Posted(2));
+    assert!(rt; clerk.find(2, 3)? == Found::Nowhere(2));
+    let device = clerk.into_device();
+    let read = Call::Read(second(2).body(0));
+    assert!(rt; from <= device.calls().len() && device.calls()[from..] == [read, read]);
+    Ok(())
+}
+
+// A device of which somebody else wrote one sector once it was read: from then on it reads as these bytes. It isn't honest.
+#[derive(Drop)]
+struct Rewritten {
+    inner: MemoryDevice,
+    at: u64,
+    bytes: Sector,
+    was_read: bool,
+}
+
+impl Device for Rewritten {
+    ghost state = { λ r. record (memory_device_state r.inner) { honest = ⊥ } };
+
+    fn sectors(&self) -> u64 {
+        self.inner.sectors()
+    }
+
+    fn read(&mut self, at: u64, into: &mut Sector) -> Result<(), DeviceFault> {
+        self.inner.read(at, into)?;
+        if at == self.at && self.was_read {
+            *into = self.bytes;
+        }
+        self.was_read = self.was_read || at == self.at;
+        Ok(())
+    }
+
+    fn write(&mut self, at: u64, from: &Sector) -> Result<(), DeviceFault> {
+        self.inner.write(at, from)
+    }
+
+    fn sync(&mut self) -> Result<(), DeviceFault> {
+        self.inner.sync()
+    }
+
+    ghost sound = { λ r honest. absurd honest };
+}
+
+// A device with one record, of two deposits with references 7 and 8, whose body has another byte at that place from the
+// second read on.
+fn with_another_byte(
+    rt: &impl Abort,
+    alloc: Global,
+    place: usize,
+    byte: u8,
+) -> Result<Rewritten, Fail> {
+    let device = formatted(alloc, 2)?;
+    let mut clerk = opened(rt, alloc, device, line([0, 0], [1, 0])?);
+    clerk.turn(0, &[with_reference(7), with_reference(8)])?;
+    let mut inner = clerk.into_device();
+    let at = FIRST.body(0);
+    let mut bytes = [0; SECTOR];
+    assert!(rt; place < SECTOR && at < inner.sectors());
+    inner.read(at, &mut bytes)?;
+    bytes[place] = byte;
+    Ok(Rewritten {
+        inner,
+        at,
+        bytes,
+        was_read: false,
+    })
+}
+
+// What a clerk finds of the references 7 and 8, and whether the journal reads a record.
+fn told(
+    rt: &impl Abort,
+    alloc: Global,
+    place: usize,
+    byte: u8,
+) -> Result<([Result<Found, FindRefusal>; 2], Option<ReadRefusal>), Fail> {
+    let device = with_another_byte(rt, alloc, place, byte)?;
+    let mut clerk = opened(rt, alloc, device, line([0, 0], [1, 0])?);
+    let found = [clerk.find(7, 0), clerk.find(8, 0)];
+    let Ok(mut journal) = Journal::open(with_another_byte(rt, alloc, place, byte)?) else {
+        panic!(rt; "not opened");
+    };
+    assert!(rt; (journal.base(), journal.next()) == (0, 1));
+    Ok((found, journal.read_record(0).err()))
+}
+
+// A record that is none any more is told, and never taken for one without the reference: its mark, its sequence, its
+// station or its count is another, or a byte isn't zero behind its places. Where a place holds no entry any more, what
+// stands before it is still found.
+#[test]
+fn a_record_that_was_changed_is_told(rt: HostRuntime) -> Result<(), Fail> {
+    let changed = Err(FindRefusal::Changed);
+    let posted = Ok(Found::Posted(0));
+    let no_record = Some(ReadRefusal::Changed);
+    let table = [
+        (0, 0, [changed, changed], no_record),
+        (5, 64, [changed, changed], no_record),
+        (7, 0, [changed, changed], no_record),
+        (15, 1, [changed, changed], no_record),
+        (96, 1, [changed, changed], no_record),
+        (32, 9, [changed, changed], None),
+        (64, 9, [posted, changed], None),
+        (0, 0x54, [posted, posted], None),
+    ];
+    for (place, byte, found, read) in table {
+        assert!(rt;
+            told(&rt, rt.alloc(), place, byte)? == (found, read),
+            "{place}"
+        );
+    }
+    Ok(())
+}
