@@ -12,8 +12,13 @@ use std::sync::Arc;
 use std::sync::atomic::{AtomicBool, Ordering};
 use std::thread;
 
-/// How often a held sync looks for its leave.
-const LOOKS: u32 = 100_000_000;
+/// How often a held sync looks for its leave at most.
+pub const HELD_LOOKS: u32 = 10_000_000;
+
+/// This number, as a statement; the body does nothing.
+pub fn held_looks_in_numbers()
+    ensures { HELD_LOOKS ≡ 10000000 }
+{}
 
 /// After how many looks it lets other threads run. On a busy machine that takes milliseconds, and a look nanoseconds.
 const LOOKS_IN_A_ROW: u32 = 1_000;
@@ -36,7 +41,7 @@ impl HeldFlags {
     // Raises the one flag, and looks for the other.
     fn seen(&self) -> bool {
         self.begun.store(true, Ordering::SeqCst);
-        for look in 0..LOOKS {
+        for look in 0..HELD_LOOKS {
             if self.go.load(Ordering::SeqCst) {
                 return true;
             }
@@ -49,7 +54,7 @@ impl HeldFlags {
 }
 
 /// A device whose k-th sync, counted from 0 since it was made, waits for a leave: it raises the flag `begun`, and looks
-/// for the flag `go` at most 100,000,000 times. Where it sees it the sync is passed on, else it fails without reaching
+/// for the flag `go` at most 10,000,000 times. Where it sees it the sync is passed on, else it fails without reaching
 /// the inner device. Every other call is passed on. The device is honest exactly if the inner device is.
 #[derive(Debug, Drop)]
 pub struct Held<D: Device> {

@@ -12,7 +12,7 @@ mod op;
 
 pub use call::Call;
 pub use fuse::Fuse;
-pub use held::{Held, HeldFlags};
+pub use held::{HELD_LOOKS, Held, HeldFlags, held_looks_in_numbers};
 pub use noting::Noting;
 pub use one_fault::OneFault;
 pub use op::Op;

@@ -25,7 +25,7 @@ const NEVER: u64 = 5;
 const ROOM: usize = 16;
 
 /// How often a flag is looked for, with other threads let run after each look: together that takes many seconds.
-const LOOKS: u32 = 100_000_000;
+const LOOKS: u32 = 10_000_000;
 
 type Behind = Noting<Fuse<MemoryDevice>>;
 
