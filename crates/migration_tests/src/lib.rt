@@ -5,8 +5,6 @@
 #[cfg(test)]
 mod faults;
 #[cfg(test)]
-mod liar;
-#[cfg(test)]
 mod listings;
 #[cfg(test)]
 mod old_devices;

@@ -1,15 +1,14 @@
 //! What is listed of a ledger, also beside a device that fails or lies.
-use crate::liar::Liar;
 use crate::old_devices::{deposited, of_layout_1};
 use fault_injector::{OneFault, Op};
 use gate_journal::{ACCOUNTS, Journal, Record, Snapshot, format_with};
 use journal_recovery::read_old;
 use ledger_reading::{Cause, Entry, Listed, Listing, OpenRefusal, ReadRefusal, Sound, look};
-use sector_device::{Device, MemoryDevice};
+use sector_device::{Device, MemoryDevice, SECTOR};
 use std::alloc::Global;
 use std::process::Abort;
 use std::test::Fail;
-use test_scenes::{FIRST, deposit, seal, sectors_needed, transfer, withdrawal};
+use test_scenes::{FIRST, Rewritten, deposit, seal, sectors_needed, transfer, withdrawal};
 use turn_ledger::BATCH_LIMIT;
 
 // The record of these entries.
@@ -127,7 +126,9 @@ fn what_was_changed_after_the_look_is_told(rt: HostRuntime) -> Result<(), Fail> 
     let alloc = rt.alloc();
     for at in [FIRST.body(0), FIRST.balances()] {
         let device = with_records(&rt, alloc, 5, &[(0, &[withdrawal(1, 5)])])?;
-        assert!(rt; all_of_it(alloc, Liar::new(device, at)) == Err(ReadRefusal::Changed));
+        assert!(rt;
+            all_of_it(alloc, Rewritten::new(device, at, [0; SECTOR])) == Err(ReadRefusal::Changed)
+        );
     }
     Ok(())
 }
@@ -146,7 +147,7 @@ fn a_record_that_changes_between_two_readings_is_no_record(rt: HostRuntime) -> R
     ];
     for (at, refusal) in table {
         let old = of_layout_1(&rt, alloc, &[deposited(1, 5); 3])?;
-        let (_, found) = read_old(alloc, Liar::new(old, at));
+        let (_, found) = read_old(alloc, Rewritten::new(old, at, [0; SECTOR]));
         assert!(rt; found.err() == refusal);
     }
     Ok(())

@@ -1,14 +1,12 @@
 //! What searches read, and what they tell if somebody else wrote the device.
-ghost use Rattle.sector_device.specs.MemoryDevice.{memory_device_state};
-
 use crate::devices::opened;
 use fault_injector::{Call, Noting};
 use gate_journal::{Journal, ReadRefusal};
-use sector_device::{Device, DeviceFault, MemoryDevice, SECTOR, Sector};
+use sector_device::{Device, MemoryDevice, SECTOR};
 use std::alloc::{AllocError, Global};
 use std::process::Abort;
 use std::test::Fail;
-use test_scenes::{FIRST, formatted, line, second};
+use test_scenes::{FIRST, Rewritten, formatted, line, second};
 use turn_clerk::{Clerk, Entry, FindRefusal, Found};
 
 fn with_reference(reference: u64) -> Entry {
@@ -100,42 +98,6 @@ fn a_search_behind_a_checkpoint_reads_the_other_bank(rt: HostRuntime) -> Result<
     Ok(())
 }
 
-// A device of which somebody else wrote one sector once it was read: from then on it reads as these bytes. It isn't honest.
-#[derive(Drop)]
-struct Rewritten {
-    inner: MemoryDevice,
-    at: u64,
-    bytes: Sector,
-    was_read: bool,
-}
-
-impl Device for Rewritten {
-    ghost state = { λ r. record (memory_device_state r.inner) { honest = ⊥ } };
-
-    fn sectors(&self) -> u64 {
-        self.inner.sectors()
-    }
-
-    fn read(&mut self, at: u64, into: &mut Sector) -> Result<(), DeviceFault> {
-        self.inner.read(at, into)?;
-        if at == self.at && self.was_read {
-            *into = self.bytes;
-        }
-        self.was_read = self.was_read || at == self.at;
-        Ok(())
-    }
-
-    fn write(&mut self, at: u64, from: &Sector) -> Result<(), DeviceFault> {
-        self.inner.write(at, from)
-    }
-
-    fn sync(&mut self) -> Result<(), DeviceFault> {
-        self.inner.sync()
-    }
-
-    ghost sound = { λ r honest. absurd honest };
-}
-
 // A device with one record, of two deposits with references 7 and 8, whose body has another byte at that place from the
 // second read on.
 fn with_another_byte(
@@ -153,12 +115,7 @@ fn with_another_byte(
     assert!(rt; place < SECTOR && at < inner.sectors());
     inner.read(at, &mut bytes)?;
     bytes[place] = byte;
-    Ok(Rewritten {
-        inner,
-        at,
-        bytes,
-        was_read: false,
-    })
+    Ok(Rewritten::new(inner, at, bytes))
 }
 
 // What a clerk finds of the references 7 and 8, and whether the journal reads a record.

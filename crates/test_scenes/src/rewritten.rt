@@ -1,29 +1,32 @@
-ghost use Rattle.std.specs.Prelude.{ℕ, List};
-ghost use Rattle.sector_device.specs.Device.{DeviceState};
+//! A device that somebody else writes.
 ghost use Rattle.sector_device.specs.MemoryDevice.{memory_device_state};
 
-use sector_device::{Device, DeviceFault, MemoryDevice, SECTOR, Sector};
+use sector_device::{Device, DeviceFault, MemoryDevice, Sector};
 
-// A device on which one sector reads as it is the first time, and as zeros from then on. It isn't honest.
+/// A device of which somebody else wrote one sector once it was read: the first time it reads as it is, and from then on
+/// as these bytes. It isn't honest.
 #[derive(Drop)]
-pub struct Liar {
+pub struct Rewritten {
     inner: MemoryDevice,
     at: u64,
+    bytes: Sector,
     was_read: bool,
 }
 
-impl Liar {
-    pub fn new(inner: MemoryDevice, at: u64) -> Liar {
-        Liar {
+impl Rewritten {
+    /// The device, of which nothing was read.
+    pub fn new(inner: MemoryDevice, at: u64, bytes: Sector) -> Rewritten {
+        Rewritten {
             inner,
             at,
+            bytes,
             was_read: false,
         }
     }
 }
 
-impl Device for Liar {
-    ghost state = { λ liar. record (memory_device_state liar.inner) { honest = ⊥ } };
+impl Device for Rewritten {
+    ghost state = { λ r. record (memory_device_state r.inner) { honest = ⊥ } };
 
     fn sectors(&self) -> u64 {
         self.inner.sectors()
@@ -32,7 +35,7 @@ impl Device for Liar {
     fn read(&mut self, at: u64, into: &mut Sector) -> Result<(), DeviceFault> {
         self.inner.read(at, into)?;
         if at == self.at && self.was_read {
-            *into = [0; SECTOR];
+            *into = self.bytes;
         }
         self.was_read = self.was_read || at == self.at;
         Ok(())
@@ -46,5 +49,5 @@ impl Device for Liar {
         self.inner.sync()
     }
 
-    ghost sound = { λ liar honest. absurd honest };
+    ghost sound = { λ r honest. absurd honest };
 }
