@@ -1,3 +1,4 @@
+mod Balances
 mod Counting
 mod LeftDevice
 mod Legal

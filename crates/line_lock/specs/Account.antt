@@ -1,11 +1,14 @@
 -- What the seats of an office hold in their hands, and whether its history bears it out.
-use Rattle.std.specs.Prelude.{◌≡◌, ℕ, ◌==◌, ◌<◌, ◌≤◌, if◌then◌else◌, List, filter, count_by, length, take, IfSome}
+use Rattle.std.specs.Prelude.{◌≡◌, ℕ, true, ◌==◌, ◌<◌, ◌≤◌, if◌then◌else◌, List, filter, count_by, length, take, Some, IfSome}
 use Rattle.four_state.specs.Configuration.{Configuration}
 use Rattle.turn_clerk.specs.declared.turns.Turn.{Turn}
 use Rattle.turn_clerk.specs.Turn.{HasPrivilege}
-use Rattle.turn_clerk.specs.History.{line_after}
-use Rattle.turn_clerk.specs.Clerk.{ClerkState}
+use Rattle.turn_clerk.specs.History.{line_after, state_after_turns}
+use Rattle.turn_clerk.specs.Clerk.{ClerkState, opening_state}
+use Rattle.turn_ledger.specs.State.{IsAccount, balance_of}
+use Rattle.turn_ledger.specs.Screen.{accepted}
 use Rattle.line_lock.specs.Seat.{SeatState}
+use Rattle.line_lock.specs.declared.told.ToldBalance.{ToldBalance}
 
 -- the turns of a station, in the order of the history
 abbrev pub turns_of : ℕ → List Turn → List Turn
@@ -22,6 +25,20 @@ pub record IsBorneOut (opening : Configuration) (history : List Turn) (seat : Se
   pub turns : seat.turns ≡ turns_of seat.station history
   pub denied : IfSome seat.denied (WasDenied opening history seat.station)
   pub reached : seat.reached ≤ length history
+
+-- After so many turns of the clerk's history the account held that amount.
+pub record HeldThen {D : Type 0} (clerk : ClerkState D) (told : ToldBalance) : Type 0 where
+  pub within : told.turns ≤ length clerk.history
+  pub there : IsAccount told.account
+  pub amount : told.amount ≡ balance_of (state_after_turns (opening_state clerk) (take told.turns clerk.history)).ledger told.account
+
+-- What a seat was told beside its turns is true of the clerk: the last balance, as the account then stood; that a fault of
+-- the device was met, if it was told so; and that the device failed in its turn, if it was: what the clerk accepts of that
+-- turn's entries is in flight.
+pub record WasToldTruly {D : Type 0} (clerk : ClerkState D) (seat : SeatState) : Type 0 where
+  pub balance : IfSome seat.told (HeldThen clerk)
+  pub faulted : seat.faulted ≡ true → clerk.journal.faulted ≡ true
+  pub undecided : IfSome seat.undecided (λ entries. clerk.in_flight ≡ Some (accepted clerk.ledger entries))
 
 -- in how many turns the device failed: in one at most, since after it the clerk takes none
 abbrev pub failed_turns : {D : Type 0} → ClerkState D → ℕ

@@ -1,5 +1,5 @@
 -- What an office is asked of its ledger while it is open.
-use Rattle.std.specs.Prelude.{◌≡◌, ◌≤◌, ◌↔◌, ℕ, true, false, length, IsTrue, Result, Ok, Err, IfOk}
+use Rattle.std.specs.Prelude.{◌≡◌, ◌≤◌, ◌↔◌, ℕ, true, false, length, IsTrue, Result, Ok, Err, IfOk, Some}
 use Rattle.sector_device.specs.Device.{DeviceState, AreCalls}
 use Rattle.sector_device.specs.Crash.{LooksOnly}
 use Rattle.four_state.specs.Configuration.{Configuration}
@@ -21,19 +21,37 @@ IsBalance clerk account (Ok amount) = (clerk.journal.faulted ≡ false) × IsAcc
 IsBalance clerk account (Err Faulted) = clerk.journal.faulted ≡ true
 IsBalance clerk account (Err NoAccount) = (clerk.journal.faulted ≡ false) × (IsAccount account → ⊥)
 
+-- A seat that notes what it was told, and is else as it was.
+abbrev pub NotesAlone : SeatState → SeatState → Type 0
+NotesAlone old new = new ≡ record old { told = new.told; faulted = new.faulted }
+
+-- a seat that was told this of an account, where the history held so many turns
+abbrev pub noted : SeatState → ℕ → ℕ → Result ℕ BalanceRefusal → SeatState
+noted seat account turns (Ok amount) = record seat { told = Some (record { account = account; amount = amount; turns = turns }) }
+noted seat account turns (Err Faulted) = record seat { faulted = true }
+noted seat account turns (Err NoAccount) = seat
+
 -- An office that was opened on that device with that line was asked for an account's balance by a seat, and a clerk of it
 -- answered: its turns are a legal history, which ends in its ledger, and while it works they are as many as the seat lists,
--- or more.
-pub record WasToldBalance {D : Type 0} (state : D → DeviceState) (device : DeviceState) (from : Configuration) (seat : SeatState) (account : ℕ) (answer : Result ℕ BalanceRefusal) : Type 0 where
+-- or more. The seat notes the answer, with how many they are.
+pub record WasToldBalance {D : Type 0} (state : D → DeviceState) (device : DeviceState) (from : Configuration) (old new : SeatState) (account : ℕ) (answer : Result ℕ BalanceRefusal) : Type 0 where
   pub clerk : ClerkState D
   pub opened : WasOpenedOn state device from clerk
   pub legal : KeepsHistory clerk
-  pub turns : clerk.journal.faulted ≡ false → length seat.turns ≤ length clerk.history
+  pub turns : clerk.journal.faulted ≡ false → length old.turns ≤ length clerk.history
   pub is : IsBalance clerk account answer
+  pub note : new ≡ noted old account (length clerk.history) answer
 
--- An office that was opened on that device with that line was asked for a reference, from the record of a number on, and a
--- clerk of it answered, whose turns are a legal history. After it the device is another one at most by looks.
-pub record WasSearched {D : Type 0} (state : D → DeviceState) (device : DeviceState) (from : Configuration) (reference first : ℕ) (answer : Result Found FindRefusal) : Type 0 where
+-- a seat that was told this of a search: of a fault of the device alone something is noted
+abbrev pub searched : SeatState → Result Found FindRefusal → SeatState
+searched seat (Ok found) = seat
+searched seat (Err find.Faulted) = record seat { faulted = true }
+searched seat (Err find.Changed) = seat
+searched seat (Err find.Device) = seat
+
+-- An office that was opened on that device with that line was asked by a seat for a reference, from the record of a number
+-- on, and a clerk of it answered, whose turns are a legal history. After it the device is another one at most by looks.
+pub record WasSearched {D : Type 0} (state : D → DeviceState) (device : DeviceState) (from : Configuration) (old new : SeatState) (reference first : ℕ) (answer : Result Found FindRefusal) : Type 0 where
   pub clerk : ClerkState D
   pub opened : WasOpenedOn state device from clerk
   pub legal : KeepsHistory clerk
@@ -41,6 +59,7 @@ pub record WasSearched {D : Type 0} (state : D → DeviceState) (device : Device
   pub call : AreCalls (state clerk.journal.device) (state after) (answer ≡ Err find.Device)
   pub faulted : (answer ≡ Err find.Faulted) ↔ IsTrue clerk.journal.faulted
   pub numbered : IfOk answer (IsNumbered clerk.journal first)
+  pub note : new ≡ searched old answer
   -- on an honest device
   pub looks : LooksOnly (state clerk.journal.device) (state after)
   pub found : device.honest → IfOk answer (HasFound state clerk reference first)

@@ -4,3 +4,4 @@ pub mod Opening
 pub mod Told
 pub mod Lent
 pub mod Asked
+pub mod AskedLaws

@@ -3,9 +3,10 @@ ghost use Rattle.std.specs.Prelude.{◌≡◌, ◌≢◌, ℕ, ◌+◌, ◌-◌,
 ghost use Rattle.four_state.specs.Configuration.{stations};
 ghost use Rattle.sweep_auditor.specs.Audited.{IsAuditOf};
 ghost use Rattle.turn_clerk.specs.History.{line_after, moves_of};
-ghost use Rattle.line_lock.specs.Account.{turns_of, WasDenied, IsBorneOut, seats_of, IsSeatMissing};
+ghost use Rattle.line_lock.specs.Account.{turns_of, WasDenied, IsBorneOut, WasToldTruly, seats_of, IsSeatMissing};
 
 use crate::seat::Seat;
+use crate::told::was_told_truly;
 use four_state::Line;
 use sector_device::Device;
 use std::sync::ledger::{Ledger as Count, Share};
@@ -124,12 +125,14 @@ pub(crate) fn look_at<D: Device, L: Count>(
     ensures missing { (result ≡ Err CloseRefusal.SeatMissing) ↔ IsSeatMissing L.parts seats.now }
     ensures foreign { result ≡ Err CloseRefusal.ForeignSeat
         → (length seats.now ≢ L.parts)
-        ⊎ ¬ All (IsBorneOut clerk.now.opening.line clerk.now.history) seats.now }
+        ⊎ (¬ All (IsBorneOut clerk.now.opening.line clerk.now.history) seats.now)
+        ⊎ ¬ All (WasToldTruly clerk.now) seats.now }
     ensures one_each { OnOk result ((station : ℕ) → station < L.parts
         → seats_of station seats.now ≡ 1) }
     ensures as_many { OnOk result (length seats.now ≡ L.parts) }
     ensures borne_out { OnOk result
         (All (IsBorneOut clerk.now.opening.line clerk.now.history) seats.now) }
+    ensures told { OnOk result (All (WasToldTruly clerk.now) seats.now) }
     ensures there { OnOk result (All (λ turn. turn.station < L.parts) clerk.now.history) }
     ensures counted { OnOk result (length clerk.now.history
         ≡ sum_by (λ seat. length seat.turns) seats.now) }
@@ -143,6 +146,9 @@ pub(crate) fn look_at<D: Device, L: Count>(
     }
     for seat in seats {
         if !is_borne_out(clerk, seat) {
+            return Err(CloseRefusal::ForeignSeat);
+        }
+        if !was_told_truly(clerk, seat) {
             return Err(CloseRefusal::ForeignSeat);
         }
     }

@@ -11,6 +11,7 @@ mod opening;
 mod refusals;
 mod seat;
 mod shown;
+mod told;
 
 pub use closing::{CloseRefusal, Closing};
 pub use four_state::{Line, Rule};
@@ -22,6 +23,7 @@ pub use seat::Seat;
 pub use sector_device::Device;
 pub use std::sync::ledger::{Blank, Ledger as Count};
 pub use sweep_auditor::Audit;
+pub use told::ToldBalance;
 pub use turn_clerk::{
     Clerk, FindRefusal, Found, OpenRefusal, SEARCH_STEP, Taken, Turn, TurnRefusal,
 };

@@ -1,5 +1,5 @@
 //! The office.
-ghost use Rattle.std.specs.Prelude.{◌≡◌, ◌≢◌, ◌⊎◌, ℕ, ◌+◌, ◌-◌, ◌*◌, ◌<◌, ◌≤◌, ◌↔◌, ◌∷◌, [], length, map, All, sum_by, IfOk, IfErr, OnOk, IsTrue, IsErrAnd, IsSomeAnd, Some, Err, vec_len, vec_capacity};
+ghost use Rattle.std.specs.Prelude.{◌≡◌, ◌≢◌, ◌⊎◌, ℕ, ◌+◌, ◌-◌, ◌*◌, ◌<◌, ◌≤◌, ◌↔◌, [], length, map, All, sum_by, IfOk, IfErr, OnOk, IsErrAnd, Err};
 ghost use Rattle.std.specs.List.{range_with_len};
 ghost use Rattle.sector_device.specs.Device.{AreCalls};
 ghost use Rattle.sector_device.specs.Crash.{OnlyLooks, IsDurable};
@@ -9,10 +9,10 @@ ghost use Rattle.sweep_auditor.specs.Audited.{IsAuditOf};
 ghost use Rattle.turn_clerk.specs.Clerk.{KeepsHistory, LeavesAcknowledged, LeftPrefixEver};
 ghost use Rattle.turn_clerk.specs.History.{moves_of};
 ghost use Rattle.turn_clerk.specs.Reply.{turn_of};
-ghost use Rattle.line_lock.specs.Account.{IsBorneOut, failed_turns, seats_of, IsSeatMissing};
+ghost use Rattle.line_lock.specs.Account.{IsBorneOut, WasToldTruly, failed_turns, seats_of, IsSeatMissing};
 ghost use Rattle.journal_recovery.specs.Refused.{RecoveryRefuses};
 ghost use Rattle.line_lock.specs.Opening.{Names, WasOpenedOn, WasLeftByClerk};
-ghost use Rattle.line_lock.specs.Seat.{new_seat, HasReached};
+ghost use Rattle.line_lock.specs.Seat.{new_seat};
 ghost use Rattle.line_lock.specs.Told.{WasTold};
 ghost use Rattle.line_lock.specs.Asked.{WasToldBalance, WasSearched};
 ghost use Rattle.turn_ledger.specs.State.{IsAccount};
@@ -95,30 +95,46 @@ impl<D: Device, L: Count + Opening> Office<D, L> {
             entries.now result (λ refusal. refusal) }
         ensures reached { seat.new.reached ≡ seat.old.reached }
     {
-        let Seat {
-            station,
-            turns,
-            denied,
-            reached: _,
-            share,
-        } = seat;
-        if !has_place(turns) {
+        if !seat.has_place() {
             return Err(TurnRefusal::Memory);
         }
-        let answer = self.locked.lock(rt).turn(*station, share, turns, entries);
-        note(denied, &answer);
-        match answer.reply {
-            Ok(_) => Ok(turns[turns.len() - 1]),
-            Err(refusal) => Err(refusal),
-        }
+        self.locked.lock(rt).turn(seat, entries)?;
+        Ok(seat.turns[seat.turns.len() - 1])
     }
 
     /// As `turn`, but for an office whose history is meant to hold so many turns and no more: under the lock it is looked
-    /// at first whether it holds them. The turn stays where it is kept, the last of the seat's list.
+    /// at first whether it holds them.
     ///
     /// # Errors
     /// `Memory` for the seat's list, `Reached` if so many turns were taken, and then as of `turn`.
     pub fn turn_within<R: Wait>(
+        &self,
+        rt: &R,
+        seat: &mut Seat<L>,
+        entries: &[Entry],
+        limit: u64,
+    ) -> Result<Turn, WithinRefusal>
+        ensures told { WasTold L.device L.line seat.old seat.new
+            entries.now result WithinRefusal.Turn }
+        ensures within { IfOk result (λ turn. turn.index < limit) }
+        ensures reached { result ≡ Err WithinRefusal.Reached → limit ≤ seat.new.reached }
+        ensures no_more { (seat.new.reached ≡ limit) ⊎ (seat.new.reached ≡ seat.old.reached) }
+        ensures not_reached { result ≢ Err WithinRefusal.Reached
+            → seat.new.reached ≡ seat.old.reached }
+        ensures never_falls { seat.old.reached ≤ seat.new.reached }
+    {
+        match self.take_turn_within(rt, seat, entries, limit) {
+            Ok(_) => Ok(seat.turns[seat.turns.len() - 1]),
+            Err(refusal) => Err(refusal),
+        }
+    }
+
+    /// As [`turn_within`](Office::turn_within), but the turn isn't handed out: it stays where it is kept, the last of the
+    /// seat's list.
+    ///
+    /// # Errors
+    /// The same.
+    pub fn take_turn_within<R: Wait>(
         &self,
         rt: &R,
         seat: &mut Seat<L>,
@@ -129,38 +145,19 @@ impl<D: Device, L: Count + Opening> Office<D, L> {
             entries.now (turn_of result) WithinRefusal.Turn }
         ensures within { IfOk (turn_of result) (λ turn. turn.index < limit) }
         ensures reached { result ≡ Err WithinRefusal.Reached → limit ≤ seat.new.reached }
-        ensures rightly_reached { result ≡ Err WithinRefusal.Reached
-            → HasReached L.device L.line limit }
         ensures no_more { (seat.new.reached ≡ limit) ⊎ (seat.new.reached ≡ seat.old.reached) }
         ensures not_reached { result ≢ Err WithinRefusal.Reached
             → seat.new.reached ≡ seat.old.reached }
         ensures never_falls { seat.old.reached ≤ seat.new.reached }
     {
-        let Seat {
-            station,
-            turns,
-            denied,
-            reached,
-            share,
-        } = seat;
-        if !has_place(turns) {
+        if !seat.has_place() {
             return Err(WithinRefusal::Turn(TurnRefusal::Memory));
         }
-        let mut locked = self.locked.lock(rt);
-        if locked.holds(limit) {
-            *reached = limit.max(*reached);
-            return Err(WithinRefusal::Reached);
-        }
-        let answer = locked.turn(*station, share, turns, entries);
-        note(denied, &answer);
-        match answer.reply {
-            Ok(taken) => Ok(taken),
-            Err(refusal) => Err(WithinRefusal::Turn(refusal)),
-        }
+        self.locked.lock(rt).turn_within(seat, entries, limit)
     }
 
     /// What an account holds; it may wait for the lock. The history that the balance comes from has at least as many turns
-    /// as the seat lists.
+    /// as the seat lists. The seat notes the answer, for closing the office.
     ///
     /// # Errors
     /// [`BalanceRefusal`], the first that holds.
@@ -170,30 +167,36 @@ impl<D: Device, L: Count + Opening> Office<D, L> {
         seat: &mut Seat<L>,
         account: u32,
     ) -> Result<u64, BalanceRefusal>
-        ensures told { WasToldBalance D.state L.device L.line seat.old account result }
+        ensures told { WasToldBalance D.state L.device L.line seat.old seat.new account result }
         ensures there { OnOk result (IsAccount account) }
         ensures no_account { result ≡ Err BalanceRefusal.NoAccount → IsAccount account → ⊥ }
-        ensures seat { seat.new ≡ seat.old }
     {
         self.locked.lock(rt).balance(seat, account)
     }
 
     /// Looks for an entry with that reference in the records of the live bank, as [`Clerk::find`] does; it may wait for
     /// the lock. A call takes the lock for one step, of [`turn_clerk::SEARCH_STEP`] records at most: between the calls of a
-    /// long search others may take turns.
+    /// long search others may take turns. The seat notes if it is told of a fault, for closing the office.
     ///
     /// # Errors
     /// [`FindRefusal`], the first that holds.
-    pub fn find<R: Wait>(&self, rt: &R, reference: u64, from: u64) -> Result<Found, FindRefusal>
-        ensures told { WasSearched D.state L.device L.line reference from result }
+    pub fn find<R: Wait>(
+        &self,
+        rt: &R,
+        seat: &mut Seat<L>,
+        reference: u64,
+        from: u64,
+    ) -> Result<Found, FindRefusal>
+        ensures told { WasSearched D.state L.device L.line seat.old seat.new
+            reference from result }
         ensures never_changed { L.device.honest → result ≢ Err FindRefusal.Changed }
     {
-        self.locked.lock(rt).find(reference, from)
+        self.locked.lock(rt).find(seat, reference, from)
     }
 
     /// Closes the office, if the list has the seat of each station and the history bears out what each one holds:
     /// its list is that of the station's turns, in order, each once, and if it was told that it isn't its turn, it
-    /// wasn't. Seats may come in any order. It waits for nobody, and a faulted office is closed too.
+    /// wasn't; and the last balance that it was told is what the account then held. Seats may come in any order. It waits for nobody, and a faulted office is closed too.
     ///
     /// # Errors
     /// The office and the seats come back: a seat is missing, or is another office's.
@@ -211,6 +214,8 @@ impl<D: Device, L: Count + Opening> Office<D, L> {
             → seats_of station seats.items ≡ 1) }
         ensures borne_out { IfOk result (λ closing.
             All (IsBorneOut closing.clerk.opening.line closing.clerk.history) seats.items) }
+        ensures told { IfOk result (λ closing.
+            All (WasToldTruly closing.clerk) seats.items) }
         ensures counted { IfOk result (λ closing.
             length closing.clerk.history ≡ sum_by (λ seat. length seat.turns) seats.items) }
         ensures there { IfOk result (λ closing.
@@ -278,26 +283,5 @@ impl<D: Device, L: Count + Opening> Office<D, L> {
         ensures { WasLeftByClerk D.state L.device L.line result }
     {
         self.into_clerk().into_device()
-    }
-}
-
-// Whether a list has a place for a turn more, which is reserved where there is none.
-fn has_place(turns: &mut Vec<Turn>) -> bool
-    ensures items { turns.new.items ≡ turns.old.items }
-    ensures place { IsTrue result → vec_len turns.new < vec_capacity turns.new }
-{
-    turns.len() < turns.capacity() || turns.reserve(1).is_ok()
-}
-
-// Notes that it wasn't the station's turn, if that was the answer, and after how many turns.
-fn note(denied: &mut Option<u64>, answer: &LockedTurn)
-    ensures denied { answer.now.reply ≡ Err TurnRefusal.NotPrivileged
-        → denied.new ≡ Some answer.now.turns_before }
-    ensures not_denied { answer.now.reply ≢ Err TurnRefusal.NotPrivileged
-        → denied.new ≡ denied.old }
-{
-    match &answer.reply {
-        Err(TurnRefusal::NotPrivileged) => *denied = Some(answer.turns_before),
-        Ok(_) | Err(_) => {}
     }
 }

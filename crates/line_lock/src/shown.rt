@@ -19,6 +19,8 @@ impl<L: Count> fmt::Debug for Seat<L> {
             .field("turns", &self.turns().len())
             .field("denied", &self.denied())
             .field("reached", &self.reached())
+            .field("told", &self.told())
+            .field("was_faulted", &self.was_faulted())
             .finish_non_exhaustive()
     }
 }

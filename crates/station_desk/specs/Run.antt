@@ -3,7 +3,7 @@ use Rattle.std.specs.Prelude.{◌≡◌, ◌≢◌, ◌<◌, ◌≤◌, ℕ, Lis
 use Rattle.std.specs.List.{slice_index_or}
 use Rattle.sector_device.specs.Device.{DeviceState}
 use Rattle.four_state.specs.Configuration.{Configuration}
-use Rattle.line_lock.specs.Seat.{SeatState, IsDeniedAfter, HasReached}
+use Rattle.line_lock.specs.Seat.{SeatState, IsDeniedAfter}
 use Rattle.turn_clerk.specs.declared.refusals.TurnRefusal.TheVariants.{NoStation, NotPrivileged, Device}
 use Rattle.station_desk.specs.declared.end.End.{End}
 use Rattle.station_desk.specs.declared.end.End.TheVariants.{NotStarted, Reached, Tries, Refused, Closed}
@@ -12,12 +12,11 @@ use Rattle.station_desk.specs.Rings.{DeskState}
 use Rattle.station_desk.specs.Worked.{HasWorked}
 
 -- A station of an office that was opened on that device with that line has worked, and ended: as Reached only where its
--- seat was told that the history holds so many turns, and it does; as Tries only where it was told that it isn't its
+-- seat was told that the history holds so many turns; as Tries only where it was told that it isn't its
 -- turn, and as Refused never for that, nor as no station of the line; as Closed only where its gate may send it home.
 pub record HasRun (device : DeviceState) (from : Configuration) (old new : SeatState) (before after : DeskState) (end : End) (moves : ℕ) (closes : Type 0) : Type 0 where
   pub worked : HasWorked old new before after moves (end ≡ Refused Device)
   pub reached : end ≡ Reached → moves ≤ new.reached
-  pub rightly_reached : end ≡ Reached → HasReached device from moves
   pub tries : end ≡ Tries → IsSomeAnd new.denied (IsDeniedAfter device from old.station)
   pub not_denied : end ≢ Refused NotPrivileged
   pub there : end ≢ Refused NoStation

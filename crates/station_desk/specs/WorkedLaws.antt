@@ -7,6 +7,7 @@ use Rattle.std.proofs.lemmas.Grind.{flat_map-append}
 use Rattle.turn_ledger.specs.declared.entry.Entry.{Entry}
 use Rattle.turn_clerk.specs.declared.turns.Turn.{Turn}
 use Rattle.line_lock.specs.Seat.{SeatState}
+use Rattle.line_lock.specs.Asked.{NotesAlone}
 use Rattle.station_desk.specs.declared.messages.Ask.{Ask}
 use Rattle.station_desk.specs.declared.messages.Answer.{Answer}
 use Rattle.station_desk.specs.declared.messages.Outcome.{Outcome}
@@ -45,6 +46,8 @@ worked-nothing seat desk moves failed not = record {
   nothing_held = λ is. absurd (not is);
   counted = λ is. absurd (not is);
   none_failed = λ _. refl;
+  asked = λ is. absurd (not is);
+  not_asked = λ _. refl;
 }
 
 -- work in which nothing failed, and more of it
@@ -63,6 +66,8 @@ worked-joined old mid new before between after moves failed far next =
       nothing_held = next.nothing_held;
       counted = λ is. omega (arith, next.counted is, far.none_failed (λ never. never));
       none_failed = λ not. next.none_failed not ∙ far.none_failed (λ never. never);
+      asked = next.asked;
+      not_asked = λ not. next.not_asked not ∙ far.not_asked (λ never. never);
     }
 
 -- that something else failed, or that it is said in other words
@@ -78,4 +83,23 @@ worked-where old new before after moves failed other there back worked = record 
   nothing_held = λ is. worked.nothing_held (back is);
   counted = λ is. worked.counted (back is);
   none_failed = λ not. worked.none_failed (λ is. not (there is));
+  asked = λ is. worked.asked (back is);
+  not_asked = λ not. worked.not_asked (λ is. not (there is));
+}
+
+-- a question behind the work
+pub worked-noted : (old mid new : SeatState) (before after : DeskState) (moves : ℕ) (failed : Type 0) → NotesAlone mid new → HasWorked old mid before after moves failed → HasWorked old new before after moves failed
+worked-noted old mid new before after moves failed alone worked = record {
+  turns = worked.turns;
+  given_up = worked.given_up;
+  station = ap (λ (seat : SeatState). seat.station) alone ∙ worked.station;
+  listed = ap (λ (seat : SeatState). seat.turns) alone ∙ worked.listed;
+  within = worked.within;
+  served = worked.served;
+  undecided = worked.undecided;
+  nothing_held = worked.nothing_held;
+  counted = λ is. ap (λ (seat : SeatState). seat.failed) alone ∙ worked.counted is;
+  none_failed = λ not. ap (λ (seat : SeatState). seat.failed) alone ∙ worked.none_failed not;
+  asked = λ is. ap (λ (seat : SeatState). seat.undecided) alone ∙ worked.asked is;
+  not_asked = λ not. ap (λ (seat : SeatState). seat.undecided) alone ∙ worked.not_asked not;
 }

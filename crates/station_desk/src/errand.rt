@@ -1,5 +1,5 @@
 //! What a station is to do.
-ghost use Rattle.std.specs.Prelude.{◌≡◌};
+ghost use Rattle.line_lock.specs.Asked.{NotesAlone};
 ghost use Rattle.station_desk.specs.Asked.{IsReportOn};
 
 use line_lock::{BalanceRefusal, Count, FindRefusal, Found, Office, Opening, Seat};
@@ -47,11 +47,11 @@ pub(crate) fn put_question<D: Device, L: Count + Opening, R: Wait>(
     seat: &mut Seat<L>,
     question: Question,
 ) -> Report
-    ensures right { IsReportOn D.state L.device L.line seat.old question result }
-    ensures seat { seat.new ≡ seat.old }
+    ensures right { IsReportOn D.state L.device L.line seat.old seat.new question result }
+    ensures seat { NotesAlone seat.old seat.new }
 {
     match question {
         Question::Balance(account) => Report::Balance(office.balance(rt, seat, account)),
-        Question::Find { reference, from } => Report::Found(office.find(rt, reference, from)),
+        Question::Find { reference, from } => Report::Found(office.find(rt, seat, reference, from)),
     }
 }

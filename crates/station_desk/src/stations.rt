@@ -2,7 +2,7 @@
 ghost use Rattle.std.specs.Prelude.{◌≡◌, ◌≢◌, ◌+◌, ◌<◌, ◌≤◌, ◌↔◌, ◌∷◌, ◌++◌, [], List, length, OnOk, OnErr, IsSomeAnd, Err, Some, None};
 ghost use Rattle.turn_clerk.specs.declared.refusals.TurnRefusal.{TurnRefusal};
 ghost use Rattle.turn_clerk.specs.declared.turns.Turn.{Turn};
-ghost use Rattle.line_lock.specs.Seat.{IsDeniedAfter, HasReached};
+ghost use Rattle.line_lock.specs.Seat.{IsDeniedAfter};
 ghost use Rattle.station_desk.specs.Worked.{HasWorked};
 ghost use Rattle.station_desk.specs.Run.{HasRun, HaveRun};
 
@@ -43,15 +43,13 @@ fn round<D: Device, L: Count + Opening, G: Gate, R: Wait>(
     ensures one_turn { OnOk result (length seat.new.turns ≡ length seat.old.turns + 1) }
     ensures no_turn { OnErr result (seat.new.turns ≡ seat.old.turns) }
     ensures reached { result ≡ Err WithinRefusal.Reached → moves ≤ seat.new.reached }
-    ensures rightly_reached { result ≡ Err WithinRefusal.Reached
-        → HasReached L.device L.line moves }
     ensures denied { result ≡ Err (WithinRefusal.Turn TurnRefusal.NotPrivileged)
         → IsSomeAnd seat.new.denied (IsDeniedAfter L.device L.line seat.old.station) }
     ensures there { result ≢ Err (WithinRefusal.Turn TurnRefusal.NoStation) }
 {
     let entries = desk.gather();
     gate.gathered(seat.station());
-    let refusal = match office.turn_within(rt, seat, entries, moves) {
+    let refusal = match office.take_turn_within(rt, seat, entries, moves) {
         Ok(_) => {
             desk.settle(newest(seat));
             gate.took(newest(seat));
@@ -116,7 +114,6 @@ fn work<D: Device, L: Count + Opening, G: Gate, R: Wait>(
     ensures worked { HasWorked seat.old seat.new desk.old desk.new moves (result
         ≡ End.Refused TurnRefusal.Device) }
     ensures reached { result ≡ End.Reached → moves ≤ seat.new.reached }
-    ensures rightly_reached { result ≡ End.Reached → HasReached L.device L.line moves }
     ensures tries { result ≡ End.Tries
         → IsSomeAnd seat.new.denied (IsDeniedAfter L.device L.line seat.old.station) }
     ensures refused { result ≢ End.Refused TurnRefusal.NotPrivileged }

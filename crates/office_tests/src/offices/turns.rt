@@ -1,8 +1,8 @@
 //! What a seat is answered.
 
 use line_lock::{
-    Clerk, Closing, Count, Office, OfficeWork, Opening, Rule, Seat, Turn, TurnRefusal,
-    WithinRefusal, with_office,
+    BalanceRefusal, Clerk, Closing, Count, Found, Office, OfficeWork, Opening, Rule, Seat,
+    ToldBalance, Turn, TurnRefusal, WithinRefusal, with_office,
 };
 use sector_device::MemoryDevice;
 use std::process::Abort;
@@ -46,7 +46,27 @@ impl<'a, R: Abort + Wait> OfficeWork<MemoryDevice> for OneTurnAfterTheOther<'a, 
     }
 }
 
-const SHOWN: &str = "Office { .. } Seat { station: 1, turns: 1, denied: Some(2), reached: 1, .. }";
+const SHOWN: &str =
+    "Office { .. } Seat { station: 1, turns: 1, denied: Some(2), reached: 1, told: Some(ToldBalance { account: 1, amount: 5, turns: 2 }), was_faulted: false, .. }";
+
+// The seat is told what account 1 holds, where the history has so many turns.
+fn is_told<L: Count + Opening, R: Abort + Wait>(
+    rt: &R,
+    office: &Office<MemoryDevice, L>,
+    seat: &mut Seat<L>,
+    amount: u64,
+    turns: u64,
+) {
+    assert!(rt; office.balance(rt, seat, 1) == Ok(amount));
+    let account = 1;
+    let told = ToldBalance {
+        account,
+        amount,
+        turns,
+    };
+    assert!(rt; office.balance(rt, seat, 1_025) == Err(BalanceRefusal::NoAccount));
+    assert!(rt; seat.told() == Some(told) && !seat.was_faulted());
+}
 
 // The seat is denied a turn, which would have had this index.
 fn is_denied<L: Count + Opening, R: Abort + Wait>(
@@ -67,6 +87,9 @@ fn bottom_turn<L: Count + Opening, R: Abort + Wait>(
     top: &mut Seat<L>,
 ) -> Result<Turn, WithinRefusal> {
     is_denied(rt, office, top, 0);
+    is_told(rt, office, bottom, 0, 0);
+    let sixteen = [deposit(1, 5); 16];
+    assert!(rt; office.turn(rt, bottom, &sixteen) == Err(TurnRefusal::TooMany));
     let first = office.turn(rt, bottom, &[deposit(1, 5)])?;
     assert!(rt; (first.index, first.rule, first.posted) == (0, Rule::Bottom, Some(0)));
     is_denied(rt, office, bottom, 1);
@@ -81,10 +104,12 @@ fn top_turn<L: Count + Opening, R: Abort + Wait>(
 ) -> Result<Turn, WithinRefusal> {
     let stopped = office.turn_within(rt, top, &[], 1).err();
     assert!(rt; (stopped, top.reached()) == (Some(WithinRefusal::Reached), 1));
-    office.turn_within(rt, top, &[], 2)?;
-    let second = *top.turns().last().expect(rt, "a turn");
+    let second = office.turn_within(rt, top, &[], 2)?;
+    assert!(rt; top.turns().last() == Some(&second));
     assert!(rt; (second.index, second.rule, second.posted) == (1, Rule::Top, None));
     is_denied_within_three(rt, office, top);
+    is_told(rt, office, top, 5, 2);
+    assert!(rt; office.find(rt, top, 9, 0) == Ok(Found::Nowhere(0)));
     Ok(second)
 }
 

@@ -4,7 +4,7 @@ use Rattle.std.proofs.lemmas.List.Elements.{All-more}
 use Rattle.four_state.specs.Configuration.{IsConfiguration, stations}
 use Rattle.sweep_auditor.specs.RunLaws.{stations-after}
 use Rattle.turn_clerk.specs.History.{moves_of}
-use Rattle.line_lock.specs.Account.{IsBorneOut, IsSeatMissing}
+use Rattle.line_lock.specs.Account.{IsBorneOut, WasToldTruly, IsSeatMissing}
 use Rattle.line_lock.proofs.Counting.{all_there, hold_all}
 use Rattle.line_lock.proofs.OneEach.{one_each}
 use Rattle.line_lock.proofs.closing.look_at.Goals as goal
@@ -14,8 +14,12 @@ loop-seat-preserved g c =
     let clerk = c.args.clerk.now in
     let seat = c.seat-item.result in
     let out : IsBorneOut clerk.opening.line clerk.history seat = c.is_borne_out.ensures.0 c.if-not-is_borne_out.false in
-    All-more (IsBorneOut clerk.opening.line clerk.history) c.args.seats.now c.loop-seat.seat-index seat c.loop-seat-test.true c.loop-seat.invariant
-    (subst (IsBorneOut clerk.opening.line clerk.history) c.seat-item.is out)
+    let told : WasToldTruly clerk seat = c.was_told_truly.ensures.0 c.if-not-was_told_truly.false in (
+      All-more (IsBorneOut clerk.opening.line clerk.history) c.args.seats.now c.loop-seat.seat-index seat c.loop-seat-test.true c.loop-seat.invariant.0
+          (subst (IsBorneOut clerk.opening.line clerk.history) c.seat-item.is out),
+      All-more (WasToldTruly clerk) c.args.seats.now c.loop-seat.seat-index seat c.loop-seat-test.true c.loop-seat.invariant.1
+          (subst (WasToldTruly clerk) c.seat-item.is told),
+    )
 
 pub returns-clause-one_each : goal.returns-clause-one_each
 returns-clause-one_each g c =
@@ -31,7 +35,12 @@ returns-clause-one_each g c =
 pub returns-clause-borne_out : goal.returns-clause-borne_out
 returns-clause-borne_out g c =
     let seats = c.args.seats.now in
-    subst (All (IsBorneOut c.args.clerk.now.opening.line c.args.clerk.now.history)) (take_all c.loop-seat.seat-index seats c.loop-seat-test.false) c.loop-seat.invariant
+    subst (All (IsBorneOut c.args.clerk.now.opening.line c.args.clerk.now.history)) (take_all c.loop-seat.seat-index seats c.loop-seat-test.false) c.loop-seat.invariant.0
+
+pub returns-clause-told : goal.returns-clause-told
+returns-clause-told g c =
+    let seats = c.args.seats.now in
+    subst (All (WasToldTruly c.args.clerk.now)) (take_all c.loop-seat.seat-index seats c.loop-seat-test.false) c.loop-seat.invariant.1
 
 pub returns-clause-there : goal.returns-clause-there
 returns-clause-there g c =

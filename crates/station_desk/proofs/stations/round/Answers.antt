@@ -1,6 +1,7 @@
-use Rattle.std.proofs.Common.{rules, ◌≡◌, ◌≢◌, ◌<◌, ◌∙◌, [], ◌∷◌, ◌++◌, refl, sym, ap, subst}
+use Rattle.std.proofs.Common.{rules, ◌≡◌, ◌≢◌, ◌<◌, ◌∙◌, [], ◌∷◌, ◌++◌, List, Some, refl, sym, ap, subst}
 use Rattle.std.proofs.lemmas.List.{append-nil}
 use Rattle.std.proofs.lemmas.List.Elements.{All-nil, All-cons}
+use Rattle.turn_ledger.specs.declared.entry.Entry.{Entry}
 use Rattle.turn_clerk.specs.declared.turns.Turn.{Turn as TheTurn}
 use Rattle.turn_clerk.specs.declared.refusals.TurnRefusal.TheVariants.{Device}
 use Rattle.line_lock.specs.declared.refusals.WithinRefusal.TheVariants.{Turn}
@@ -21,7 +22,7 @@ returns-in-Ok-clause-worked g c =
     record {
       turns = turn ∷ [];
       given_up = [];
-      station = c.turn_within.ensures.told.station;
+      station = c.take_turn_within.ensures.told.station;
       listed = told.listed ∙ ap (λ (t : TheTurn). c.args.seat.now.turns ++ t ∷ []) (sym is);
       within = All-cons (λ (t : TheTurn). t.index < c.args.moves) turn [] (subst (λ (t : TheTurn). t.index < c.args.moves) (sym is) c.in-Ok.ensures.within) (All-nil (λ (t : TheTurn). t.index < c.args.moves));
       served = served-settled old mid c.settle.new.self [] turn far (ap (λ (t : TheTurn). t.entries) is ∙ told.asked ∙ gathered.1) c.settle.ensures.answered;
@@ -29,6 +30,8 @@ returns-in-Ok-clause-worked g c =
       nothing_held = λ failed. absurd (cc);
       counted = λ failed. absurd (cc);
       none_failed = λ not. told.not_failed (λ failed. absurd (cc));
+      asked = λ failed. absurd (cc);
+      not_asked = λ not. told.not_undecided (λ failed. absurd (cc));
     }
 
 pub returns-then-ne-clause-worked : goal.returns-then-ne-clause-worked
@@ -40,7 +43,7 @@ returns-then-ne-clause-worked g c =
     record {
       turns = [];
       given_up = [];
-      station = c.turn_within.ensures.told.station;
+      station = c.take_turn_within.ensures.told.station;
       listed = c.in-Err.ensures.told.not_listed ∙ sym (append-nil c.args.seat.now.turns);
       within = All-nil (λ (t : TheTurn). t.index < c.args.moves);
       served = served-gathered old old mid [] [] (served-nothing old) gathered.0;
@@ -48,6 +51,8 @@ returns-then-ne-clause-worked g c =
       nothing_held = λ failed. absurd (another cc);
       counted = λ failed. absurd (another cc);
       none_failed = λ not. c.in-Err.ensures.told.not_failed (λ failed. another cc);
+      asked = λ failed. absurd (another cc);
+      not_asked = λ not. c.in-Err.ensures.told.not_undecided (λ failed. another cc);
     }
 
 pub returns-clause-worked : goal.returns-clause-worked
@@ -59,7 +64,7 @@ returns-clause-worked g c =
     record {
       turns = [];
       given_up = mid.held;
-      station = c.turn_within.ensures.told.station;
+      station = c.take_turn_within.ensures.told.station;
       listed = c.in-Err.ensures.told.not_listed ∙ sym (append-nil c.args.seat.now.turns);
       within = All-nil (λ (t : TheTurn). t.index < c.args.moves);
       served = served-given_up old mid c.give_up.new.self [] (served-gathered old old mid [] [] (served-nothing old) gathered.0) c.give_up.ensures;
@@ -67,4 +72,6 @@ returns-clause-worked g c =
       nothing_held = λ failed. ap (λ (desk : DeskState). desk.held) c.give_up.ensures;
       counted = λ failed. c.in-Err.ensures.told.failed cc;
       none_failed = λ not. absurd (not cc);
+      asked = λ failed. c.in-Err.ensures.told.undecided (cc) ∙ ap (λ (entries : List Entry). Some entries) gathered.1;
+      not_asked = λ not. absurd (not cc);
     }

@@ -11,6 +11,7 @@ returns-clause-told g c =
       call = told.call;
       faulted = told.faulted;
       numbered = told.numbered;
+      note = told.note;
       looks = told.looks;
       found = λ honest. told.found (told.opened.stays_honest honest);
     }
