@@ -1,5 +1,5 @@
 -- A day of every station, from what was done one after another.
-use Rattle.std.specs.Prelude.{◌≡◌, ◌<◌, ℕ, List, [], ◌++◌, length, All}
+use Rattle.std.specs.Prelude.{◌≡◌, ◌<◌, ℕ, List, [], ◌++◌, length, All, Option, Some, None, IsSomeAnd, IfSome}
 use Rattle.std.specs.List.{AllZip, slice_index_or, range_with_len}
 use Rattle.std.proofs.Common.{sym, ◌∙◌, ap, subst, arith}
 use Rattle.std.proofs.lemmas.List.{length-map}
@@ -10,7 +10,7 @@ use Rattle.turn_ledger.specs.declared.entry.Entry.{Entry}
 use Rattle.four_state.specs.Configuration.{Configuration}
 use Rattle.turn_clerk.specs.declared.turns.Turn.{Turn}
 use Rattle.line_lock.specs.Seat.{SeatState, new_seat}
-use Rattle.line_lock.specs.Account.{turns_of, IsBorneOut}
+use Rattle.line_lock.specs.Account.{turns_of, IsBorneOut, WasToldTruly}
 use Rattle.line_lock.specs.Lent.{new_seats}
 use Rattle.station_desk.specs.declared.messages.Answer.{Answer}
 use Rattle.station_desk.specs.declared.end.End.TheVariants.{NotStarted}
@@ -21,6 +21,10 @@ use Rattle.station_desk.specs.Served.{entries_of_turns, outcomes_of_turns}
 use Rattle.station_desk.specs.Run.{HasRun}
 use Rattle.office_day.specs.declared.reconciled.StationDay.{StationDay}
 use Rattle.office_day.specs.declared.seated.Left.{Left}
+use Rattle.turn_clerk.specs.Clerk.{ClerkState}
+use Rattle.station_desk.specs.declared.end.End.{End}
+use Rattle.office_day.specs.Ended.{HasEnded}
+use Rattle.office_day.proofs.Ended.{has_ended}
 use Rattle.office_day.specs.Counters.{HasHandedIn, IsFresh}
 use Rattle.office_day.specs.Day.{HadDay, HadTheirDay, IsReconciled, AreReconciled, HaveServed}
 use Rattle.office_day.proofs.Lists.{AllZip-at, first}
@@ -34,14 +38,16 @@ pub record Parts : Type 0 where
   pub left : List Left
   pub days : List StationDay
 
--- How a day went in an office that was opened on that device with that line: what each station holds is handed in, it runs
--- from a new seat and a fresh desk, nobody sends it home, the history bears out what its seat then holds, and its requests are reconciled.
-pub record Went (device : DeviceState) (from opening : Configuration) (history : List Turn) (moves : ℕ) (parts : Parts) : Type 0 where
+-- How a day went in an office that was opened on that device with that line, and has this clerk: what each station holds is
+-- handed in, it runs from a new seat and a fresh desk, nobody sends it home, the clerk bears out what its seat then holds and
+-- was told, and its requests are reconciled.
+pub record Went {D : Type 0} (device : DeviceState) (from : Configuration) (clerk : ClerkState D) (moves : ℕ) (parts : Parts) : Type 0 where
   pub handed : AllZip HasHandedIn parts.held parts.feeds
   pub together : AllZip AreTogether parts.feeds parts.desks
   pub fresh : All IsFresh parts.desks
   pub served : HaveServed device from (new_seats (length parts.held)) parts.desks parts.after parts.left moves ⊥
-  pub borne_out : All (IsBorneOut opening history) parts.after
+  pub borne_out : All (IsBorneOut clerk.opening.line clerk.history) parts.after
+  pub told : All (WasToldTruly clerk) parts.after
   pub reconciled : AreReconciled parts.feeds parts.left parts.days
 
 -- how many seats an opening hands out
@@ -53,7 +59,7 @@ pub new_seat_at : (n i : ℕ) (seat : SeatState) → i < n → slice_index_or (n
 new_seat_at n i seat low = get_or-map-range_with_len new_seat 0 n i i seat low (omega arith)
 
 -- the day of one station
-record One (device : DeviceState) (from opening : Configuration) (history : List Turn) (moves i : ℕ) : Type 0 where
+record One {D : Type 0} (device : DeviceState) (from : Configuration) (clerk : ClerkState D) (moves i : ℕ) : Type 0 where
   entries : List Entry
   feed : FeedState
   before : DeskState
@@ -65,12 +71,14 @@ record One (device : DeviceState) (from opening : Configuration) (history : List
   handed : HasHandedIn entries feed
   fresh : IsFresh before
   ran : HasRun device from seat after before left.desk left.end moves ⊥
-  out : IsBorneOut opening history after
+  out : IsBorneOut clerk.opening.line clerk.history after
+  truly : WasToldTruly clerk after
   done : IsReconciled feed left day
 
-had_day : {device : DeviceState} {from opening : Configuration} {history : List Turn} {moves i : ℕ} (one : One device from opening history moves i)
-    → HadDay history moves i one.entries one.day
-had_day {history = history} {moves = moves} {i = i} one =
+had_day : {D : Type 0} {device : DeviceState} {from : Configuration} {clerk : ClerkState D} {moves i : ℕ} (one : One device from clerk moves i)
+    → HadDay clerk moves i one.entries one.day
+had_day {clerk = clerk} {moves = moves} {i = i} one =
+    let history = clerk.history in
     let worked = one.ran.worked in
     let served = worked.served in
     let station : one.after.station ≡ i = worked.station ∙ ap (λ (s : SeatState). s.station) one.sat in
@@ -88,16 +96,14 @@ had_day {history = history} {moves = moves} {i = i} one =
         tickets = subst (AreNumberedFrom 0) asked one.done.tickets;
         answered = ap (λ (l : List Answer). entries_of (asks_of l)) more ∙ served.entries ∙ ap (λ (l : List Turn). entries_of_turns l ++ entries_of worked.given_up) turns;
         outcomes = ap outcomes_in more ∙ served.outcomes ∙ ap (λ (l : List Turn). outcomes_of_turns l ++ undecided worked.given_up) turns;
-        none_else = λ not. worked.undecided (λ is. not (one.done.end ∙ is));
       };
       within = subst (All (λ turn. turn.index < moves)) turns worked.within;
-      reached = λ is. omega (arith, one.ran.reached (sym one.done.end ∙ is), one.out.reached);
-      started = λ is. one.ran.started (sym one.done.end ∙ is);
-      not_sent_home = λ is. one.ran.closed (sym one.done.end ∙ is);
+      ended = subst (λ (end : End). HasEnded clerk moves i ⊥ end worked.given_up) (sym one.done.end)
+          (has_ended clerk i one.seat one.after one.before one.left.desk one.left.end one.sat one.ran one.out one.truly);
     }
 
-pub had_their_day : {device : DeviceState} {from opening : Configuration} {history : List Turn} {moves : ℕ} {parts : Parts}
-    → Went device from opening history moves parts → HadTheirDay history moves parts.held parts.days
+pub had_their_day : {D : Type 0} {device : DeviceState} {from : Configuration} {clerk : ClerkState D} {moves : ℕ} {parts : Parts}
+    → Went device from clerk moves parts → HadTheirDay clerk moves parts.held parts.days
 had_their_day {parts = parts} went =
     let count = length parts.held in
     let as_many = AllZip-long HasHandedIn parts.held parts.feeds went.handed in
@@ -127,6 +133,7 @@ had_their_day {parts = parts} went =
             fresh = went.fresh i desk in_desks;
             ran = went.served.each i seat desk part in_seats;
             out = went.borne_out i seat in_after;
+            truly = went.told i seat in_after;
             done = went.reconciled.each i feed part day in_feeds;
           });
     }

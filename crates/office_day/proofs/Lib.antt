@@ -1,3 +1,4 @@
+mod Ended
 pub mod Lists
 pub mod Days
 pub mod Limits

@@ -13,6 +13,7 @@ use Rattle.journal_recovery.specs.State.{State}
 use Rattle.turn_clerk.specs.declared.turns.Turn.{Turn}
 use Rattle.turn_clerk.specs.declared.refusals.TurnRefusal.TheVariants.{Faulted, NoStation, NotPrivileged, TooMany, Memory, Exhausted, Device}
 use Rattle.turn_clerk.specs.History.{IsLegal}
+use Rattle.turn_clerk.specs.Clerk.{ClerkState, KeepsHistory, opening_state}
 use Rattle.line_lock.specs.Seat.{SeatState}
 use Rattle.line_lock.specs.Lent.{new_seats}
 use Rattle.line_lock.specs.Account.{turns_of}
@@ -60,10 +61,10 @@ short line state (turn ∷ turns) moves legal all =
     let below = all last turn inside in
     omega (arith, there.index, below)
 
-pub no_more : (line : Configuration) (state : State) (history : List Turn) (moves : ℕ) (held : List (List Entry)) (days : List StationDay)
-    → HadTheirDay history moves held days → All (λ turn. turn.station < length held) history → IsLegal line state history → length history ≤ moves
-no_more line state history moves held days had there legal =
-    short line state history moves legal (all_below moves (length held) history there
+pub no_more : {D : Type 0} (clerk : ClerkState D) (moves : ℕ) (held : List (List Entry)) (days : List StationDay)
+    → HadTheirDay clerk moves held days → All (λ turn. turn.station < length held) clerk.history → KeepsHistory clerk → length clerk.history ≤ moves
+no_more clerk moves held days had there keeps =
+    short clerk.opening.line (opening_state clerk) clerk.history moves keeps.legal (all_below moves (length held) clerk.history there
     (λ s low. (had.each s [] (first days (omega (arith, low, had.as_many))) low).within))
 
 -- a number that is 1 exactly where a station ended by a failed device
@@ -81,8 +82,8 @@ failures_are (Refused Memory) n one none = none (λ is. absurd (cc))
 failures_are (Refused Exhausted) n one none = none (λ is. absurd (cc))
 failures_are (Refused Device) n one none = one refl
 
-pub failures_counted : {device : DeviceState} {from opening : Configuration} {history : List Turn} {moves : ℕ} {parts : Parts}
-    → Went device from opening history moves parts → sum_by (λ seat. seat.failed) parts.after ≡ failures_told parts.days
+pub failures_counted : {D : Type 0} {device : DeviceState} {from : Configuration} {clerk : ClerkState D} {moves : ℕ} {parts : Parts}
+    → Went device from clerk moves parts → sum_by (λ seat. seat.failed) parts.after ≡ failures_told parts.days
 failures_counted {parts = parts} went =
     let count = length parts.held in
     let fed = AllZip-long HasHandedIn parts.held parts.feeds went.handed in

@@ -7,11 +7,11 @@ use Rattle.std.proofs.lemmas.Grind.{flat_map-append}
 use Rattle.std.proofs.lemmas.Slice.Zip.{AllZip-long}
 use Rattle.sector_device.specs.Device.{DeviceState}
 use Rattle.four_state.specs.Configuration.{Configuration, stations}
-use Rattle.journal_recovery.specs.State.{State}
 use Rattle.turn_clerk.specs.declared.turns.Turn.{Turn}
-use Rattle.turn_clerk.specs.History.{IsLegal}
+use Rattle.turn_clerk.specs.Clerk.{ClerkState, KeepsHistory, opening_state}
+use Rattle.sweep_auditor.specs.declared.moves.Audit.{Audit}
 use Rattle.turn_clerk.specs.declared.refusals.TurnRefusal.TheVariants.{Device}
-use Rattle.line_lock.specs.Account.{turns_of, IsBorneOut}
+use Rattle.line_lock.specs.Account.{turns_of, IsBorneOut, WasToldTruly}
 use Rattle.line_lock.specs.Lent.{new_seats}
 use Rattle.line_lock.specs.Seat.{SeatState, new_seat}
 use Rattle.station_desk.specs.declared.messages.Ask.{Ask}
@@ -29,52 +29,60 @@ use Rattle.line_lock.specs.declared.lent.OfficeRefusal.{OfficeRefusal}
 use Rattle.office_day.specs.declared.reconciled.StationDay.{StationDay}
 use Rattle.office_day.specs.Counters.{IsFresh}
 use Rattle.office_day.specs.Day.{HaveServed, IsReconciled, AreReconciled}
-use Rattle.office_day.specs.Spans.{Span, turns_in, IsSpan, AreSpans, LeftAfter, HaveLeft, Adjournment, adjourned_to, HasComeTo, HasLived, WasBrokenOff, WasServed, WasKeptOpen, WasAbandoned}
+use Rattle.station_desk.specs.declared.end.End.{End}
+use Rattle.office_day.specs.Ended.{HasEnded}
+use Rattle.office_day.proofs.Ended.{has_ended, ended_anyhow}
+use Rattle.office_day.specs.Spans.{Span, span_of, turns_in, IsSpan, AreSpans, LeftAfter, HaveLeft, Adjournment, adjourned_to, HasComeTo, HasLived, WasBrokenOff, WasServed, WasKeptOpen, WasAbandoned}
 use Rattle.office_day.proofs.Days.{length-new_seats, new_seat_at}
 use Rattle.office_day.proofs.Lists.{first, AllZip-at, AllZip-each}
 use Rattle.office_day.proofs.Pairing.{stands_with}
 use Rattle.office_day.proofs.Limits.{IsBelow, all_below, short}
 
--- In an office whose history bears out what its seats hold, a station's own turns are those of the history.
-module _ {device : DeviceState} {from opening : Configuration} {history : List Turn} {moves : ℕ} {closes : Type 0} (count : ℕ) {desks : List DeskState} {after : List SeatState} {left : List Left}
-    (served : HaveServed device from (new_seats count) desks after left moves closes) (out : All (IsBorneOut opening history) after) where
+-- In an office whose clerk bears out what its seats hold and were told, a station's own turns are those of the history.
+module _ {device : DeviceState} {from : Configuration} {moves : ℕ} {closes : Type 0} (count : ℕ) {D : Type 0} (clerk : ClerkState D) {desks : List DeskState} {after : List SeatState} {left : List Left}
+    (served : HaveServed device from (new_seats count) desks after left moves closes) (out : All (IsBorneOut clerk.opening.line clerk.history) after) (told : All (WasToldTruly clerk) after) where
   in_seats : (i : ℕ) → i < count → i < length (new_seats count)
   in_seats i low = subst (λ n. i < n) (sym (length-new_seats count)) low
+
+  in_after : (i : ℕ) → i < count → i < length after
+  in_after i low = subst (λ n. i < n) (sym served.seats_as_many) (in_seats i low)
 
   abbrev worked : (i : ℕ) (desk : DeskState) (part : Left) (low : i < count) → let seat = new_seat 0 in
       HasWorked (slice_index_or (new_seats count) i seat) (slice_index_or after i seat) (slice_index_or desks i desk) (slice_index_or left i part).desk moves ((slice_index_or left i part).end ≡ Refused Device)
   worked i desk part low = (served.each i (new_seat 0) desk part (in_seats i low)).worked
 
-  own_turns : (i : ℕ) (desk : DeskState) (part : Left) (low : i < count) → (worked i desk part low).turns ≡ turns_of i history
+  own_turns : (i : ℕ) (desk : DeskState) (part : Left) (low : i < count) → (worked i desk part low).turns ≡ turns_of i clerk.history
   own_turns i desk part low =
       let seat = new_seat 0 in
       let old = slice_index_or (new_seats count) i seat in
       let new = slice_index_or after i seat in
       let did = worked i desk part low in
       let sat : old ≡ new_seat i = new_seat_at count i seat low in
-      let borne = out i seat (subst (λ n. i < n) (sym served.seats_as_many) (in_seats i low)) in
+      let borne = out i seat (in_after i low) in
       let station : new.station ≡ i = did.station ∙ ap (λ (s : SeatState). s.station) sat in
       let none : old.turns ≡ [] = ap (λ (s : SeatState). s.turns) sat in
-      sym (did.listed ∙ ap (λ (l : List Turn). l ++ did.turns) none) ∙ borne.turns ∙ ap (λ s. turns_of s history) station
+      sym (did.listed ∙ ap (λ (l : List Turn). l ++ did.turns) none) ∙ borne.turns ∙ ap (λ s. turns_of s clerk.history) station
 
-  own_within : (part : Left) (desk : DeskState) → All (λ turn. turn.station < count) history → (s : ℕ) → s < count → All (IsBelow moves) (turns_of s history)
-  own_within part desk there s low = subst (All (IsBelow moves)) (own_turns s desk part low) (worked s desk part low).within
+  own_within : (part : Left) (desk : DeskState) → (s : ℕ) → s < count → All (IsBelow moves) (turns_of s clerk.history)
+  own_within part desk s low = subst (All (IsBelow moves)) (own_turns s desk part low) (worked s desk part low).within
 
   -- and so the history has no more than were wanted
-  pub is-span : (line : Configuration) (state : State) → All (λ turn. turn.station < count) history → IsLegal line state history → length history ≤ moves
-  is-span line state there legal = short line state history moves legal (all_below moves count history there (λ s low.
+  pub is-span : All (λ turn. turn.station < count) clerk.history → KeepsHistory clerk → length clerk.history ≤ moves
+  is-span there keeps = short clerk.opening.line (opening_state clerk) clerk.history moves keeps.legal (all_below moves count clerk.history there (λ s low.
       let some : 0 < length left = omega (arith, low, served.left_as_many, length-new_seats count) in
       let part = first left some in
-      own_within part part.desk there s low))
+      own_within part part.desk s low))
 
-  pub own_served : {D : Type 0} (span : Span D) → span.clerk.history ≡ history → (i : ℕ) (desk : DeskState) (part : Left) (low : i < count) → LeftAfter i (span ∷ []) (slice_index_or desks i desk) (slice_index_or left i part)
-  own_served span is i desk part low =
+  pub own_served : (audit : Audit) (i : ℕ) (desk : DeskState) (part : Left) (low : i < count) → LeftAfter moves closes i [] (span_of clerk audit) (slice_index_or desks i desk) (slice_index_or left i part)
+  own_served audit i desk part low =
       let did = worked i desk part low in
-      let turns : did.turns ≡ turns_in i (span ∷ []) = own_turns i desk part low ∙ ap (turns_of i) (sym is) ∙ sym (append-nil (turns_of i span.clerk.history)) in
+      let seat = new_seat 0 in
+      let turns : did.turns ≡ turns_in i (span_of clerk audit ∷ []) = own_turns i desk part low ∙ sym (append-nil (turns_of i clerk.history)) in
       record {
         given_up = did.given_up;
         served = subst (λ (l : List Turn). HasServed (slice_index_or desks i desk) (slice_index_or left i part).desk l did.given_up) turns did.served;
-        none_else = λ not. did.undecided not;
+        ended = has_ended clerk i (slice_index_or (new_seats count) i seat) (slice_index_or after i seat) (slice_index_or desks i desk) (slice_index_or left i part).desk (slice_index_or left i part).end
+            (new_seat_at count i seat low) (served.each i seat desk part (in_seats i low)) (out i seat (in_after i low)) (told i seat (in_after i low));
       }
 
 -- the turns of one more span
@@ -102,9 +110,9 @@ module _ {D : Type 0} (state : D → DeviceState) (moves : ℕ) where
   }
 
   -- each station left, after one span more, what it gave in all
-  pub left-more : (from mid : Adjournment D) (earlier : HasComeTo state moves from mid) (span : Span D) (parts : List Left)
-      → HaveLeft (span ∷ []) mid.desks parts → HaveLeft (earlier.spans ++ span ∷ []) from.desks parts
-  left-more from mid earlier span parts left = record {
+  pub left-more : (closes : Type 0) (from mid : Adjournment D) (earlier : HasComeTo state moves from mid) (span : Span D) (parts : List Left)
+      → HaveLeft moves closes [] span mid.desks parts → HaveLeft moves closes earlier.spans span from.desks parts
+  left-more closes from mid earlier span parts left = record {
     as_many = left.as_many ∙ earlier.given.as_many;
     each = λ i desk part low.
         let last = left.each i desk part (subst (λ n. i < n) (sym earlier.given.as_many) low) in
@@ -113,26 +121,26 @@ module _ {D : Type 0} (state : D → DeviceState) (moves : ℕ) where
           given_up = last.given_up;
           served = subst (λ (l : List Turn). HasServed (slice_index_or from.desks i desk) (slice_index_or parts i part).desk l last.given_up) (turns-more i earlier.spans span)
               (served-joined (slice_index_or from.desks i desk) (slice_index_or mid.desks i desk) (slice_index_or parts i part).desk (turns_in i earlier.spans) (turns_in i (span ∷ [])) last.given_up far last.served);
-          none_else = last.none_else;
+          ended = last.ended;
         };
   }
 
-  pub lived : (from before : Adjournment D) → HasComeTo state moves from before → (clerk : Span D) (parts : List Left)
-      → IsSpan state moves (state before.device) before.line clerk → HaveLeft (clerk ∷ []) before.desks parts → HasLived state moves from clerk parts
-  lived from before earlier span parts closed left = record {
+  pub lived : (closes : Type 0) (from before : Adjournment D) → HasComeTo state moves from before → (clerk : Span D) (parts : List Left)
+      → IsSpan state moves (state before.device) before.line clerk → HaveLeft moves closes [] clerk before.desks parts → HasLived state moves closes from clerk parts
+  lived closes from before earlier span parts closed left = record {
     before = before;
     earlier = earlier;
     closed = closed;
-    left = left-more from before earlier span parts left;
+    left = left-more closes from before earlier span parts left;
   }
 
   -- where all turns were taken, the office comes to the next span
-  pub come-further : (from before after : Adjournment D) (earlier : HasComeTo state moves from before) (span : Span D) (parts : List Left)
-      → IsSpan state moves (state before.device) before.line span → HaveLeft (span ∷ []) before.desks parts → All (λ (part : Left). part.end ≡ Reached) parts
+  pub come-further : (closes : Type 0) (from before after : Adjournment D) (earlier : HasComeTo state moves from before) (span : Span D) (parts : List Left)
+      → IsSpan state moves (state before.device) before.line span → HaveLeft moves closes [] span before.desks parts → All (λ (part : Left). part.end ≡ Reached) parts
       → after.device ≡ span.clerk.journal.device → after.line ≡ span.audit.last → after.desks ≡ map (λ (part : Left). part.desk) parts
       → HasComeTo state moves from after
-  come-further from before after earlier span parts closed left reached device line desks =
-      let far = left-more from before earlier span parts left in
+  come-further closes from before after earlier span parts closed left reached device line desks =
+      let far = left-more closes from before earlier span parts left in
       let desk_of : Left → DeskState = λ part. part.desk in
       let line_is : span.clerk.line ≡ after.line = sym (line ∙ closed.closed.last) in
       record {
@@ -147,7 +155,7 @@ module _ {D : Type 0} (state : D → DeviceState) (moves : ℕ) where
               let part = first parts (omega (arith, there)) in
               let gave = far.each i desk part low in
               let ended = reached i part there in
-              let none : gave.given_up ≡ [] = gave.none_else (λ failed. absurd (cc)) in
+              let none : gave.given_up ≡ [] = gave.ended.none_else (λ failed. absurd (cc)) in
               let at : desk_of (slice_index_or parts i part) ≡ slice_index_or after.desks i desk =
               sym (get_or-map desk_of parts i part desk there) ∙ ap (λ (l : List DeskState). slice_index_or l i desk) (sym desks) in
               subst (λ (d : DeskState). HasServed (slice_index_or from.desks i desk) d (turns_in i (earlier.spans ++ span ∷ [])) []) at
@@ -156,31 +164,33 @@ module _ {D : Type 0} (state : D → DeviceState) (moves : ℕ) where
       }
 
   -- there is a desk for each station of the line
-  pub desks_enough : (before after : Adjournment D) (span : Span D) (parts : List Left) → length before.desks ≡ stations before.line
-      → IsSpan state moves (state before.device) before.line span → HaveLeft (span ∷ []) before.desks parts
+  pub desks_enough : (closes : Type 0) (before after : Adjournment D) (span : Span D) (parts : List Left) → length before.desks ≡ stations before.line
+      → IsSpan state moves (state before.device) before.line span → HaveLeft moves closes [] span before.desks parts
       → after.line ≡ span.audit.last → after.desks ≡ map (λ (part : Left). part.desk) parts → length after.desks ≡ stations after.line
-  desks_enough before after span parts many closed left line desks =
+  desks_enough closes before after span parts many closed left line desks =
       ap length desks ∙ length-map parts (λ (part : Left). part.desk) ∙ left.as_many ∙ many ∙ sym closed.closed.stations ∙ ap stations (sym (line ∙ closed.closed.last))
 
 -- what a station's client was told, from what its feed and its desk have in the end
-was_served : (turns : List Turn) (before : DeskState) (feed : FeedState) (part : Left) (given_up : List Ask) (day : StationDay) → IsFresh before
-    → HasServed before part.desk turns given_up → (part.end ≢ Refused Device → given_up ≡ []) → IsReconciled feed part day → WasServed turns day
-was_served turns before feed part given_up day fresh served none done =
+was_served : {D : Type 0} (moves : ℕ) (closes : Type 0) (station : ℕ) (earlier : List (Span D)) (last : Span D) (before : DeskState) (feed : FeedState) (part : Left) (day : StationDay) → IsFresh before
+    → LeftAfter moves closes station earlier last before part → IsReconciled feed part day → WasServed moves station earlier last day
+was_served moves closes station earlier last before feed part day fresh left done =
+    let served = left.served in
     let more : feed.collected ++ day.answers.items ≡ served.more = sym done.given ∙ served.given ∙ ap (λ (l : List Answer). l ++ served.more) fresh in
     record {
       collected = feed.collected;
-      given_up = given_up;
+      given_up = left.given_up;
       tickets = subst (AreNumberedFrom 0) done.asked done.tickets;
       answered = ap (λ (l : List Answer). entries_of (asks_of l)) more ∙ served.entries;
       outcomes = ap outcomes_in more ∙ served.outcomes;
-      none_else = λ not. none (λ is. not (done.end ∙ is));
+      ended = subst (λ (end : End). HasEnded last.clerk moves station (Unit {0}) end left.given_up) (sym done.end)
+          (ended_anyhow last.clerk moves station closes part.end left.given_up left.ended);
     }
 
 module _ {D : Type 0} (state : D → DeviceState) (moves : ℕ) where
-  pub kept_open : (device : D) (line : Configuration) (desks : List DeskState) (last : Span D) (left : List Left) (feeds : List FeedState) (days : List StationDay)
-      → HasLived state moves (adjourned_to device line desks) last left → All IsFresh desks → length desks ≡ stations line → length feeds ≡ stations line
+  pub kept_open : (closes : Type 0) (device : D) (line : Configuration) (desks : List DeskState) (last : Span D) (left : List Left) (feeds : List FeedState) (days : List StationDay)
+      → HasLived state moves closes (adjourned_to device line desks) last left → All IsFresh desks → length desks ≡ stations line → length feeds ≡ stations line
       → AreReconciled feeds left days → WasKeptOpen state moves device line last days
-  kept_open device line desks last left feeds days lived fresh many fed done = record {
+  kept_open closes device line desks last left feeds days lived fresh many fed done = record {
     earlier = lived.earlier.spans;
     between = lived.before.device;
     stood = lived.before.line;
@@ -194,9 +204,8 @@ module _ {D : Type 0} (state : D → DeviceState) (moves : ℕ) where
           let desk = first desks (omega (arith, in_desks)) in
           let feed = first feeds (omega (arith, in_feeds)) in
           let part : Left = record { desk = desk; end = NotStarted } in
-          let gave = lived.left.each i desk part in_desks in
-          was_served (turns_in i (lived.earlier.spans ++ last ∷ [])) (slice_index_or desks i desk) (slice_index_or feeds i feed) (slice_index_or left i part) gave.given_up (slice_index_or days i day)
-          (fresh i desk in_desks) gave.served gave.none_else (done.each i feed part day in_feeds);
+          was_served moves closes i lived.earlier.spans last (slice_index_or desks i desk) (slice_index_or feeds i feed) (slice_index_or left i part) (slice_index_or days i day)
+          (fresh i desk in_desks) (lived.left.each i desk part in_desks) (done.each i feed part day in_feeds);
     };
   }
 
@@ -212,9 +221,9 @@ module _ {D : Type 0} (state : D → DeviceState) (moves : ℕ) where
   }
 
 -- feeds that were together with fresh desks are together with what their stations left
-pub left_together : {D : Type 0} (spans : List (Span D)) (feeds new : List FeedState) (desks : List DeskState) (left : List Left)
-    → AllZip AreTogether feeds desks → AllStandAt feeds new → HaveLeft spans desks left → AllZip stands_with new left
-left_together spans feeds new desks left together stand gave =
+pub left_together : {D : Type 0} {moves : ℕ} {closes : Type 0} (earlier : List (Span D)) (last : Span D) (feeds new : List FeedState) (desks : List DeskState) (left : List Left)
+    → AllZip AreTogether feeds desks → AllStandAt feeds new → HaveLeft moves closes earlier last desks left → AllZip stands_with new left
+left_together earlier last feeds new desks left together stand gave =
     let as_many : length desks ≡ length feeds = AllZip-long AreTogether feeds desks together in
     AllZip-each stands_with new left (gave.as_many ∙ as_many ∙ sym stand.as_many)
     (λ i feed part low.

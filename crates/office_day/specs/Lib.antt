@@ -3,3 +3,4 @@ pub mod Left
 pub mod Refusal
 pub mod Day
 pub mod Spans
+pub mod Ended

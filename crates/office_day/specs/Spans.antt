@@ -1,11 +1,10 @@
 -- A live office: it is opened, its stations take turns, and it is closed, again and again on one device.
-use Rattle.std.specs.Prelude.{◌≡◌, ◌≢◌, ◌<◌, ◌≤◌, ℕ, List, [], ◌∷◌, ◌++◌, length}
+use Rattle.std.specs.Prelude.{◌≡◌, ◌<◌, ◌≤◌, ℕ, List, [], ◌∷◌, ◌++◌, length}
 use Rattle.std.specs.List.{flat_map, slice_index_or}
 use Rattle.sector_device.specs.Device.{DeviceState}
 use Rattle.four_state.specs.Configuration.{Configuration, stations}
 use Rattle.sweep_auditor.specs.declared.moves.Audit.{Audit}
 use Rattle.turn_clerk.specs.declared.turns.Turn.{Turn}
-use Rattle.turn_clerk.specs.declared.refusals.TurnRefusal.TheVariants.{Device}
 use Rattle.turn_clerk.specs.Clerk.{ClerkState}
 use Rattle.line_lock.specs.Account.{turns_of}
 use Rattle.line_lock.specs.declared.lent.OfficeRefusal.{OfficeRefusal}
@@ -13,11 +12,11 @@ use Rattle.line_lock.specs.Lent.{IsClosed, IsRefused, IfOpening, UnlessOpening}
 use Rattle.line_lock.specs.Opening.{WasLeftByClerk}
 use Rattle.station_desk.specs.declared.messages.Ask.{Ask}
 use Rattle.station_desk.specs.declared.messages.Answer.{Answer}
-use Rattle.station_desk.specs.declared.end.End.TheVariants.{Refused}
 use Rattle.station_desk.specs.Messages.{entries_of, asks_of, outcomes_in, AreNumberedFrom}
 use Rattle.station_desk.specs.Outcomes.{undecided}
 use Rattle.station_desk.specs.Rings.{DeskState}
 use Rattle.station_desk.specs.Served.{HasServed, entries_of_turns, outcomes_of_turns}
+use Rattle.office_day.specs.Ended.{HasEnded}
 use Rattle.office_day.specs.declared.reconciled.StationDay.{StationDay}
 use Rattle.office_day.specs.declared.seated.Left.{Left}
 
@@ -54,18 +53,18 @@ pub record HaveGiven {D : Type 0} (spans : List (Span D)) (before after : List D
   pub each : (i : ℕ) (desk : DeskState) → i < length before
       → HasServed (slice_index_or before i desk) (slice_index_or after i desk) (turns_in i spans) []
 
--- What a station left of the last of these spans: its desk gave, in order, what became of the entries of its turns in all
--- of them, and then that those given up are undecided, which happens only where the station ended by a failed device.
-pub record LeftAfter {D : Type 0} (station : ℕ) (spans : List (Span D)) (before : DeskState) (left : Left) : Type 0 where
+-- What a station left of an office that was open for these spans and a last one: its desk gave, in order, what became of the
+-- entries of its turns in all of them, and then that those given up are undecided; and so it ended.
+pub record LeftAfter {D : Type 0} (moves : ℕ) (closes : Type 0) (station : ℕ) (earlier : List (Span D)) (last : Span D) (before : DeskState) (left : Left) : Type 0 where
   pub given_up : List Ask
-  pub served : HasServed before left.desk (turns_in station spans) given_up
-  pub none_else : left.end ≢ Refused Device → given_up ≡ []
+  pub served : HasServed before left.desk (turns_in station (earlier ++ last ∷ [])) given_up
+  pub ended : HasEnded last.clerk moves station closes left.end given_up
 
 -- Each station left that.
-pub record HaveLeft {D : Type 0} (spans : List (Span D)) (before : List DeskState) (left : List Left) : Type 0 where
+pub record HaveLeft {D : Type 0} (moves : ℕ) (closes : Type 0) (earlier : List (Span D)) (last : Span D) (before : List DeskState) (left : List Left) : Type 0 where
   pub as_many : length left ≡ length before
   pub each : (i : ℕ) (desk : DeskState) (part : Left) → i < length before
-      → LeftAfter i spans (slice_index_or before i desk) (slice_index_or left i part)
+      → LeftAfter moves closes i earlier last (slice_index_or before i desk) (slice_index_or left i part)
 
 -- an office that is to be opened: its device and line, and the desks of its stations
 pub record Adjournment (D : Type 0) : Type 0 where
@@ -84,11 +83,11 @@ pub record HasComeTo {D : Type 0} (state : D → DeviceState) (moves : ℕ) (fro
   pub given : HaveGiven spans from.desks to.desks
 
 -- From there on an office was open for some spans and this last one, and each station left what it gave in them all.
-pub record HasLived {D : Type 0} (state : D → DeviceState) (moves : ℕ) (from : Adjournment D) (last : Span D) (parts : List Left) : Type 0 where
+pub record HasLived {D : Type 0} (state : D → DeviceState) (moves : ℕ) (closes : Type 0) (from : Adjournment D) (last : Span D) (parts : List Left) : Type 0 where
   pub before : Adjournment D
   pub earlier : HasComeTo state moves from before
   pub closed : IsSpan state moves (state before.device) before.line last
-  pub left : HaveLeft (earlier.spans ++ last ∷ []) from.desks parts
+  pub left : HaveLeft moves closes earlier.spans last from.desks parts
 
 -- From there on an office was open for some spans, and the next one wasn't opened, or wasn't closed: the device is as the
 -- refused opening left it, or comes from a clerk that took turns on it.
@@ -98,22 +97,22 @@ pub record WasBrokenOff {D F : Type 0} (state : D → DeviceState) (moves : ℕ)
   pub opening : IfOpening refusal (IsRefused state before.device after)
   pub left : UnlessOpening refusal (WasLeftByClerk state (state before.device) before.line after)
 
--- What became of all that a station's client asked while these turns of the station were taken: each request stands, in
--- order and under its ticket, in an answer that was collected, in one that wasn't, or is unanswered; the answers are, in
--- order, what became of the entries of the turns, and then Undecided for requests that were given up, which happens only
--- where the station ended by a failed device.
-pub record WasServed (turns : List Turn) (day : StationDay) : Type 0 where
+-- What became of all that a station's client asked of an office that was open for these spans and a last one: each request
+-- stands, in order and under its ticket, in an answer that was collected, in one that wasn't, or is unanswered; the answers
+-- are, in order, what became of the entries of the station's turns, and then Undecided for requests that were given up; and
+-- so the station ended, which a client may send home.
+pub record WasServed {D : Type 0} (moves station : ℕ) (earlier : List (Span D)) (last : Span D) (day : StationDay) : Type 0 where
   pub collected : List Answer
   pub given_up : List Ask
   pub tickets : AreNumberedFrom 0 (asks_of collected ++ asks_of day.answers.items ++ day.unanswered.items)
-  pub answered : entries_of (asks_of (collected ++ day.answers.items)) ≡ entries_of_turns turns ++ entries_of given_up
-  pub outcomes : outcomes_in (collected ++ day.answers.items) ≡ outcomes_of_turns turns ++ undecided given_up
-  pub none_else : day.end ≢ Refused Device → given_up ≡ []
+  pub answered : entries_of (asks_of (collected ++ day.answers.items)) ≡ entries_of_turns (turns_in station (earlier ++ last ∷ [])) ++ entries_of given_up
+  pub outcomes : outcomes_in (collected ++ day.answers.items) ≡ outcomes_of_turns (turns_in station (earlier ++ last ∷ [])) ++ undecided given_up
+  pub ended : HasEnded last.clerk moves station (Unit {0}) day.end given_up
 
--- Each of so many stations was served by its turns in these spans.
-pub record HaveBeenServed {D : Type 0} (count : ℕ) (spans : List (Span D)) (days : List StationDay) : Type 0 where
+-- Each of so many stations was served so.
+pub record HaveBeenServed {D : Type 0} (count moves : ℕ) (earlier : List (Span D)) (last : Span D) (days : List StationDay) : Type 0 where
   pub as_many : length days ≡ count
-  pub each : (i : ℕ) (day : StationDay) → i < count → WasServed (turns_in i spans) (slice_index_or days i day)
+  pub each : (i : ℕ) (day : StationDay) → i < count → WasServed moves i earlier last (slice_index_or days i day)
 
 -- An office was kept open on that device and that line for some spans in a row, of which this is the last one, and its
 -- clients were served so.
@@ -123,7 +122,7 @@ pub record WasKeptOpen {D : Type 0} (state : D → DeviceState) (moves : ℕ) (d
   pub stood : Configuration
   pub joined : AreSpans state moves device line earlier between stood
   pub closed : IsSpan state moves (state between) stood last
-  pub served : HaveBeenServed (stations line) (earlier ++ last ∷ []) days
+  pub served : HaveBeenServed (stations line) moves earlier last days
 
 -- The device comes from an office that was kept open on that one with that line, and isn't told of: behind some spans the
 -- next wasn't opened, and the device is as that left it, or a clerk took turns on it.

@@ -69,7 +69,7 @@ pub fn run_day<D: Device + Send, R: Threads + Wait + Sync>(
 
     // What became of what the stations held.
     ensures days { IfOk result (λ day.
-        HadTheirDay day.clerk.history moves held.now day.stations.items) }
+        HadTheirDay day.clerk moves held.now day.stations.items) }
     ensures within { IfOk result (λ day. length day.clerk.history ≤ moves) }
     ensures failed { IfOk result (λ day.
         failures_told day.stations.items ≡ failed_turns day.clerk) }

@@ -1,5 +1,5 @@
 //! An office that stays open: it is closed and opened again, on one device and one line, as often as it takes.
-ghost use Rattle.std.specs.Prelude.{◌≡◌, ◌↔◌, [], ◌∷◌, length, map, All, IsTrue, IfOk, IfErr};
+ghost use Rattle.std.specs.Prelude.{◌≡◌, ◌↔◌, [], length, map, All, IsTrue, IfOk, IfErr};
 ghost use Rattle.four_state.specs.Configuration.{stations};
 ghost use Rattle.line_lock.specs.Opening.{WasLeftByClerk};
 ghost use Rattle.line_lock.specs.Lent.{IsRefused, IfOpening, UnlessOpening};
@@ -52,7 +52,7 @@ pub fn run_spans<D: Device + Send, G: Gate + Sync, R: Threads + Wait + Sync>(
     moves: u64,
 ) -> Result<Life<D>, (D, OfficeRefusal<AllocError>)>
     requires as_many { length office.desks.items ≡ stations office.line }
-    ensures lived { IfOk result (λ life. HasLived D.state moves
+    ensures lived { IfOk result (λ life. HasLived D.state moves (G.closes gate.now)
         (adjourned_to office.device office.line office.desks.items)
         (span_of life.clerk life.audit) life.left.items) }
     ensures ended { IfOk result (λ life. All (λ part. part.end ≡ Reached) life.left.items → ⊥) }
@@ -88,7 +88,8 @@ fn run_span<D: Device + Send, G: Gate + Sync, R: Threads + Wait + Sync>(
     ensures closed { IfOk result (λ life. IsSpan D.state moves (D.state office.device) office.line
         (span_of life.clerk life.audit)) }
     ensures left { IfOk result (λ life.
-        HaveLeft (span_of life.clerk life.audit ∷ []) office.desks.items life.left.items) }
+        HaveLeft moves (G.closes gate.now) [] (span_of life.clerk life.audit)
+        office.desks.items life.left.items) }
     ensures given_up { IfErr result (λ e.
         UnlessOpening e.1 (WasLeftByClerk D.state (D.state office.device) office.line e.0)) }
     ensures opening { IfErr result (λ e. IfOpening e.1 (IsRefused D.state office.device e.0)) }

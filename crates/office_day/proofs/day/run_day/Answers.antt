@@ -6,7 +6,6 @@ use Rattle.turn_ledger.specs.declared.entry.Entry.{Entry}
 use Rattle.four_state.specs.Configuration.{stations}
 use Rattle.journal_recovery.specs.Refused.{RecoveryRefuses}
 use Rattle.journal_recovery.specs.declared.refusals.OpenRefusal.TheVariants.{Device}
-use Rattle.turn_clerk.specs.Clerk.{opening_state}
 use Rattle.line_lock.specs.Lent.{new_seats}
 use Rattle.station_desk.specs.Rings.{FeedState, DeskState, AreTogether}
 use Rattle.office_day.specs.Counters.{HasHandedIn}
@@ -55,7 +54,7 @@ parts g c = record {
 }
 
 went : (g : given.Over) (c : goal.In-Ok-all_reconciled g) → let clerk = c.in-Ok-run.run'.0.clerk in
-    Went (g.D.Device.state c.args.device) c.args.line clerk.opening.line clerk.history c.args.moves (parts g c)
+    Went (g.D.Device.state c.args.device) c.args.line clerk c.args.moves (parts g c)
 went g c =
     let ran = c.in-Ok-run.ensures.ran in
     record {
@@ -64,6 +63,7 @@ went g c =
       fresh = c.in-Ok.ensures.fresh;
       served = subst (λ (count : ℕ). HaveServed (g.D.Device.state c.args.device) c.args.line (new_seats count) c.in-Ok.desks.items ran.0 c.in-Ok-run.run'.1.items c.args.moves ⊥) (sym c.requires.held) ran.1;
       borne_out = ran.2.borne_out;
+      told = ran.2.told;
       reconciled = c.in-Ok-all_reconciled.ensures;
     }
 
@@ -73,10 +73,10 @@ returns-in-Ok-all_reconciled-clause-days g c = had_their_day (went g c)
 pub returns-in-Ok-all_reconciled-clause-within : goal.returns-in-Ok-all_reconciled-clause-within
 returns-in-Ok-all_reconciled-clause-within g c =
     let clerk = c.in-Ok-run.run'.0.clerk in
-    no_more clerk.opening.line (opening_state clerk) clerk.history c.args.moves c.args.held.now c.in-Ok-all_reconciled.stations.items
+    no_more clerk c.args.moves c.args.held.now c.in-Ok-all_reconciled.stations.items
     (had_their_day (went g c))
     (subst (λ (n : ℕ). All (λ turn. turn.station < n) clerk.history) (sym c.requires.held) c.in-Ok-run.ensures.ran.2.there)
-    c.in-Ok-run.ensures.closed.legal.legal
+    c.in-Ok-run.ensures.closed.legal
 
 pub returns-in-Ok-all_reconciled-clause-failed : goal.returns-in-Ok-all_reconciled-clause-failed
 returns-in-Ok-all_reconciled-clause-failed g c = sym (failures_counted (went g c)) ∙ c.in-Ok-run.ensures.ran.2.failed

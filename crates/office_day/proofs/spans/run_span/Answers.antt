@@ -1,7 +1,5 @@
-use Rattle.std.proofs.Common.{◌<◌, ◌∙◌, sym, subst, refl}
+use Rattle.std.proofs.Common.{◌<◌, ◌∙◌, sym, subst}
 use Rattle.four_state.specs.Configuration.{stations}
-use Rattle.turn_clerk.specs.Clerk.{opening_state}
-use Rattle.office_day.specs.Spans.{span_of}
 use Rattle.office_day.proofs.Days.{length-new_seats}
 use Rattle.office_day.proofs.SpanLaws.{is-span, own_served}
 use Rattle.office_day.proofs.spans.run_span.Goals as goal
@@ -11,16 +9,16 @@ returns-clause-closed g c =
     let ran = c.in_ok-run.ensures.ran in
     record {
       closed = c.in_ok-run.ensures.closed;
-      within = is-span (stations c.args.office.line) ran.1 ran.2.borne_out c.in_ok-run.run'.0.clerk.opening.line (opening_state c.in_ok-run.run'.0.clerk) ran.2.there c.in_ok-run.ensures.closed.legal.legal;
+      within = is-span (stations c.args.office.line) c.in_ok-run.run'.0.clerk ran.1 ran.2.borne_out ran.2.told ran.2.there c.in_ok-run.ensures.closed.legal;
     }
 
 pub returns-clause-left : goal.returns-clause-left
 returns-clause-left g c =
     let ran = c.in_ok-run.ensures.ran in
     let count = stations c.args.office.line in
-    let span = span_of c.in_ok-run.run'.0.clerk c.in_ok-run.run'.0.audit in
     let many = length-new_seats count in
     record {
       as_many = ran.1.left_as_many ∙ many ∙ sym c.requires.as_many;
-      each = λ i desk part low. own_served count ran.1 ran.2.borne_out span refl i desk part (subst (λ n. i < n) c.requires.as_many low);
+      each = λ i desk part low.
+          own_served count c.in_ok-run.run'.0.clerk ran.1 ran.2.borne_out ran.2.told c.in_ok-run.run'.0.audit i desk part (subst (λ n. i < n) c.requires.as_many low);
     }

@@ -25,7 +25,7 @@ returns-then-not-all_reached-clause-lived g c =
     let from = adjourned_to c.args.office.device c.args.office.line c.args.office.desks.items in
     let before = adjourned_to c.loop.office.device c.loop.office.line c.loop.office.desks.items in
     let life = c.in-Ok.life in
-    lived g.D.Device.state c.args.moves from before c.loop.invariant.0 (span_of life.clerk life.audit) life.left.items c.in-Ok.ensures.closed c.in-Ok.ensures.left
+    lived g.D.Device.state c.args.moves _ from before c.loop.invariant.0 (span_of life.clerk life.audit) life.left.items c.in-Ok.ensures.closed c.in-Ok.ensures.left
 
 pub returns-in-Err-between_spans-clause-broken_off : goal.returns-in-Err-between_spans-clause-broken_off
 returns-in-Err-between_spans-clause-broken_off g c =
@@ -52,7 +52,7 @@ loop-preserved g c =
     let life = c.in-Ok.life in
     let span = span_of life.clerk life.audit in
     let made = c.in-Ok-between_spans.ensures in (
-      come-further g.D.Device.state c.args.moves from before after c.loop.invariant.0 span life.left.items c.in-Ok.ensures.closed c.in-Ok.ensures.left
+      come-further g.D.Device.state c.args.moves _ from before after c.loop.invariant.0 span life.left.items c.in-Ok.ensures.closed c.in-Ok.ensures.left
           (subst (λ (l : List Left). All (λ (part : Left). part.end ≡ Reached) l) c.as_slice.ensures.value (c.all_reached.ensures.0 c.if-not-all_reached.false)) made.device made.line made.desks,
-      desks_enough g.D.Device.state c.args.moves before after span life.left.items c.loop.invariant.1 c.in-Ok.ensures.closed c.in-Ok.ensures.left made.line made.desks,
+      desks_enough g.D.Device.state c.args.moves _ before after span life.left.items c.loop.invariant.1 c.in-Ok.ensures.closed c.in-Ok.ensures.left made.line made.desks,
     )
