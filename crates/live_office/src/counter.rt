@@ -1,5 +1,5 @@
 //! Counters, and the threads that serve them.
-ghost use Rattle.std.specs.Prelude.{◌≡◌, IfOk};
+ghost use Rattle.std.specs.Prelude.{◌≡◌, [], IfOk};
 
 use crate::reader::Reader;
 use crate::scheduler::Scheduler;
@@ -64,6 +64,8 @@ pub(crate) fn begin_session<
     feed: Feed,
     scheduler: &Arc<Scheduler>,
 ) -> Result<Session, Unserved>
+    requires nothing_asked { feed.asked ≡ [] }
+    requires nothing_collected { feed.collected ≡ [] }
     ensures { IfOk result (λ session. session.feed ≡ feed) }
 {
     let Counter {
@@ -93,6 +95,8 @@ fn new_wakers(alloc: Global) -> Result<Arc<Wakers>, AllocError> {
 
 /// A session at a station that has no counter.
 pub(crate) fn empty_session(alloc: Global, station: u8, feed: Feed) -> Result<Session, AllocError>
+    requires nothing_asked { feed.asked ≡ [] }
+    requires nothing_collected { feed.collected ≡ [] }
     ensures { IfOk result (λ session. session.feed ≡ feed) }
 {
     let (_, messages) = RingBuffer::new(alloc, 1)?;

@@ -136,6 +136,8 @@ fn session_at<
     feed: Feed,
     scheduler: &Arc<Scheduler>,
 ) -> Result<Session, Unserved>
+    requires nothing_asked { feed.asked ≡ [] }
+    requires nothing_collected { feed.collected ≡ [] }
     ensures { IfOk result (λ session. session.feed ≡ feed) }
 {
     match counter {

@@ -1,4 +1,6 @@
 //! What counters are told.
+ghost use Rattle.std.specs.Prelude.{◌≡◌};
+
 use crate::messages::WrongLine;
 use line_lock::{BalanceRefusal, FindRefusal};
 use station_desk::{Answer, Outcome};
@@ -32,6 +34,11 @@ pub enum Response {
     Undecided {
         reference: u64,
     },
+    /// An entry of the looked-for reference was posted in the batch of this number.
+    Found {
+        number: u64,
+        reference: u64,
+    },
     /// What an account holds.
     Balance {
         account: u32,
@@ -54,6 +61,10 @@ pub enum Response {
 }
 
 impl From<Answer> for Response {
+    ghost use Rattle.live_office.specs.Conversation.{response_of};
+
+    ghost from_gives = { λ answer response. response ≡ response_of answer };
+
     fn from(answer: Answer) -> Response {
         let reference = answer.entry.reference();
         match answer.outcome {
@@ -68,7 +79,9 @@ impl From<Answer> for Response {
 impl fmt::Display for Response {
     fn fmt<W: fmt::Write>(&self, f: &mut fmt::Formatter<W>) -> fmt::Result {
         match self {
-            Response::Posted { number, reference } => write!(f, "posted {number} {reference}"),
+            Response::Posted { number, reference } | Response::Found { number, reference } => {
+                write!(f, "posted {number} {reference}")
+            }
             Response::Refused { refusal, reference } => {
                 write!(f, "refused {refusal:?} {reference}")
             }

@@ -1,4 +1,7 @@
 //! A search for a reference, step by step.
+ghost use Rattle.std.specs.Prelude.{◌≡◌, false, IfSome};
+ghost use Rattle.live_office.specs.Conversation.{is_answer};
+
 use crate::responses::Response;
 use line_lock::{FindRefusal, Found};
 use station_desk::Question;
@@ -37,13 +40,15 @@ impl Search {
     }
 
     /// Goes on by what was found.
-    pub(crate) fn go_on(&mut self, reference: u64, found: Result<Found, FindRefusal>) -> Step {
+    pub(crate) fn go_on(&mut self, reference: u64, found: Result<Found, FindRefusal>) -> Step
+        ensures { IfSome result.response (λ response. is_answer response ≡ false) }
+    {
         match found {
             Ok(Found::Posted(number)) => {
                 self.has_found = true;
                 self.from = number.saturating_add(1);
                 Step {
-                    response: Some(Response::Posted { number, reference }),
+                    response: Some(Response::Found { number, reference }),
                     is_last: false,
                 }
             }
@@ -55,7 +60,7 @@ impl Search {
                 }
             }
             Ok(Found::Nowhere(since)) => Step {
-                response: (!self.has_found).then_some(Response::Unknown { since }),
+                response: self.unknown(since),
                 is_last: true,
             },
             Err(refusal) => Step {
@@ -63,5 +68,15 @@ impl Search {
                 is_last: true,
             },
         }
+    }
+
+    // What is told where nothing more is found.
+    fn unknown(&self, since: u64) -> Option<Response>
+        ensures { IfSome result (λ response. is_answer response ≡ false) }
+    {
+        if self.has_found {
+            return None;
+        }
+        Some(Response::Unknown { since })
     }
 }

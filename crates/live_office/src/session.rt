@@ -1,7 +1,11 @@
 //! What the dispatcher does for one counter.
-ghost use Rattle.std.specs.Prelude.{◌≡◌, ◌≤◌, ◌<◌};
-ghost use Rattle.rtrb.specs.Ring.{known_free};
+ghost use Rattle.std.specs.Prelude.{◌≡◌, ◌≤◌, ◌<◌, false, [], ◌++◌, map, IsTrue, IfSome, Some, None};
+ghost use Rattle.rtrb.specs.Ring.{known_free, sent, received};
+ghost use Rattle.script_grammar.specs.declared.requests.Request.TheVariants.{Post};
+ghost use Rattle.station_desk.specs.Messages.{entries_of};
 ghost use Rattle.station_desk.specs.Rings.{StandsAt};
+ghost use Rattle.live_office.specs.declared.messages.Message.TheVariants.{Asked};
+ghost use Rattle.live_office.specs.Conversation.{response_of, is_answer, answers_among, postings_among, pending};
 
 use crate::messages::Message;
 use crate::responses::Response;
@@ -18,8 +22,10 @@ use turn_ledger::Entry;
 /// How many messages and responses lie at most between the dispatcher and one counter, each way.
 pub(crate) const CAPACITY: usize = 256;
 
-/// A counter as the dispatcher sees it. For each request that is submitted a place is kept for the response to it, so that
-/// a counter that reads nothing holds up nobody but itself.
+/// A counter as the dispatcher sees it. What was submitted is what the counter's messages asked to post, in order, but for
+/// the message that is handled next; and what its writer was handed of that are the answers that were collected, in order,
+/// each once. For each request that is submitted a place is kept for the response to it, so that a counter that reads
+/// nothing holds up nobody but itself.
 #[derive(Drop)]
 pub(crate) struct Session {
     station: u8,
@@ -37,6 +43,8 @@ pub(crate) struct Session {
     // How many requests are submitted, and not answered.
     unanswered: usize,
     ghost kept_places: { unanswered ≤ known_free responses },
+    ghost said: { postings_among (received messages) ≡ entries_of feed.asked ++ pending next },
+    ghost told: { answers_among (sent responses) ≡ map response_of feed.collected },
 }
 
 /// An entry that a counter asked for, and that came too late to be submitted.
@@ -58,6 +66,10 @@ impl Session {
         wakers: Arc<Wakers>,
         closes_at_end: bool,
     ) -> Session
+        requires nothing_said { received messages ≡ [] }
+        requires nothing_told { sent responses ≡ [] }
+        requires nothing_asked { feed.asked ≡ [] }
+        requires nothing_collected { feed.collected ≡ [] }
         ensures { result.feed ≡ feed }
     {
         Session {
@@ -134,6 +146,7 @@ impl Session {
 
     // What is handled next. Of an office that closes nothing more is taken.
     fn next_message(&mut self, scheduler: &Scheduler) -> Option<Message>
+        ensures next { result ≡ self.new.next }
         ensures feed { self.new.feed ≡ self.old.feed }
         ensures room { self.new.responses ≡ self.old.responses }
         ensures unanswered { self.new.unanswered ≡ self.old.unanswered }
@@ -147,8 +160,10 @@ impl Session {
 
     // Handles a message, for whose response there is a place; false if that can't be done yet.
     fn handle<R: Wait>(&mut self, rt: &R, scheduler: &Scheduler, message: Message) -> bool
-        requires { self.old.unanswered < known_free self.old.responses }
-        ensures { StandsAt self.old.feed self.new.feed }
+        requires place { self.old.unanswered < known_free self.old.responses }
+        requires next { self.old.next ≡ Some message }
+        ensures feed { StandsAt self.old.feed self.new.feed }
+        ensures handled { IsTrue result → pending self.new.next ≡ [] }
     {
         if let Message::Asked(Request::Post(entry)) = message {
             return self.submit(scheduler, entry);
@@ -170,8 +185,10 @@ impl Session {
 
     // Answers a request that posts nothing; false if it isn't answered yet.
     fn answer_request<R: Wait>(&mut self, rt: &R, scheduler: &Scheduler, request: Request) -> bool
-        requires { self.old.unanswered < known_free self.old.responses }
-        ensures { StandsAt self.old.feed self.new.feed }
+        requires place { self.old.unanswered < known_free self.old.responses }
+        requires next { self.old.next ≡ Some (Asked request) }
+        ensures feed { StandsAt self.old.feed self.new.feed }
+        ensures handled { IsTrue result → pending self.new.next ≡ [] }
     {
         match request {
             Request::Post(entry) => self.submit(scheduler, entry),
@@ -185,23 +202,28 @@ impl Session {
         }
     }
 
-    // Submits an entry, for whose response there is a place.
+    // Submits the entry that is asked for next, for whose response there is a place.
     fn submit(&mut self, scheduler: &Scheduler, entry: Entry) -> bool
-        requires { self.old.unanswered < known_free self.old.responses }
-        ensures { StandsAt self.old.feed self.new.feed }
+        requires place { self.old.unanswered < known_free self.old.responses }
+        requires next { self.old.next ≡ Some (Asked (Post entry)) }
+        ensures feed { StandsAt self.old.feed self.new.feed }
+        ensures handled { IsTrue result → self.new.next ≡ None }
     {
         if self.feed.submit(entry).is_err() {
             return false;
         }
+        self.next = None;
         self.unanswered += 1;
         scheduler.note_submitted();
         true
     }
 
-    // Tells the counter something, for which there is a place.
+    // Tells the counter something else than an answer, for which there is a place.
     fn respond(&mut self, response: Response) -> bool
-        requires { self.old.unanswered < known_free self.old.responses }
-        ensures { self.new.feed ≡ self.old.feed }
+        requires place { self.old.unanswered < known_free self.old.responses }
+        requires other { is_answer response ≡ false }
+        ensures feed { self.new.feed ≡ self.old.feed }
+        ensures next { self.new.next ≡ self.old.next }
     {
         self.responses.push_reserved(response);
         self.wakers.note_given();
@@ -216,6 +238,7 @@ impl Session {
         question: Question,
     ) -> Option<Report>
         ensures feed { self.new.feed ≡ self.old.feed }
+        ensures next { self.new.next ≡ self.old.next }
         ensures room { self.new.responses ≡ self.old.responses }
         ensures unanswered { self.new.unanswered ≡ self.old.unanswered }
     {
@@ -232,7 +255,8 @@ impl Session {
     // Tells what an account holds; false if that isn't known yet.
     fn tell_balance<R: Wait>(&mut self, rt: &R, scheduler: &Scheduler, account: u32) -> bool
         requires { self.old.unanswered < known_free self.old.responses }
-        ensures { self.new.feed ≡ self.old.feed }
+        ensures feed { self.new.feed ≡ self.old.feed }
+        ensures next { self.new.next ≡ self.old.next }
     {
         match self.report(rt, scheduler, Question::Balance(account)) {
             Some(Report::Balance(Ok(amount))) => {
@@ -246,7 +270,8 @@ impl Session {
     // Tells under which numbers a reference was posted, one after another; false until the last is told.
     fn tell_found<R: Wait>(&mut self, rt: &R, scheduler: &Scheduler, reference: u64) -> bool
         requires { self.old.unanswered < known_free self.old.responses }
-        ensures { self.new.feed ≡ self.old.feed }
+        ensures feed { self.new.feed ≡ self.old.feed }
+        ensures next { self.new.next ≡ self.old.next }
     {
         let question = self.search.question(reference);
         let Some(Report::Found(found)) = self.report(rt, scheduler, question) else {
@@ -265,21 +290,13 @@ impl Session {
 
     // Tells what comes of a step of a search, if anything.
     fn tell_step(&mut self, step: Step)
-        requires { self.old.unanswered < known_free self.old.responses }
-        ensures { self.new.feed ≡ self.old.feed }
+        requires place { self.old.unanswered < known_free self.old.responses }
+        requires other { IfSome step.response (λ response. is_answer response ≡ false) }
+        ensures feed { self.new.feed ≡ self.old.feed }
+        ensures next { self.new.next ≡ self.old.next }
     {
         if let Some(response) = step.response {
             self.respond(response);
-        }
-    }
-
-    // What the counter said that nobody handled, one message after another.
-    fn take_unhandled(&mut self) -> Option<Message>
-        ensures { self.new.feed ≡ self.old.feed }
-    {
-        match self.next.take() {
-            Some(message) => Some(message),
-            None => self.messages.pop().ok(),
         }
     }
 
@@ -287,19 +304,30 @@ impl Session {
     pub(crate) fn end(self, unheard: &mut Vec<Unheard>) -> Feed
         ensures { result ≡ self.feed }
     {
-        let mut session = self;
-        for _ in 0..=CAPACITY {
-            let Some(message) = session.take_unhandled() else {
+        let Session {
+            station,
+            next,
+            mut messages,
+            feed,
+            ..
+        } = self;
+        if let Some(message) = next {
+            list(station, &message, unheard);
+        }
+        for _ in 0..CAPACITY {
+            let Ok(message) = messages.pop() else {
                 break;
             };
-            if let Message::Asked(Request::Post(entry)) = message {
-                let _ = unheard.push(Unheard {
-                    station: session.station,
-                    reference: entry.reference(),
-                });
-            }
+            list(station, &message, unheard);
         }
-        let Session { feed, .. } = session;
         feed
+    }
+}
+
+// Lists the entry that a message asks to post, if it does, as far as there is memory.
+fn list(station: u8, message: &Message, unheard: &mut Vec<Unheard>) {
+    if let Message::Asked(Request::Post(entry)) = message {
+        let reference = entry.reference();
+        let _ = unheard.push(Unheard { station, reference });
     }
 }

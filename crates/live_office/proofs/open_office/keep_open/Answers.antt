@@ -32,8 +32,8 @@ returns-in-Ok-settled-clause-kept g c =
     let last : span_of life.clerk life.audit ≡ span_of closed.clerk closed.audit = λ i. span_of (sym told.clerk i) (sym told.audit i) in
     let many = c.in-Ok.ensures.as_many ∙ c.stations.ensures.count in
     let fed : length new ≡ length begun.desks.items = c.join-sessions.ensures.as_many ∙ sym (AllZip-long AreTogether old begun.desks.items c.in-Ok.ensures.together) in
-    kept_open g.D.Device.state c.args.moves _ c.args.device c.args.line begun.desks.items (span_of closed.clerk closed.audit) life.left.items new closed.stations.items
-    (subst (λ (span : Span _). HasLived g.D.Device.state c.args.moves _ (adjourned_to c.args.device c.args.line begun.desks.items) span life.left.items) last lived)
+    kept_open g.D.Device.state c.args.moves (Unit {0}) c.args.device c.args.line begun.desks.items (span_of closed.clerk closed.audit) life.left.items new closed.stations.items
+    (subst (λ (span : Span _). HasLived g.D.Device.state c.args.moves (Unit {0}) (adjourned_to c.args.device c.args.line begun.desks.items) span life.left.items) last lived)
     c.in-Ok.ensures.fresh many (fed ∙ many) told.stations
 
 pub returns-clause-left : goal.returns-clause-left
