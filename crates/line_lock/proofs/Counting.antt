@@ -10,6 +10,7 @@ use Rattle.four_state.specs.MotionLaws.{privileged_stands, IsConfiguration-moved
 use Rattle.sweep_auditor.specs.Run.{next, IsRun}
 use Rattle.turn_clerk.specs.declared.turns.Turn.{Turn}
 use Rattle.turn_clerk.specs.History.{move_of, moves_of}
+use Rattle.turn_clerk.specs.Clerk.{ClerkState}
 use Rattle.line_lock.specs.Seat.{SeatState}
 use Rattle.line_lock.specs.Account.{turns_of, seats_of, IsBorneOut}
 
@@ -82,17 +83,17 @@ all_turns n (turn ∷ turns) seats there one =
     omega (arith, rest, split, once)
 
 -- what stands in their lists
-listed : (opening : Configuration) (history : List Turn) (seats : List SeatState) → All (IsBorneOut opening history) seats
-    → sum_by (λ seat. length seat.turns) seats ≡ sum_by (λ seat. length (turns_of seat.station history)) seats
-listed opening history [] all = refl
-listed opening history (seat ∷ seats) all =
+listed : {D : Type 0} (clerk : ClerkState D) (seats : List SeatState) → All (IsBorneOut clerk) seats
+    → sum_by (λ seat. length seat.turns) seats ≡ sum_by (λ seat. length (turns_of seat.station clerk.history)) seats
+listed clerk [] all = refl
+listed clerk (seat ∷ seats) all =
     let here = ap length (all 0 seat (omega arith)).turns in
-    let rest = listed opening history seats (λ k d lt. all (suc k) d (omega (arith, lt))) in
+    let rest = listed clerk seats (λ k d lt. all (suc k) d (omega (arith, lt))) in
     let one = sum_by-cons (λ (s : SeatState). length s.turns) seat seats in
-    let other = sum_by-cons (λ (s : SeatState). length (turns_of s.station history)) seat seats in
+    let other = sum_by-cons (λ (s : SeatState). length (turns_of s.station clerk.history)) seat seats in
     omega arith
 
-pub hold_all : (n : ℕ) (opening : Configuration) (history : List Turn) (seats : List SeatState) → All (λ turn. turn.station < n) history
-    → ((k : ℕ) → k < n → seats_of k seats ≡ 1) → All (IsBorneOut opening history) seats
-    → length history ≡ sum_by (λ seat. length seat.turns) seats
-hold_all n opening history seats there one borne = sym (listed opening history seats borne ∙ all_turns n history seats there one)
+pub hold_all : {D : Type 0} (n : ℕ) (clerk : ClerkState D) (seats : List SeatState) → All (λ turn. turn.station < n) clerk.history
+    → ((k : ℕ) → k < n → seats_of k seats ≡ 1) → All (IsBorneOut clerk) seats
+    → length clerk.history ≡ sum_by (λ seat. length seat.turns) seats
+hold_all n clerk seats there one borne = sym (listed clerk seats borne ∙ all_turns n clerk.history seats there one)

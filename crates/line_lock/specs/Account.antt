@@ -1,4 +1,4 @@
--- What the seats of an office hold in their hands, and whether its history bears it out.
+-- What the seats of an office hold in their hands, and whether its clerk bears it out.
 use Rattle.std.specs.Prelude.{◌≡◌, ℕ, true, ◌==◌, ◌<◌, ◌≤◌, if◌then◌else◌, List, filter, count_by, length, take, Some, IfSome}
 use Rattle.four_state.specs.Configuration.{Configuration}
 use Rattle.turn_clerk.specs.declared.turns.Turn.{Turn}
@@ -19,23 +19,24 @@ pub record WasDenied (opening : Configuration) (history : List Turn) (station be
   pub within : before ≤ length history
   pub no_privilege : ¬ HasPrivilege (line_after opening (take before history)) station
 
--- The history bears out what a seat holds: its turns are those of its station, in order, each once; where it was told
--- that it isn't its turn, it wasn't; and the history holds as many turns as it was told.
-pub record IsBorneOut (opening : Configuration) (history : List Turn) (seat : SeatState) : Type 0 where
-  pub turns : seat.turns ≡ turns_of seat.station history
-  pub denied : IfSome seat.denied (WasDenied opening history seat.station)
-  pub reached : seat.reached ≤ length history
+-- what an account held after so many turns of the clerk's history
+abbrev pub held_after : {D : Type 0} → ClerkState D → ℕ → ℕ → ℕ
+held_after clerk turns account = balance_of (state_after_turns (opening_state clerk) (take turns clerk.history)).ledger account
 
 -- After so many turns of the clerk's history the account held that amount.
 pub record HeldThen {D : Type 0} (clerk : ClerkState D) (told : ToldBalance) : Type 0 where
   pub within : told.turns ≤ length clerk.history
   pub there : IsAccount told.account
-  pub amount : told.amount ≡ balance_of (state_after_turns (opening_state clerk) (take told.turns clerk.history)).ledger told.account
+  pub amount : told.amount ≡ held_after clerk told.turns told.account
 
--- What a seat was told beside its turns is true of the clerk: the last balance, as the account then stood; that a fault of
--- the device was met, if it was told so; and that the device failed in its turn, if it was: what the clerk accepts of that
--- turn's entries is in flight.
-pub record WasToldTruly {D : Type 0} (clerk : ClerkState D) (seat : SeatState) : Type 0 where
+-- The clerk bears out what a seat holds. Its turns are those of its station in the history, in order, each once. What it was
+-- told is so: that it wasn't its turn; that the history holds so many turns; the last balance, as the account then stood;
+-- that a fault of the device was met; and that the device failed in its turn: what the clerk accepts of that turn's entries
+-- is in flight.
+pub record IsBorneOut {D : Type 0} (clerk : ClerkState D) (seat : SeatState) : Type 0 where
+  pub turns : seat.turns ≡ turns_of seat.station clerk.history
+  pub denied : IfSome seat.denied (WasDenied clerk.opening.line clerk.history seat.station)
+  pub reached : seat.reached ≤ length clerk.history
   pub balance : IfSome seat.told (HeldThen clerk)
   pub faulted : seat.faulted ≡ true → clerk.journal.faulted ≡ true
   pub undecided : IfSome seat.undecided (λ entries. clerk.in_flight ≡ Some (accepted clerk.ledger entries))

@@ -12,7 +12,7 @@ use Rattle.journal_recovery.specs.declared.refusals.OpenRefusal.{OpenRefusal}
 use Rattle.journal_recovery.specs.declared.refusals.OpenRefusal.TheVariants.{Memory, Device}
 use Rattle.turn_clerk.specs.Clerk.{ClerkState, KeepsHistory, LeavesAcknowledged, LeftPrefixEver}
 use Rattle.turn_clerk.specs.History.{moves_of}
-use Rattle.line_lock.specs.Account.{IsBorneOut, WasToldTruly, failed_turns, seats_of}
+use Rattle.line_lock.specs.Account.{IsBorneOut, failed_turns, seats_of}
 use Rattle.line_lock.specs.Opening.{WasOpenedOn}
 use Rattle.line_lock.specs.Seat.{SeatState, new_seat}
 use Rattle.line_lock.specs.declared.lent.OfficeRefusal.{OfficeRefusal}
@@ -22,13 +22,11 @@ use Rattle.line_lock.specs.declared.lent.OfficeRefusal.TheVariants.{Opening}
 abbrev pub new_seats : ℕ → List SeatState
 new_seats count = map new_seat (range_with_len 0 count)
 
--- The seats account for the clerk's whole history: each of so many stations has one, the history bears out what it holds,
--- what it was told is true of the clerk, each turn is in the list of one, and a turn in which the device failed is counted
--- at one.
+-- The seats account for the clerk's whole history: each of so many stations has one, the clerk bears out what it holds, each
+-- turn is in the list of one, and a turn in which the device failed is counted at one.
 pub record AccountFor {D : Type 0} (count : ℕ) (seats : List SeatState) (clerk : ClerkState D) : Type 0 where
   pub one_seat : (station : ℕ) → station < count → seats_of station seats ≡ 1
-  pub borne_out : All (IsBorneOut clerk.opening.line clerk.history) seats
-  pub told : All (WasToldTruly clerk) seats
+  pub borne_out : All (IsBorneOut clerk) seats
   pub counted : length clerk.history ≡ sum_by (λ seat. length seat.turns) seats
   pub there : All (λ turn. turn.station < count) clerk.history
   pub failed : sum_by (λ seat. seat.failed) seats ≡ failed_turns clerk

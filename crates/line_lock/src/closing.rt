@@ -3,10 +3,10 @@ ghost use Rattle.std.specs.Prelude.{◌≡◌, ◌≢◌, ℕ, ◌+◌, ◌-◌,
 ghost use Rattle.four_state.specs.Configuration.{stations};
 ghost use Rattle.sweep_auditor.specs.Audited.{IsAuditOf};
 ghost use Rattle.turn_clerk.specs.History.{line_after, moves_of};
-ghost use Rattle.line_lock.specs.Account.{turns_of, WasDenied, IsBorneOut, WasToldTruly, seats_of, IsSeatMissing};
+ghost use Rattle.line_lock.specs.Account.{turns_of, WasDenied, IsBorneOut, seats_of, IsSeatMissing};
 
 use crate::seat::Seat;
-use crate::told::was_told_truly;
+use crate::told::{are_in_flight, was_held};
 use four_state::Line;
 use sector_device::Device;
 use std::sync::ledger::{Ledger as Count, Share};
@@ -104,16 +104,26 @@ fn was_denied<D: Device>(clerk: &Clerk<D>, station: u8, turns: u64) -> bool
         && line_at(clerk, turns as usize).privilege(station).is_none()
 }
 
-// Whether the office's history bears out what a seat holds.
+// Whether the clerk bears out what a seat holds.
 fn is_borne_out<D: Device, L: Count>(clerk: &Clerk<D>, seat: &Seat<L>) -> bool
     requires { stations clerk.now.line ≡ L.parts }
-    ensures { IsTrue result ↔ IsBorneOut clerk.now.opening.line clerk.now.history seat.now }
+    ensures { IsTrue result ↔ IsBorneOut clerk.now seat.now }
 {
     let denied = match seat.denied() {
         Some(turns) => was_denied(clerk, seat.station(), turns),
         None => true,
     };
-    denied && seat.reached() <= clerk.history().len() as u64 && lists_all(seat, clerk.history())
+    let held = match seat.told() {
+        Some(told) => was_held(clerk, &told),
+        None => true,
+    };
+    let failed = match &seat.undecided {
+        Some(entries) => are_in_flight(clerk, entries),
+        None => true,
+    };
+    let faulted = clerk.is_faulted() || !seat.was_faulted();
+    let reached = seat.reached() <= clerk.history().len() as u64;
+    denied && held && failed && faulted && reached && lists_all(seat, clerk.history())
 }
 
 /// Whether an office with this clerk can be closed with these seats, or why not.
@@ -124,15 +134,11 @@ pub(crate) fn look_at<D: Device, L: Count>(
     requires { stations clerk.now.line ≡ L.parts }
     ensures missing { (result ≡ Err CloseRefusal.SeatMissing) ↔ IsSeatMissing L.parts seats.now }
     ensures foreign { result ≡ Err CloseRefusal.ForeignSeat
-        → (length seats.now ≢ L.parts)
-        ⊎ (¬ All (IsBorneOut clerk.now.opening.line clerk.now.history) seats.now)
-        ⊎ ¬ All (WasToldTruly clerk.now) seats.now }
+        → (length seats.now ≢ L.parts) ⊎ (¬ All (IsBorneOut clerk.now) seats.now) }
     ensures one_each { OnOk result ((station : ℕ) → station < L.parts
         → seats_of station seats.now ≡ 1) }
     ensures as_many { OnOk result (length seats.now ≡ L.parts) }
-    ensures borne_out { OnOk result
-        (All (IsBorneOut clerk.now.opening.line clerk.now.history) seats.now) }
-    ensures told { OnOk result (All (WasToldTruly clerk.now) seats.now) }
+    ensures borne_out { OnOk result (All (IsBorneOut clerk.now) seats.now) }
     ensures there { OnOk result (All (λ turn. turn.station < L.parts) clerk.now.history) }
     ensures counted { OnOk result (length clerk.now.history
         ≡ sum_by (λ seat. length seat.turns) seats.now) }
@@ -146,9 +152,6 @@ pub(crate) fn look_at<D: Device, L: Count>(
     }
     for seat in seats {
         if !is_borne_out(clerk, seat) {
-            return Err(CloseRefusal::ForeignSeat);
-        }
-        if !was_told_truly(clerk, seat) {
             return Err(CloseRefusal::ForeignSeat);
         }
     }

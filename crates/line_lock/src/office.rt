@@ -9,7 +9,7 @@ ghost use Rattle.sweep_auditor.specs.Audited.{IsAuditOf};
 ghost use Rattle.turn_clerk.specs.Clerk.{KeepsHistory, LeavesAcknowledged, LeftPrefixEver};
 ghost use Rattle.turn_clerk.specs.History.{moves_of};
 ghost use Rattle.turn_clerk.specs.Reply.{turn_of};
-ghost use Rattle.line_lock.specs.Account.{IsBorneOut, WasToldTruly, failed_turns, seats_of, IsSeatMissing};
+ghost use Rattle.line_lock.specs.Account.{IsBorneOut, failed_turns, seats_of, IsSeatMissing};
 ghost use Rattle.journal_recovery.specs.Refused.{RecoveryRefuses};
 ghost use Rattle.line_lock.specs.Opening.{Names, WasOpenedOn, WasLeftByClerk};
 ghost use Rattle.line_lock.specs.Seat.{new_seat};
@@ -194,9 +194,10 @@ impl<D: Device, L: Count + Opening> Office<D, L> {
         self.locked.lock(rt).find(seat, reference, from)
     }
 
-    /// Closes the office, if the list has the seat of each station and the history bears out what each one holds:
-    /// its list is that of the station's turns, in order, each once, and if it was told that it isn't its turn, it
-    /// wasn't; and the last balance that it was told is what the account then held. Seats may come in any order. It waits for nobody, and a faulted office is closed too.
+    /// Closes the office, if the list has the seat of each station and the clerk bears out what each one holds: its list is
+    /// that of the station's turns, in order, each once; if it was told that it isn't its turn, it wasn't; the last balance
+    /// that it was told is what the account then held; and where it was told of a fault, there was one. Seats may come in
+    /// any order. It waits for nobody, and a faulted office is closed too.
     ///
     /// # Errors
     /// The office and the seats come back: a seat is missing, or is another office's.
@@ -213,9 +214,7 @@ impl<D: Device, L: Count + Opening> Office<D, L> {
         ensures one_seat { OnOk result ((station : ℕ) → station < L.parts
             → seats_of station seats.items ≡ 1) }
         ensures borne_out { IfOk result (λ closing.
-            All (IsBorneOut closing.clerk.opening.line closing.clerk.history) seats.items) }
-        ensures told { IfOk result (λ closing.
-            All (WasToldTruly closing.clerk) seats.items) }
+            All (IsBorneOut closing.clerk) seats.items) }
         ensures counted { IfOk result (λ closing.
             length closing.clerk.history ≡ sum_by (λ seat. length seat.turns) seats.items) }
         ensures there { IfOk result (λ closing.

@@ -1,15 +1,11 @@
-//! A balance that a seat was told, and whether a clerk's history bears it out.
-ghost use Rattle.std.specs.Prelude.{◌≡◌, ◌==◌, ◌≤◌, ◌↔◌, if◌then◌else◌, length, take, IsTrue, Some, SomeIff};
+//! What a seat was told of an account, and whether a clerk bears it out.
+ghost use Rattle.std.specs.Prelude.{◌≡◌, ◌==◌, ◌≤◌, ◌↔◌, if◌then◌else◌, length, IsTrue, Some, SomeIff};
 ghost use Rattle.turn_ledger.specs.State.{LedgerState, IsLedger, IsAccount, balance_of};
 ghost use Rattle.turn_ledger.specs.Screen.{AreAccepted, accepted, posted_in_order};
 ghost use Rattle.turn_ledger.specs.Ledger.{into, out_of};
-ghost use Rattle.turn_clerk.specs.History.{state_after_turns};
-ghost use Rattle.turn_clerk.specs.Clerk.{opening_state};
-ghost use Rattle.line_lock.specs.Account.{HeldThen, WasToldTruly};
+ghost use Rattle.line_lock.specs.Account.{held_after, HeldThen};
 
-use crate::seat::Seat;
 use sector_device::Device;
-use std::sync::ledger::Ledger as Count;
 use turn_clerk::Clerk;
 use turn_ledger::{Batch, Entry};
 
@@ -73,7 +69,7 @@ fn after_entries(account: u32, before: u64, entries: &[Entry]) -> u64
 // What an account held after so many turns of the history, or None if there is no account of this number.
 fn held_after<D: Device>(clerk: &Clerk<D>, account: u32, turns: usize) -> Option<u64>
     requires { turns ≤ length clerk.now.history }
-    ensures { SomeIff result (IsAccount account) (balance_of (state_after_turns (opening_state clerk.now) (take turns clerk.now.history)).ledger account) }
+    ensures { SomeIff result (IsAccount account) (held_after clerk.now turns account) }
 {
     // for the contract alone: what the turns accepted is accepted, in order
     clerk.durable_prefix();
@@ -85,16 +81,16 @@ fn held_after<D: Device>(clerk: &Clerk<D>, account: u32, turns: usize) -> Option
     Some(balance)
 }
 
-// Whether an account held what was told of it.
-fn was_held<D: Device>(clerk: &Clerk<D>, told: &ToldBalance) -> bool
+/// Whether an account held what was told of it.
+pub(crate) fn was_held<D: Device>(clerk: &Clerk<D>, told: &ToldBalance) -> bool
     ensures { IsTrue result ↔ HeldThen clerk.now told.now }
 {
     told.turns <= clerk.history().len() as u64
         && held_after(clerk, told.account, told.turns as usize) == Some(told.amount)
 }
 
-// Whether what the clerk accepts of these entries is in flight.
-fn are_in_flight<D: Device>(clerk: &Clerk<D>, entries: &Batch) -> bool
+/// Whether what the clerk accepts of these entries is in flight.
+pub(crate) fn are_in_flight<D: Device>(clerk: &Clerk<D>, entries: &Batch) -> bool
     ensures { IsTrue result
         ↔ (clerk.now.in_flight ≡ Some (accepted clerk.now.ledger entries.now)) }
 {
@@ -104,19 +100,4 @@ fn are_in_flight<D: Device>(clerk: &Clerk<D>, entries: &Batch) -> bool
         Some(batch) => batch == accepted,
         None => false,
     }
-}
-
-/// Whether what a seat was told beside its turns is true of the clerk.
-pub(crate) fn was_told_truly<D: Device, L: Count>(clerk: &Clerk<D>, seat: &Seat<L>) -> bool
-    ensures { IsTrue result ↔ WasToldTruly clerk.now seat.now }
-{
-    let held = match seat.told() {
-        Some(told) => was_held(clerk, &told),
-        None => true,
-    };
-    let failed = match &seat.undecided {
-        Some(entries) => are_in_flight(clerk, entries),
-        None => true,
-    };
-    held && failed && (clerk.is_faulted() || !seat.was_faulted())
 }

@@ -1,13 +1,20 @@
 -- What a counter says and is told, message by message and response by response.
-use Rattle.std.specs.Prelude.{ℕ, Bool, true, false, List, [], ◌∷◌, filter, Option, Some, None}
+use Rattle.std.specs.Prelude.{◌≡◌, ◌+◌, ◌^◌, ◌<◌, ℕ, Bool, true, false, List, [], ◌∷◌, ◌++◌, map, filter, Option, Some, None, Result, Ok, Err}
 use Rattle.std.specs.List.{flat_map}
 use Rattle.turn_ledger.specs.declared.entry.Entry.{Entry}
 use Rattle.turn_ledger.specs.Entry.{reference_of}
-use Rattle.script_grammar.specs.declared.requests.Request.{Request}
 use Rattle.script_grammar.specs.declared.requests.Request.TheVariants as request
+use Rattle.turn_clerk.specs.declared.searching.Found.{Found}
+use Rattle.turn_clerk.specs.declared.searching.Found.TheVariants as found
+use Rattle.turn_clerk.specs.declared.refusals.FindRefusal.{FindRefusal}
+use Rattle.station_desk.specs.Messages.{entries_of, asks_of}
+use Rattle.station_desk.specs.Rings.{FeedState}
+use Rattle.station_desk.specs.declared.errand.Question.{Question}
+use Rattle.station_desk.specs.declared.errand.Question.TheVariants as question
 use Rattle.station_desk.specs.declared.messages.Answer.{Answer}
 use Rattle.station_desk.specs.declared.messages.Outcome.{Outcome}
 use Rattle.station_desk.specs.declared.messages.Outcome.TheVariants as outcome
+use Rattle.office_day.specs.declared.reconciled.StationDay.{StationDay}
 use Rattle.live_office.specs.declared.messages.Message.{Message}
 use Rattle.live_office.specs.declared.messages.Message.TheVariants.{Asked, Wrong, Ended}
 use Rattle.live_office.specs.declared.responses.Response.{Response}
@@ -33,6 +40,7 @@ is_answer (response.Balance account amount) = false
 is_answer (response.NoBalance refusal) = false
 is_answer (response.Unknown since) = false
 is_answer (response.NotFound refusal) = false
+is_answer response.Closed = false
 is_answer (response.Wrong wrong) = false
 is_answer response.Help = false
 is_answer response.Closing = false
@@ -59,3 +67,54 @@ postings_among messages = flat_map posting_of messages
 abbrev pub pending : Option Message → List Entry
 pending None = []
 pending (Some message) = posting_of message
+
+-- The response is one to that message, which posts nothing.
+abbrev pub IsResponseTo : Message → Response → Type 0
+IsResponseTo (Asked (request.Balance account)) (response.Balance named amount) = named ≡ account
+IsResponseTo (Asked (request.Balance account)) (response.NoBalance refusal) = Unit {0}
+IsResponseTo (Asked (request.Find reference)) (response.Found number named) = named ≡ reference
+IsResponseTo (Asked (request.Find reference)) (response.Unknown since) = Unit {0}
+IsResponseTo (Asked (request.Find reference)) (response.NotFound refusal) = Unit {0}
+IsResponseTo (Asked request.Help) response.Help = Unit {0}
+IsResponseTo (Asked request.Close) response.Closing = Unit {0}
+IsResponseTo (Wrong wrong) (response.Wrong told) = told ≡ wrong
+IsResponseTo _ _ = ⊥
+
+-- The question is the one that the message asks, whose search has come to that record.
+abbrev pub IsQuestionOf : Message → ℕ → Question → Type 0
+IsQuestionOf (Asked (request.Balance account)) from (question.Balance named) = named ≡ account
+IsQuestionOf (Asked (request.Find reference)) from (question.Find named first) = (named ≡ reference) × (first ≡ from)
+IsQuestionOf _ from _ = ⊥
+
+-- Where the next step of a search begins: behind the record that was found, and else where this step ended.
+abbrev pub MeetsAt : Found → ℕ → Type 0
+MeetsAt (found.Posted number) next = number + 1 < 2 ^ 64 → next ≡ number + 1
+MeetsAt (found.Further number) next = next ≡ number
+MeetsAt (found.Nowhere since) next = Unit {0}
+
+-- A search ends where nothing more is found, and where it failed.
+abbrev pub IsLast : Result Found FindRefusal → Type 0
+IsLast (Ok (found.Posted number)) = ⊥
+IsLast (Ok (found.Further number)) = ⊥
+IsLast (Ok (found.Nowhere since)) = Unit {0}
+IsLast (Err refusal) = Unit {0}
+
+-- A conversation at one moment: every message that was taken from the counter's reader, every response that was handed to
+-- its writer, each in order, and the entries that it asked to post and that nobody submitted.
+pub record ConversationState : Type 0 where
+  pub said : List Message
+  pub told : List Response
+  pub unheard : List Entry
+
+-- The conversation with a counter is over, whose requests went by this feed: of the responses those that tell of entries are
+-- the responses to the answers that were collected, in order, each once; and the entries that it asked to post are, in order,
+-- those that were submitted and those that weren't.
+pub record IsOver (feed : FeedState) (conversation : ConversationState) : Type 0 where
+  pub told : answers_among conversation.told ≡ map response_of feed.collected
+  pub said : postings_among conversation.said ≡ entries_of feed.asked ++ conversation.unheard
+
+-- The same of what became of its requests: those whose answers were collected, those whose answers weren't, and those without
+-- an answer.
+pub record IsHeard (conversation : ConversationState) (collected : List Answer) (day : StationDay) : Type 0 where
+  pub told : answers_among conversation.told ≡ map response_of collected
+  pub said : postings_among conversation.said ≡ entries_of (asks_of collected ++ asks_of day.answers.items ++ day.unanswered.items) ++ conversation.unheard

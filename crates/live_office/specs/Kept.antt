@@ -1,11 +1,15 @@
--- What an office leaves that wasn't kept open, or isn't told of.
-use Rattle.std.specs.Prelude.{◌≡◌, ℕ, List}
+-- What became of an office that was kept open for its counters, and what one leaves that wasn't, or isn't told of.
+use Rattle.std.specs.Prelude.{◌≡◌, ◌<◌, ℕ, List, length}
+use Rattle.std.specs.List.{slice_index_or}
 use Rattle.sector_device.specs.Device.{DeviceState}
-use Rattle.four_state.specs.Configuration.{Configuration}
+use Rattle.four_state.specs.Configuration.{Configuration, stations}
 use Rattle.line_lock.specs.Opening.{WasLeftByClerk}
 use Rattle.station_desk.specs.Rings.{FeedState, AreTogether}
+use Rattle.station_desk.specs.declared.messages.Answer.{Answer}
 use Rattle.office_day.specs.declared.seated.Left.{Left}
-use Rattle.office_day.specs.Spans.{AreSpans, Span, WasAbandoned}
+use Rattle.office_day.specs.declared.reconciled.StationDay.{StationDay}
+use Rattle.office_day.specs.Spans.{AreSpans, Span, WasKeptOpen, WasAbandoned}
+use Rattle.live_office.specs.Conversation.{ConversationState, IsHeard}
 use Rattle.live_office.specs.declared.counter.Unserved.{Unserved}
 use Rattle.live_office.specs.declared.counter.Unserved.TheVariants as unserved
 use Rattle.live_office.specs.declared.open_office.LiveRefusal.{LiveRefusal}
@@ -14,6 +18,15 @@ use Rattle.live_office.specs.declared.open_office.LiveRefusal.TheVariants.{Memor
 -- the feed stands at the rings of the desk that its station left
 abbrev pub stands_with : FeedState → Left → Type 0
 stands_with feed part = AreTogether feed part.desk
+
+-- An office was kept open on that device and that line, of whose spans this is the last, for counters with whom it had these
+-- conversations: each was told the answers that were collected for it, and what it asked for was heard.
+pub record WasKeptFor {D : Type 0} (state : D → DeviceState) (moves : ℕ) (device : D) (line : Configuration) (last : Span D) (days : List StationDay) (conversations : List ConversationState) : Type 0 where
+  pub collected : List (List Answer)
+  pub kept : WasKeptOpen state moves device line last collected days
+  pub as_many : length conversations ≡ stations line
+  pub heard : (i : ℕ) (conversation : ConversationState) (answers : List Answer) (day : StationDay) → i < stations line
+      → IsHeard (slice_index_or conversations i conversation) (slice_index_or collected i answers) (slice_index_or days i day)
 
 -- why an office isn't kept open, one of whose counters can't be served
 abbrev pub live_refusal : Unserved → LiveRefusal

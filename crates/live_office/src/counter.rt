@@ -2,6 +2,7 @@
 ghost use Rattle.std.specs.Prelude.{◌≡◌, [], IfOk};
 
 use crate::reader::Reader;
+use crate::recent::Recent;
 use crate::scheduler::Scheduler;
 use crate::session::{CAPACITY, Session};
 use crate::wakers::Wakers;
@@ -84,8 +85,16 @@ pub(crate) fn begin_session<
     start_reader(rt, reader, &wakers, scheduler)?;
     let writer = Writer::new(alloc, output, prompt, told)?;
     start_writer(rt, writer, &wakers, scheduler)?;
-    let closes_at_end = kind == Kind::Terminal;
-    Ok(Session::new(station, messages, responses, feed, wakers, closes_at_end))
+    let (recent, closes_at_end) = (Recent::new(alloc)?, kind == Kind::Terminal);
+    Ok(Session::new(
+        station,
+        messages,
+        responses,
+        feed,
+        wakers,
+        recent,
+        closes_at_end,
+    ))
 }
 
 // What wakes the threads of one counter.
@@ -102,7 +111,8 @@ pub(crate) fn empty_session(alloc: Global, station: u8, feed: Feed) -> Result<Se
     let (_, messages) = RingBuffer::new(alloc, 1)?;
     let (responses, _) = RingBuffer::new(alloc, CAPACITY)?;
     let wakers = new_wakers(alloc)?;
-    Ok(Session::new(station, messages, responses, feed, wakers, false))
+    let recent = Recent::new(alloc)?;
+    Ok(Session::new(station, messages, responses, feed, wakers, recent, false))
 }
 
 // Starts the thread that reads; nobody waits for its end.

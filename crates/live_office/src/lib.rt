@@ -10,12 +10,15 @@
 //! The test `a_counter_is_answered_in_order` in `src/counters.rt` of the crate `live_tests` is an example.
 #![tactic(auto)]
 
+mod conversation;
 mod counter;
 mod dispatcher;
+mod granted;
 mod messages;
 mod open_office;
 mod opening;
 mod reader;
+mod recent;
 mod responses;
 mod scheduler;
 mod search;
@@ -23,8 +26,10 @@ mod session;
 mod wakers;
 mod writer;
 
+pub use conversation::Conversation;
 pub use counter::{Counter, Kind};
-pub use messages::WrongLine;
+pub use granted::are_threads_granted;
+pub use messages::{Message, WrongLine};
 pub use open_office::{Closed, LiveRefusal, keep_open};
 pub use responses::Response;
-pub use session::Unheard;
+pub use turn_ledger::Entry;

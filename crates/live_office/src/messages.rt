@@ -4,7 +4,7 @@ use std::fmt;
 
 /// What a counter's reader hands on.
 #[derive(Clone, Copy, Debug, PartialEq, Eq)]
-pub(crate) enum Message {
+pub enum Message {
     /// A line that is a request.
     Asked(Request),
     /// A line that is none.

@@ -2,13 +2,15 @@
 ghost use Rattle.std.specs.Prelude.{◌≡◌, map, IfOk, IfErr};
 ghost use Rattle.std.specs.List.{AllZip};
 ghost use Rattle.office_day.specs.Day.{AreReconciled};
-ghost use Rattle.office_day.specs.Spans.{span_of, WasKeptOpen};
-ghost use Rattle.live_office.specs.Kept.{HandsBack, stands_with};
+ghost use Rattle.office_day.specs.Spans.{span_of};
+ghost use Rattle.live_office.specs.Conversation.{IsOver};
+ghost use Rattle.live_office.specs.Kept.{WasKeptFor, HandsBack, stands_with};
 
+use crate::conversation::Conversation;
 use crate::counter::{Counter, Unserved};
 use crate::opening::{Begun, begin};
 use crate::scheduler::Scheduler;
-use crate::session::{Session, Unheard};
+use crate::session::Session;
 use crate::wakers::Wakers;
 use office_day::{
     Adjourned, Audit, Clerk, Device, Feed, Left, Life, Line, OfficeRefusal, StationDay,
@@ -36,8 +38,8 @@ pub struct Closed<D: Device> {
     pub audit: Audit,
     /// What each station's client wasn't told yet, and how the station ended, station 0 first.
     pub stations: Vec<StationDay>,
-    /// What counters asked for, and what came too late to be submitted.
-    pub unheard: Vec<Unheard>,
+    /// What each station's client said and was told, and what came too late, station 0 first.
+    pub conversations: Vec<Conversation>,
     /// How many turns were taken in all.
     pub turns: u64,
     /// Whether stations ended since one of them never began, as where the system refuses a thread.
@@ -95,8 +97,8 @@ pub fn keep_open<
     counters: Vec<Counter<I, O>>,
     moves: u64,
 ) -> Result<Closed<D>, (D, LiveRefusal)>
-    ensures kept { IfOk result (λ closed. WasKeptOpen D.state moves device line
-        (span_of closed.clerk closed.audit) closed.stations.items) }
+    ensures kept { IfOk result (λ closed. WasKeptFor D.state moves device line
+        (span_of closed.clerk closed.audit) closed.stations.items closed.conversations.items) }
     ensures left { IfErr result (λ e. HandsBack D.state moves device line e.0 e.1) }
 {
     let begun = match begin(rt, alloc, line.stations(), counters) {
@@ -116,13 +118,16 @@ pub fn keep_open<
     };
     let life = run_spans(rt, alloc, office, &*scheduler, moves);
     scheduler.note_over();
-    let sessions = dispatcher.join(rt);
+    let ended = all_ended(rt, alloc, dispatcher.join(rt));
     await_writers(rt, wakers.as_slice());
     let life = match life {
         Ok(life) => life,
         Err((device, refusal)) => return Err((device, LiveRefusal::Office(refusal))),
     };
-    match settled(alloc, life, sessions, &scheduler) {
+    let Ok((feeds, conversations)) = ended else {
+        return Err((life.clerk.into_device(), LiveRefusal::Unsettled));
+    };
+    match settled(alloc, life, feeds, conversations, &scheduler) {
         Ok(closed) => Ok(closed),
         Err((device, refusal)) => Err((device, refusal)),
     }
@@ -131,7 +136,7 @@ pub fn keep_open<
 // Waits until the counters were told all, but not for ever: one that reads nothing holds up nobody.
 fn await_writers<C: Clock>(clock: &C, wakers: &[Arc<Wakers>]) {
     for _ in 0..LOOKS {
-        if wakers.iter().all(|one| one.is_all_written()) {
+        if wakers.iter().all(|one| one.unwritten() == 0) {
             return;
         }
         sleep(clock, Duration::from_millis(PAUSE));
@@ -142,24 +147,27 @@ fn await_writers<C: Clock>(clock: &C, wakers: &[Arc<Wakers>]) {
 fn settled<D: Device>(
     alloc: Global,
     life: Life<D>,
-    sessions: Vec<Session>,
+    feeds: Vec<Feed>,
+    conversations: Vec<Conversation>,
     scheduler: &Scheduler,
 ) -> Result<Closed<D>, (D, LiveRefusal)>
-    requires together { AllZip stands_with (map (λ session. session.feed) sessions.items) life.left.items }
+    requires together { AllZip stands_with feeds.items life.left.items }
     ensures clerk { IfOk result (λ closed. closed.clerk ≡ life.clerk) }
     ensures audit { IfOk result (λ closed. closed.audit ≡ life.audit) }
-    ensures stations { IfOk result (λ closed. AreReconciled
-        (map (λ session. session.feed) sessions.items) life.left.items closed.stations.items) }
+    ensures stations { IfOk result (λ closed.
+        AreReconciled feeds.items life.left.items closed.stations.items) }
+    ensures conversations { IfOk result (λ closed.
+        closed.conversations.items ≡ conversations.items) }
     ensures back { IfErr result (λ e. e.0 ≡ life.clerk.journal.device) }
     ensures unsettled { IfErr result (λ e. e.1 ≡ LiveRefusal.Unsettled) }
 {
     let Life { clerk, audit, left } = life;
-    match ended(alloc, sessions, left) {
-        Ok((stations, unheard)) => Ok(Closed {
+    match all_reconciled(alloc, feeds, left) {
+        Ok(stations) => Ok(Closed {
             clerk,
             audit,
             stations,
-            unheard,
+            conversations,
             turns: scheduler.turns(),
             is_abandoned: scheduler.is_abandoned(),
         }),
@@ -167,32 +175,23 @@ fn settled<D: Device>(
     }
 }
 
-// What became of the requests of all counters, and what was never submitted.
-fn ended(
+// The feeds of the sessions, and the conversations, which are over.
+fn all_ended<C: Clock>(
+    clock: &C,
     alloc: Global,
     sessions: Vec<Session>,
-    left: Vec<Left>,
-) -> Result<(Vec<StationDay>, Vec<Unheard>), AllocError>
-    requires together { AllZip stands_with (map (λ session. session.feed) sessions.items) left.items }
-    ensures { IfOk result (λ both. AreReconciled
-        (map (λ session. session.feed) sessions.items) left.items both.0.items) }
-{
-    let mut unheard = Vec::new(alloc);
-    let feeds = feeds_of(alloc, sessions, &mut unheard)?;
-    Ok((all_reconciled(alloc, feeds, left)?, unheard))
-}
-
-// The feeds of the sessions. What was never submitted is listed.
-fn feeds_of(
-    alloc: Global,
-    sessions: Vec<Session>,
-    unheard: &mut Vec<Unheard>,
-) -> Result<Vec<Feed>, AllocError>
-    ensures { IfOk result (λ feeds. feeds.items ≡ map (λ session. session.feed) sessions.items) }
+) -> Result<(Vec<Feed>, Vec<Conversation>), AllocError>
+    ensures feeds { IfOk result (λ both.
+        both.0.items ≡ map (λ session. session.feed) sessions.items) }
+    ensures over { IfOk result (λ both. AllZip IsOver
+        (map (λ session. session.feed) sessions.items) both.1.items) }
 {
     let mut feeds = Vec::with_capacity(alloc, sessions.len())?;
+    let mut conversations = Vec::with_capacity(alloc, sessions.len())?;
     for session in sessions {
-        feeds.push(session.end(unheard))?;
+        let (feed, conversation) = session.end(clock, alloc)?;
+        feeds.push(feed)?;
+        conversations.push(conversation)?;
     }
-    Ok(feeds)
+    Ok((feeds, conversations))
 }

@@ -10,11 +10,33 @@ use std::sync::Wait;
 /// How many bytes are read at once.
 const CHUNK: usize = 4_096;
 
+/// What the line that is read begins with.
+#[derive(Clone, Copy, PartialEq, Eq)]
+enum Beginning {
+    /// Nothing but blanks yet.
+    Blank,
+    Comment,
+    Word,
+}
+
+impl Beginning {
+    // With one byte more.
+    fn and(self, byte: u8) -> Beginning {
+        match (self, byte) {
+            (Beginning::Blank, b' ') => Beginning::Blank,
+            (Beginning::Blank, b'#') => Beginning::Comment,
+            (Beginning::Blank, _) => Beginning::Word,
+            (Beginning::Comment | Beginning::Word, _) => self,
+        }
+    }
+}
+
 /// What reads a counter.
 #[derive(Drop)]
 pub(crate) struct Reader<I: Read> {
     input: I,
     cutter: LineCutter,
+    beginning: Beginning,
     // How many lines have ended.
     lines: u64,
     messages: Producer<Message>,
@@ -26,16 +48,23 @@ impl<I: Read + Drop> Reader<I> {
         Reader {
             input,
             cutter,
+            beginning: Beginning::Blank,
             lines: 0,
             messages,
         }
     }
 
-    /// Hands on what each line says, until nothing comes any more.
+    /// Hands on what each line says, until nothing comes any more, or the office's life is over.
     pub(crate) fn read_all<R: Wait>(&mut self, rt: &R, wakers: &Wakers, scheduler: &Scheduler) {
         let mut chunk = [0; CHUNK];
         for _ in rt.forever() {
-            match self.input.read(&mut chunk) {
+            wakers.note_handed_on(true);
+            if scheduler.is_over() {
+                return;
+            }
+            let read = self.input.read(&mut chunk);
+            wakers.note_handed_on(false);
+            match read {
                 Ok(0) => break,
                 Ok(count) => self.take(rt, wakers, scheduler, &chunk[..count]),
                 Err(error) if error.kind() == ErrorKind::Interrupted => {}
@@ -45,6 +74,7 @@ impl<I: Read + Drop> Reader<I> {
         let cut = self.cutter.end();
         self.take_cut(rt, wakers, scheduler, cut);
         self.hand_on(rt, wakers, scheduler, Message::Ended);
+        wakers.note_handed_on(true);
     }
 
     // Takes bytes that were read.
@@ -52,6 +82,10 @@ impl<I: Read + Drop> Reader<I> {
         for byte in bytes {
             let cut = self.cutter.push(*byte);
             self.take_cut(rt, wakers, scheduler, cut);
+            self.beginning = match cut {
+                Cut::Nothing => self.beginning.and(*byte),
+                Cut::Line | Cut::TooLong => Beginning::Blank,
+            };
         }
     }
 
@@ -69,7 +103,8 @@ impl<I: Read + Drop> Reader<I> {
         }
         self.lines = self.lines.saturating_add(1);
         if cut == Cut::TooLong {
-            return Some(Message::Wrong(WrongLine::TooLong));
+            let is_comment = self.beginning == Beginning::Comment;
+            return (!is_comment).then_some(Message::Wrong(WrongLine::TooLong));
         }
         match read_request(self.cutter.line(), self.lines) {
             Ok(request) => request.map(Message::Asked),

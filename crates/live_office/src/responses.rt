@@ -1,5 +1,6 @@
 //! What counters are told.
 ghost use Rattle.std.specs.Prelude.{◌≡◌};
+ghost use Rattle.live_office.specs.Conversation.{is_answer};
 
 use crate::messages::WrongLine;
 use line_lock::{BalanceRefusal, FindRefusal};
@@ -14,6 +15,7 @@ transfer A B M [R]    M units from account A to account B
 seal A [R]            account A keeps what it holds for good, and no later entry may name it
 balance A             what account A holds, after all that was asked here before
 find R                under which numbers entries of reference R were posted
+help                  these requests
 close                 the office closes
 Accounts have numbers from 1 to 1024. R is the entry's reference, and without it the line's number.";
 
@@ -52,12 +54,26 @@ pub enum Response {
     },
     /// Why a reference wasn't looked for to the end.
     NotFound(FindRefusal),
+    /// The office closed before the question was answered.
+    Closed,
     /// The line is no request.
     Wrong(WrongLine),
     /// The requests that there are.
     Help,
     /// The office closes.
     Closing,
+}
+
+impl Response {
+    /// Whether it tells of an entry that was submitted.
+    pub fn is_answer(&self) -> bool
+        ensures { result ≡ is_answer self.now }
+    {
+        matches!(
+            self,
+            Response::Posted { .. } | Response::Refused { .. } | Response::Undecided { .. }
+        )
+    }
 }
 
 impl From<Answer> for Response {
@@ -90,6 +106,7 @@ impl fmt::Display for Response {
             Response::NoBalance(refusal) => write!(f, "refused {refusal:?}"),
             Response::Unknown { since } => write!(f, "unknown since {since}"),
             Response::NotFound(refusal) => write!(f, "refused {refusal:?}"),
+            Response::Closed => f.write_str("refused Closed"),
             Response::Wrong(wrong) => write!(f, "wrong {wrong}"),
             Response::Help => f.write_str(HELP),
             Response::Closing => f.write_str("closing"),

@@ -11,7 +11,7 @@ use std::thread::Parker;
 use std::time::Duration;
 
 /// How often a station looks whether all others have begun, before it gives up.
-const PATIENCE: u64 = 1_000;
+const PATIENCE: u64 = 200;
 
 /// How many milliseconds it waits between two looks.
 const PAUSE: u64 = 5;
@@ -195,7 +195,7 @@ impl Scheduler {
             self.wake_all();
         }
         for _ in 0..PATIENCE {
-            if self.begun.load(Ordering::SeqCst) >= self.posts.len() as u64 {
+            if self.begun.load(Ordering::SeqCst) >= self.posts.len() as u64 || self.is_abandoned() {
                 return;
             }
             post.parker.park_timeout(rt, Duration::from_millis(PAUSE));

@@ -1,6 +1,8 @@
 //! A search for a reference, step by step.
-ghost use Rattle.std.specs.Prelude.{◌≡◌, false, IfSome};
-ghost use Rattle.live_office.specs.Conversation.{is_answer};
+ghost use Rattle.std.specs.Prelude.{◌≡◌, ◌↔◌, ℕ, true, false, IsTrue, IfOk, IfSome, Ok, Err, Some};
+ghost use Rattle.script_grammar.specs.declared.requests.Request.TheVariants.{Find};
+ghost use Rattle.live_office.specs.declared.messages.Message.TheVariants.{Asked};
+ghost use Rattle.live_office.specs.Conversation.{is_answer, IsResponseTo, MeetsAt, IsLast};
 
 use crate::responses::Response;
 use line_lock::{FindRefusal, Found};
@@ -32,7 +34,9 @@ impl Search {
     };
 
     /// What is asked next.
-    pub(crate) fn question(&self, reference: u64) -> Question {
+    pub(crate) fn question(&self, reference: u64) -> Question
+        ensures { result ≡ Question.Find reference self.now.from }
+    {
         Question::Find {
             reference,
             from: self.from,
@@ -41,7 +45,14 @@ impl Search {
 
     /// Goes on by what was found.
     pub(crate) fn go_on(&mut self, reference: u64, found: Result<Found, FindRefusal>) -> Step
-        ensures { IfSome result.response (λ response. is_answer response ≡ false) }
+        ensures other { IfSome result.response (λ response. is_answer response ≡ false) }
+        ensures right { IfSome result.response (IsResponseTo (Asked (Find reference))) }
+        ensures meets { IfOk found (λ step. MeetsAt step self.new.from) }
+        ensures posted { (number : ℕ) → found ≡ Ok (Found.Posted number)
+            → (result.response ≡ Some (Response.Found number reference)) × (self.new.has_found ≡ true) }
+        ensures unknown { (since : ℕ) → found ≡ Ok (Found.Nowhere since) → self.old.has_found ≡ false
+            → result.response ≡ Some (Response.Unknown since) }
+        ensures last { IsTrue result.is_last ↔ IsLast found }
     {
         match found {
             Ok(Found::Posted(number)) => {
@@ -72,7 +83,9 @@ impl Search {
 
     // What is told where nothing more is found.
     fn unknown(&self, since: u64) -> Option<Response>
-        ensures { IfSome result (λ response. is_answer response ≡ false) }
+        ensures other { IfSome result (λ response. is_answer response ≡ false) }
+        ensures right { (reference : ℕ) → IfSome result (IsResponseTo (Asked (Find reference))) }
+        ensures unknown { self.now.has_found ≡ false → result ≡ Some (Response.Unknown since) }
     {
         if self.has_found {
             return None;

@@ -1,13 +1,15 @@
 //! What the dispatcher does for one counter.
-ghost use Rattle.std.specs.Prelude.{◌≡◌, ◌≤◌, ◌<◌, false, [], ◌++◌, map, IsTrue, IfSome, Some, None};
+ghost use Rattle.std.specs.Prelude.{◌≡◌, ◌≤◌, ◌<◌, false, [], ◌++◌, map, IsTrue, IfOk, IfSome, Some, None};
 ghost use Rattle.rtrb.specs.Ring.{known_free, sent, received};
-ghost use Rattle.script_grammar.specs.declared.requests.Request.TheVariants.{Post};
+ghost use Rattle.script_grammar.specs.declared.requests.Request.TheVariants.{Post, Balance, Find};
 ghost use Rattle.station_desk.specs.Messages.{entries_of};
 ghost use Rattle.station_desk.specs.Rings.{StandsAt};
 ghost use Rattle.live_office.specs.declared.messages.Message.TheVariants.{Asked};
-ghost use Rattle.live_office.specs.Conversation.{response_of, is_answer, answers_among, postings_among, pending};
+ghost use Rattle.live_office.specs.Conversation.{response_of, is_answer, answers_among, postings_among, pending, IsQuestionOf, IsResponseTo, IsOver};
 
+use crate::conversation::{Conversation, list};
 use crate::messages::Message;
+use crate::recent::Recent;
 use crate::responses::Response;
 use crate::scheduler::Scheduler;
 use crate::search::{Search, Step};
@@ -15,8 +17,9 @@ use crate::wakers::Wakers;
 use rtrb::{Consumer, Producer};
 use script_grammar::Request;
 use station_desk::{Feed, Question, Report};
-use std::alloc::AllocError;
+use std::alloc::{AllocError, Global};
 use std::sync::{Arc, Wait};
+use std::time::Clock;
 use turn_ledger::Entry;
 
 /// How many messages and responses lie at most between the dispatcher and one counter, each way.
@@ -42,18 +45,12 @@ pub(crate) struct Session {
     search: Search,
     // How many requests are submitted, and not answered.
     unanswered: usize,
+    recent: Recent,
+    // Whether the counter was told that the office closes.
+    is_told_closing: bool,
     ghost kept_places: { unanswered ≤ known_free responses },
     ghost said: { postings_among (received messages) ≡ entries_of feed.asked ++ pending next },
     ghost told: { answers_among (sent responses) ≡ map response_of feed.collected },
-}
-
-/// An entry that a counter asked for, and that came too late to be submitted.
-#[derive(Clone, Copy, Debug, PartialEq, Eq)]
-pub struct Unheard {
-    /// The number of the counter's station.
-    pub station: u8,
-    /// The entry's reference.
-    pub reference: u64,
 }
 
 impl Session {
@@ -64,6 +61,7 @@ impl Session {
         responses: Producer<Response>,
         feed: Feed,
         wakers: Arc<Wakers>,
+        recent: Recent,
         closes_at_end: bool,
     ) -> Session
         requires nothing_said { received messages ≡ [] }
@@ -83,6 +81,8 @@ impl Session {
             is_asked: false,
             search: Search::BEGINNING,
             unanswered: 0,
+            recent,
+            is_told_closing: false,
         }
     }
 
@@ -111,7 +111,9 @@ impl Session {
                 return;
             };
             self.unanswered -= 1;
-            self.responses.push_reserved(Response::from(answer));
+            let response = Response::from(answer);
+            self.responses.push_reserved(response);
+            self.recent.note(response);
             self.wakers.note_given();
         }
     }
@@ -183,9 +185,10 @@ impl Session {
         }
     }
 
-    // Answers a request that posts nothing; false if it isn't answered yet.
+    // Answers a request that posts nothing, behind all that was asked before it; false if it isn't answered yet.
     fn answer_request<R: Wait>(&mut self, rt: &R, scheduler: &Scheduler, request: Request) -> bool
         requires place { self.old.unanswered < known_free self.old.responses }
+        requires behind { self.old.unanswered ≡ 0 }
         requires next { self.old.next ≡ Some (Asked request) }
         ensures feed { StandsAt self.old.feed self.new.feed }
         ensures handled { IsTrue result → pending self.new.next ≡ [] }
@@ -197,6 +200,7 @@ impl Session {
             Request::Help => self.respond(Response::Help),
             Request::Close => {
                 scheduler.close();
+                self.is_told_closing = true;
                 self.respond(Response::Closing)
             }
         }
@@ -218,25 +222,30 @@ impl Session {
         true
     }
 
-    // Tells the counter something else than an answer, for which there is a place.
+    // Tells the counter something else than an answer: a response to the message that is handled, for which there is a place.
     fn respond(&mut self, response: Response) -> bool
         requires place { self.old.unanswered < known_free self.old.responses }
         requires other { is_answer response ≡ false }
+        requires right { IfSome self.old.next (λ message. IsResponseTo message response) }
         ensures feed { self.new.feed ≡ self.old.feed }
         ensures next { self.new.next ≡ self.old.next }
+        ensures unanswered { self.new.unanswered ≡ self.old.unanswered }
     {
         self.responses.push_reserved(response);
+        self.recent.note(response);
         self.wakers.note_given();
         true
     }
 
-    // What the station reports on a question, which is put to it once.
+    // What the station reports on a question, which is put to it once, behind all that was asked before.
     fn report<R: Wait>(
         &mut self,
         rt: &R,
         scheduler: &Scheduler,
         question: Question,
     ) -> Option<Report>
+        requires behind { self.old.unanswered ≡ 0 }
+        requires right { IfSome self.old.next (λ message. IsQuestionOf message self.old.search.from question) }
         ensures feed { self.new.feed ≡ self.old.feed }
         ensures next { self.new.next ≡ self.old.next }
         ensures room { self.new.responses ≡ self.old.responses }
@@ -254,7 +263,9 @@ impl Session {
 
     // Tells what an account holds; false if that isn't known yet.
     fn tell_balance<R: Wait>(&mut self, rt: &R, scheduler: &Scheduler, account: u32) -> bool
-        requires { self.old.unanswered < known_free self.old.responses }
+        requires place { self.old.unanswered < known_free self.old.responses }
+        requires behind { self.old.unanswered ≡ 0 }
+        requires next { self.old.next ≡ Some (Asked (Balance account)) }
         ensures feed { self.new.feed ≡ self.old.feed }
         ensures next { self.new.next ≡ self.old.next }
     {
@@ -269,7 +280,9 @@ impl Session {
 
     // Tells under which numbers a reference was posted, one after another; false until the last is told.
     fn tell_found<R: Wait>(&mut self, rt: &R, scheduler: &Scheduler, reference: u64) -> bool
-        requires { self.old.unanswered < known_free self.old.responses }
+        requires place { self.old.unanswered < known_free self.old.responses }
+        requires behind { self.old.unanswered ≡ 0 }
+        requires next { self.old.next ≡ Some (Asked (Find reference)) }
         ensures feed { self.new.feed ≡ self.old.feed }
         ensures next { self.new.next ≡ self.old.next }
     {
@@ -292,42 +305,57 @@ impl Session {
     fn tell_step(&mut self, step: Step)
         requires place { self.old.unanswered < known_free self.old.responses }
         requires other { IfSome step.response (λ response. is_answer response ≡ false) }
+        requires right { IfSome self.old.next (λ message.
+            IfSome step.response (IsResponseTo message)) }
         ensures feed { self.new.feed ≡ self.old.feed }
         ensures next { self.new.next ≡ self.old.next }
+        ensures unanswered { self.new.unanswered ≡ self.old.unanswered }
     {
         if let Some(response) = step.response {
             self.respond(response);
         }
     }
 
-    /// Lists the entries that the counter asked for and nobody submitted, as far as there is memory, and gives back the feed.
-    pub(crate) fn end(self, unheard: &mut Vec<Unheard>) -> Feed
-        ensures { result ≡ self.feed }
+    /// Ends the conversation: what the counter asks to post by now is listed, other questions are refused, and it is told that
+    /// the office closes.
+    ///
+    /// # Errors
+    /// Out of memory.
+    pub(crate) fn end<C: Clock>(
+        self,
+        clock: &C,
+        alloc: Global,
+    ) -> Result<(Feed, Conversation), AllocError>
+        ensures feed { IfOk result (λ both. both.0 ≡ self.feed) }
+        ensures over { IfOk result (λ both. IsOver both.0 both.1) }
     {
         let Session {
-            station,
             next,
-            mut messages,
+            messages,
+            responses,
             feed,
+            wakers,
+            recent,
+            is_told_closing,
             ..
         } = self;
-        if let Some(message) = next {
-            list(station, &message, unheard);
+        let mut unheard = Vec::new(alloc);
+        if let Some(message) = &next {
+            list(message, &mut unheard)?;
         }
-        for _ in 0..CAPACITY {
-            let Ok(message) = messages.pop() else {
-                break;
-            };
-            list(station, &message, unheard);
+        let mut conversation = Conversation::new(
+            messages,
+            responses,
+            unheard,
+            recent,
+            wakers,
+            is_told_closing,
+        );
+        if let Some(message) = &next {
+            conversation.refuse(message);
         }
-        feed
-    }
-}
-
-// Lists the entry that a message asks to post, if it does, as far as there is memory.
-fn list(station: u8, message: &Message, unheard: &mut Vec<Unheard>) {
-    if let Message::Asked(Request::Post(entry)) = message {
-        let reference = entry.reference();
-        let _ = unheard.push(Unheard { station, reference });
+        conversation.take_late(clock)?;
+        conversation.tell_closing();
+        Ok((feed, conversation))
     }
 }

@@ -2,7 +2,7 @@
 use live_office::{Counter, Kind, keep_open};
 use office_day::End;
 use std::io;
-use std::io::{PipeReader, Read};
+use std::io::{ErrorKind, PipeReader, Read};
 use std::test::Fail;
 use test_scenes::{formatted, line};
 
@@ -16,6 +16,26 @@ fn are_told(answers: &mut PipeReader, wanted: &[u8]) -> io::Result<bool> {
         }
     }
     Ok(true)
+}
+
+/// What a counter says, a few bytes at a time, each read interrupted once.
+#[derive(Drop)]
+struct InPieces {
+    rest: &'static [u8],
+    is_interrupted: bool,
+}
+
+impl Read for InPieces {
+    fn read(&mut self, buf: &mut [u8]) -> io::Result<usize> {
+        self.is_interrupted = !self.is_interrupted;
+        if self.is_interrupted {
+            return Err(io::Error::from(ErrorKind::Interrupted));
+        }
+        let count = self.rest.len().min(buf.len()).min(7);
+        buf[..count].copy_from_slice(&self.rest[..count]);
+        self.rest = &self.rest[count..];
+        Ok(count)
+    }
 }
 
 const REQUESTS: &[u8] = b"\
@@ -69,7 +89,10 @@ fn a_counter_is_answered_in_order(rt: HostRuntime) -> Result<(), Fail> {
     for (line, moves) in offices {
         let (mut answers, output) = io::pipe(&rt)?;
         let counter = Counter {
-            input: REQUESTS,
+            input: InPieces {
+                rest: REQUESTS,
+                is_interrupted: false,
+            },
             output,
             kind: Kind::Pipes,
         };

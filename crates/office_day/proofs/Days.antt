@@ -10,7 +10,7 @@ use Rattle.turn_ledger.specs.declared.entry.Entry.{Entry}
 use Rattle.four_state.specs.Configuration.{Configuration}
 use Rattle.turn_clerk.specs.declared.turns.Turn.{Turn}
 use Rattle.line_lock.specs.Seat.{SeatState, new_seat}
-use Rattle.line_lock.specs.Account.{turns_of, IsBorneOut, WasToldTruly}
+use Rattle.line_lock.specs.Account.{turns_of, IsBorneOut}
 use Rattle.line_lock.specs.Lent.{new_seats}
 use Rattle.station_desk.specs.declared.messages.Answer.{Answer}
 use Rattle.station_desk.specs.declared.end.End.TheVariants.{NotStarted}
@@ -39,15 +39,14 @@ pub record Parts : Type 0 where
   pub days : List StationDay
 
 -- How a day went in an office that was opened on that device with that line, and has this clerk: what each station holds is
--- handed in, it runs from a new seat and a fresh desk, nobody sends it home, the clerk bears out what its seat then holds and
--- was told, and its requests are reconciled.
+-- handed in, it runs from a new seat and a fresh desk, nobody sends it home, the clerk bears out what its seat then holds, and
+-- its requests are reconciled.
 pub record Went {D : Type 0} (device : DeviceState) (from : Configuration) (clerk : ClerkState D) (moves : ℕ) (parts : Parts) : Type 0 where
   pub handed : AllZip HasHandedIn parts.held parts.feeds
   pub together : AllZip AreTogether parts.feeds parts.desks
   pub fresh : All IsFresh parts.desks
   pub served : HaveServed device from (new_seats (length parts.held)) parts.desks parts.after parts.left moves ⊥
-  pub borne_out : All (IsBorneOut clerk.opening.line clerk.history) parts.after
-  pub told : All (WasToldTruly clerk) parts.after
+  pub borne_out : All (IsBorneOut clerk) parts.after
   pub reconciled : AreReconciled parts.feeds parts.left parts.days
 
 -- how many seats an opening hands out
@@ -71,8 +70,7 @@ record One {D : Type 0} (device : DeviceState) (from : Configuration) (clerk : C
   handed : HasHandedIn entries feed
   fresh : IsFresh before
   ran : HasRun device from seat after before left.desk left.end moves ⊥
-  out : IsBorneOut clerk.opening.line clerk.history after
-  truly : WasToldTruly clerk after
+  out : IsBorneOut clerk after
   done : IsReconciled feed left day
 
 had_day : {D : Type 0} {device : DeviceState} {from : Configuration} {clerk : ClerkState D} {moves i : ℕ} (one : One device from clerk moves i)
@@ -99,7 +97,7 @@ had_day {clerk = clerk} {moves = moves} {i = i} one =
       };
       within = subst (All (λ turn. turn.index < moves)) turns worked.within;
       ended = subst (λ (end : End). HasEnded clerk moves i ⊥ end worked.given_up) (sym one.done.end)
-          (has_ended clerk i one.seat one.after one.before one.left.desk one.left.end one.sat one.ran one.out one.truly);
+          (has_ended clerk i one.seat one.after one.before one.left.desk one.left.end one.sat one.ran one.out);
     }
 
 pub had_their_day : {D : Type 0} {device : DeviceState} {from : Configuration} {clerk : ClerkState D} {moves : ℕ} {parts : Parts}
@@ -133,7 +131,6 @@ had_their_day {parts = parts} went =
             fresh = went.fresh i desk in_desks;
             ran = went.served.each i seat desk part in_seats;
             out = went.borne_out i seat in_after;
-            truly = went.told i seat in_after;
             done = went.reconciled.each i feed part day in_feeds;
           });
     }

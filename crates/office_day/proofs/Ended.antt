@@ -7,7 +7,7 @@ use Rattle.turn_ledger.specs.Screen.{accepted}
 use Rattle.four_state.specs.Configuration.{Configuration}
 use Rattle.turn_clerk.specs.Clerk.{ClerkState}
 use Rattle.line_lock.specs.Seat.{SeatState, new_seat}
-use Rattle.line_lock.specs.Account.{IsBorneOut, WasToldTruly}
+use Rattle.line_lock.specs.Account.{IsBorneOut}
 use Rattle.station_desk.specs.declared.messages.Ask.{Ask}
 use Rattle.station_desk.specs.declared.end.End.{End}
 use Rattle.station_desk.specs.Messages.{entries_of}
@@ -21,15 +21,15 @@ there_is P Q (Some n) _ holds = (n, holds)
 there_is P Q None x holds = elim x [ ]
 
 pub has_ended : {D : Type 0} (clerk : ClerkState D) {device : DeviceState} {from : Configuration} {moves : ℕ} {closes : Type 0} (station : ℕ) (old new : SeatState) (before after : DeskState) (end : End)
-    → old ≡ new_seat station → (ran : HasRun device from old new before after end moves closes) → IsBorneOut clerk.opening.line clerk.history new → WasToldTruly clerk new
+    → old ≡ new_seat station → (ran : HasRun device from old new before after end moves closes) → IsBorneOut clerk new
     → HasEnded clerk moves station closes end ran.worked.given_up
-has_ended clerk station old new before after end sat ran out truly =
+has_ended clerk station old new before after end sat ran out =
     let sits : new.station ≡ station = ran.worked.station ∙ ap (λ (s : SeatState). s.station) sat in
     record {
       reached = λ is. omega (arith, ran.reached is, out.reached);
       tries = λ is. subst (WasOnceDenied clerk.opening.line clerk.history) sits (there_is _ _ new.denied (ran.tries is) out.denied);
       undecided = λ is.
-          subst (λ (asked : Option (List Entry)). IfSome asked (λ entries. clerk.in_flight ≡ Some (accepted clerk.ledger entries))) (ran.worked.asked is) truly.undecided;
+          subst (λ (asked : Option (List Entry)). IfSome asked (λ entries. clerk.in_flight ≡ Some (accepted clerk.ledger entries))) (ran.worked.asked is) out.undecided;
       none_else = ran.worked.undecided;
       not_denied = ran.not_denied;
       there = ran.there;

@@ -11,7 +11,7 @@ use Rattle.turn_clerk.specs.declared.turns.Turn.{Turn}
 use Rattle.turn_clerk.specs.Clerk.{ClerkState, KeepsHistory, opening_state}
 use Rattle.sweep_auditor.specs.declared.moves.Audit.{Audit}
 use Rattle.turn_clerk.specs.declared.refusals.TurnRefusal.TheVariants.{Device}
-use Rattle.line_lock.specs.Account.{turns_of, IsBorneOut, WasToldTruly}
+use Rattle.line_lock.specs.Account.{turns_of, IsBorneOut}
 use Rattle.line_lock.specs.Lent.{new_seats}
 use Rattle.line_lock.specs.Seat.{SeatState, new_seat}
 use Rattle.station_desk.specs.declared.messages.Ask.{Ask}
@@ -38,9 +38,9 @@ use Rattle.office_day.proofs.Lists.{first, AllZip-at, AllZip-each}
 use Rattle.office_day.proofs.Pairing.{stands_with}
 use Rattle.office_day.proofs.Limits.{IsBelow, all_below, short}
 
--- In an office whose clerk bears out what its seats hold and were told, a station's own turns are those of the history.
+-- In an office whose clerk bears out what its seats hold, a station's own turns are those of the history.
 module _ {device : DeviceState} {from : Configuration} {moves : ℕ} {closes : Type 0} (count : ℕ) {D : Type 0} (clerk : ClerkState D) {desks : List DeskState} {after : List SeatState} {left : List Left}
-    (served : HaveServed device from (new_seats count) desks after left moves closes) (out : All (IsBorneOut clerk.opening.line clerk.history) after) (told : All (WasToldTruly clerk) after) where
+    (served : HaveServed device from (new_seats count) desks after left moves closes) (out : All (IsBorneOut clerk) after) where
   in_seats : (i : ℕ) → i < count → i < length (new_seats count)
   in_seats i low = subst (λ n. i < n) (sym (length-new_seats count)) low
 
@@ -82,7 +82,7 @@ module _ {device : DeviceState} {from : Configuration} {moves : ℕ} {closes : T
         given_up = did.given_up;
         served = subst (λ (l : List Turn). HasServed (slice_index_or desks i desk) (slice_index_or left i part).desk l did.given_up) turns did.served;
         ended = has_ended clerk i (slice_index_or (new_seats count) i seat) (slice_index_or after i seat) (slice_index_or desks i desk) (slice_index_or left i part).desk (slice_index_or left i part).end
-            (new_seat_at count i seat low) (served.each i seat desk part (in_seats i low)) (out i seat (in_after i low)) (told i seat (in_after i low));
+            (new_seat_at count i seat low) (served.each i seat desk part (in_seats i low)) (out i seat (in_after i low));
       }
 
 -- the turns of one more span
@@ -172,12 +172,11 @@ module _ {D : Type 0} (state : D → DeviceState) (moves : ℕ) where
 
 -- what a station's client was told, from what its feed and its desk have in the end
 was_served : {D : Type 0} (moves : ℕ) (closes : Type 0) (station : ℕ) (earlier : List (Span D)) (last : Span D) (before : DeskState) (feed : FeedState) (part : Left) (day : StationDay) → IsFresh before
-    → LeftAfter moves closes station earlier last before part → IsReconciled feed part day → WasServed moves station earlier last day
+    → LeftAfter moves closes station earlier last before part → IsReconciled feed part day → WasServed moves station earlier last feed.collected day
 was_served moves closes station earlier last before feed part day fresh left done =
     let served = left.served in
     let more : feed.collected ++ day.answers.items ≡ served.more = sym done.given ∙ served.given ∙ ap (λ (l : List Answer). l ++ served.more) fresh in
     record {
-      collected = feed.collected;
       given_up = left.given_up;
       tickets = subst (AreNumberedFrom 0) done.asked done.tickets;
       answered = ap (λ (l : List Answer). entries_of (asks_of l)) more ∙ served.entries;
@@ -189,7 +188,7 @@ was_served moves closes station earlier last before feed part day fresh left don
 module _ {D : Type 0} (state : D → DeviceState) (moves : ℕ) where
   pub kept_open : (closes : Type 0) (device : D) (line : Configuration) (desks : List DeskState) (last : Span D) (left : List Left) (feeds : List FeedState) (days : List StationDay)
       → HasLived state moves closes (adjourned_to device line desks) last left → All IsFresh desks → length desks ≡ stations line → length feeds ≡ stations line
-      → AreReconciled feeds left days → WasKeptOpen state moves device line last days
+      → AreReconciled feeds left days → WasKeptOpen state moves device line last (map (λ (feed : FeedState). feed.collected) feeds) days
   kept_open closes device line desks last left feeds days lived fresh many fed done = record {
     earlier = lived.earlier.spans;
     between = lived.before.device;
@@ -198,14 +197,17 @@ module _ {D : Type 0} (state : D → DeviceState) (moves : ℕ) where
     closed = lived.closed;
     served = record {
       as_many = done.as_many ∙ fed;
-      each = λ i day low.
+      collected_as_many = length-map feeds (λ (feed : FeedState). feed.collected) ∙ fed;
+      each = λ i answers day low.
           let in_desks : i < length desks = subst (λ n. i < n) (sym many) low in
           let in_feeds : i < length feeds = subst (λ n. i < n) (sym fed) low in
           let desk = first desks (omega (arith, in_desks)) in
           let feed = first feeds (omega (arith, in_feeds)) in
           let part : Left = record { desk = desk; end = NotStarted } in
-          was_served moves closes i lived.earlier.spans last (slice_index_or desks i desk) (slice_index_or feeds i feed) (slice_index_or left i part) (slice_index_or days i day)
-          (fresh i desk in_desks) (lived.left.each i desk part in_desks) (done.each i feed part day in_feeds);
+          subst (λ (collected : List Answer). WasServed moves i lived.earlier.spans last collected (slice_index_or days i day))
+          (sym (get_or-map (λ (feed : FeedState). feed.collected) feeds i feed answers in_feeds))
+          (was_served moves closes i lived.earlier.spans last (slice_index_or desks i desk) (slice_index_or feeds i feed) (slice_index_or left i part) (slice_index_or days i day)
+          (fresh i desk in_desks) (lived.left.each i desk part in_desks) (done.each i feed part day in_feeds));
     };
   }
 

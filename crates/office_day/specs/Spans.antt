@@ -98,31 +98,32 @@ pub record WasBrokenOff {D F : Type 0} (state : D → DeviceState) (moves : ℕ)
   pub left : UnlessOpening refusal (WasLeftByClerk state (state before.device) before.line after)
 
 -- What became of all that a station's client asked of an office that was open for these spans and a last one: each request
--- stands, in order and under its ticket, in an answer that was collected, in one that wasn't, or is unanswered; the answers
--- are, in order, what became of the entries of the station's turns, and then Undecided for requests that were given up; and
--- so the station ended, which a client may send home.
-pub record WasServed {D : Type 0} (moves station : ℕ) (earlier : List (Span D)) (last : Span D) (day : StationDay) : Type 0 where
-  pub collected : List Answer
+-- stands, in order and under its ticket, in one of the answers that it collected, in one that it didn't, or is unanswered; the
+-- answers are, in order, what became of the entries of the station's turns, and then Undecided for requests that were given
+-- up; and so the station ended, which a client may send home.
+pub record WasServed {D : Type 0} (moves station : ℕ) (earlier : List (Span D)) (last : Span D) (collected : List Answer) (day : StationDay) : Type 0 where
   pub given_up : List Ask
   pub tickets : AreNumberedFrom 0 (asks_of collected ++ asks_of day.answers.items ++ day.unanswered.items)
   pub answered : entries_of (asks_of (collected ++ day.answers.items)) ≡ entries_of_turns (turns_in station (earlier ++ last ∷ [])) ++ entries_of given_up
   pub outcomes : outcomes_in (collected ++ day.answers.items) ≡ outcomes_of_turns (turns_in station (earlier ++ last ∷ [])) ++ undecided given_up
   pub ended : HasEnded last.clerk moves station (Unit {0}) day.end given_up
 
--- Each of so many stations was served so.
-pub record HaveBeenServed {D : Type 0} (count moves : ℕ) (earlier : List (Span D)) (last : Span D) (days : List StationDay) : Type 0 where
+-- The client of each of so many stations was served so.
+pub record HaveBeenServed {D : Type 0} (count moves : ℕ) (earlier : List (Span D)) (last : Span D) (collected : List (List Answer)) (days : List StationDay) : Type 0 where
   pub as_many : length days ≡ count
-  pub each : (i : ℕ) (day : StationDay) → i < count → WasServed moves i earlier last (slice_index_or days i day)
+  pub collected_as_many : length collected ≡ count
+  pub each : (i : ℕ) (answers : List Answer) (day : StationDay) → i < count
+      → WasServed moves i earlier last (slice_index_or collected i answers) (slice_index_or days i day)
 
 -- An office was kept open on that device and that line for some spans in a row, of which this is the last one, and its
--- clients were served so.
-pub record WasKeptOpen {D : Type 0} (state : D → DeviceState) (moves : ℕ) (device : D) (line : Configuration) (last : Span D) (days : List StationDay) : Type 0 where
+-- clients, who collected these answers, were served so.
+pub record WasKeptOpen {D : Type 0} (state : D → DeviceState) (moves : ℕ) (device : D) (line : Configuration) (last : Span D) (collected : List (List Answer)) (days : List StationDay) : Type 0 where
   pub earlier : List (Span D)
   pub between : D
   pub stood : Configuration
   pub joined : AreSpans state moves device line earlier between stood
   pub closed : IsSpan state moves (state between) stood last
-  pub served : HaveBeenServed (stations line) moves earlier last days
+  pub served : HaveBeenServed (stations line) moves earlier last collected days
 
 -- The device comes from an office that was kept open on that one with that line, and isn't told of: behind some spans the
 -- next wasn't opened, and the device is as that left it, or a clerk took turns on it.

@@ -21,7 +21,7 @@ a line on PATH/in, and reads an answer a line on PATH/out, in the order of its r
   close                 the office closes
 Accounts have numbers from 1 to 1024. R is the entry's reference, a number, and without it the line's number.
 Answers are 'posted N R', where N is the number of the batch, 'refused REASON R', 'undecided R', 'balance A M', 'refused
-NoAccount', 'unknown since N' and 'wrong TEXT'. What was answered as posted outlives a power failure.
+NoAccount', 'unknown since N', 'wrong TEXT' and 'closing'. What was answered as posted outlives a power failure.
 ";
 
 /// The most sectors of a device: what a journal of a million slots needs, and some.

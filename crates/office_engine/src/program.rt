@@ -10,7 +10,7 @@ use crate::telling::{DONE, FAULT, WRONG_WORDS, tell, tell_no_memory, tell_words}
 use four_state::Line;
 use journal_recovery::{Recovered, recover};
 use ledger_file::{FileDevice, Formatting, format_ledger, open_ledger};
-use live_office::{Closed, Counter, Kind, keep_open};
+use live_office::{Closed, Conversation, Counter, Entry, Kind, are_threads_granted, keep_open};
 use office_day::{End, StationDay};
 use script_streams::{Output, StreamFault};
 use sector_device::Device;
@@ -109,6 +109,9 @@ fn run_office<
     let counters = open_counters(rt, alloc, options, terminal)?;
     let mut output = Output::new(alloc, writer)?;
     let device = open_device(rt, alloc, options, plan.formatting, &mut output)?;
+    if !are_threads_granted(rt, alloc, plan.stations as u8, counters.len() as u8)? {
+        return Err(OfficeFault::Threads);
+    }
     let (device, line) = tell_opened(alloc, options.device, device, plan.stations, &mut output)?;
     match keep_open(rt, alloc, device, line, counters, SPAN) {
         Ok(closed) => tell_closed(closed, &mut output),
@@ -243,8 +246,9 @@ fn tell_closed<'a, D: Device + Drop, W: Write>(
     for (station, day) in closed.stations.iter().enumerate() {
         tell_unanswered(station, day, output)?;
     }
-    for late in &closed.unheard {
-        output.line(format_args!("unanswered {} {}", late.station, late.reference))?;
+    for (station, conversation) in closed.conversations.iter().enumerate() {
+        tell_unheard(station, conversation.unheard(), output)?;
+        tell_untold(station, conversation, output)?;
     }
     output.flush()?;
     if closed.is_abandoned {
@@ -262,6 +266,33 @@ fn tell_unanswered<W: Write>(
     for ask in &day.unanswered {
         let reference = ask.entry.reference();
         output.line(format_args!("unanswered {station} {reference}"))?;
+    }
+    Ok(())
+}
+
+// Tells of the entries that a station's client asked to post too late.
+fn tell_unheard<W: Write>(
+    station: usize,
+    entries: &[Entry],
+    output: &mut Output<'_, W>,
+) -> Result<(), StreamFault> {
+    for entry in entries {
+        let reference = entry.reference();
+        output.line(format_args!("unanswered {station} {reference}"))?;
+    }
+    Ok(())
+}
+
+// Tells of the answers to entries that a station's client didn't read.
+fn tell_untold<W: Write>(
+    station: usize,
+    conversation: &Conversation,
+    output: &mut Output<'_, W>,
+) -> Result<(), StreamFault> {
+    for response in conversation.untold() {
+        if response.is_answer() {
+            output.line(format_args!("untold {station} {response}"))?;
+        }
     }
     Ok(())
 }

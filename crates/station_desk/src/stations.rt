@@ -161,7 +161,8 @@ fn run_station<D: Device, L: Count + Opening, G: Gate, R: Wait>(
     moves: u64,
     tries: u64,
 )
-    ensures { HasRun L.device L.line station.old.seat station.new.seat station.old.desk station.new.desk station.new.end moves (G.closes gate.now) }
+    ensures { HasRun L.device L.line station.old.seat station.new.seat
+        station.old.desk station.new.desk station.new.end moves (G.closes gate.now) }
 {
     let Station { seat, desk, end } = station;
     *end = work(rt, office, seat, desk, gate, stop, moves, tries);

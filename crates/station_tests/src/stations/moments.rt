@@ -1,10 +1,12 @@
 //! What a station does when, as a gate sees it.
 use super::runs::{PartRun, desks, played};
-use station_desk::{End, Feed, Gate, desk};
-use std::sync::Mutex;
+use station_desk::{End, Feed, Gate, Turn, desk};
+use std::alloc::Global;
+use std::process::Abort;
 use std::sync::atomic::{AtomicU64, Ordering};
+use std::sync::{Mutex, Wait};
 use std::test::Fail;
-use std::thread::yield_now;
+use std::thread::{Threads, yield_now};
 use test_scenes::{deposit, line};
 
 // Waits until there are so many, however long other threads take.
@@ -18,10 +20,11 @@ fn wait_for(count: &AtomicU64, many: u64) {
 }
 
 // Stands at the feed of a station: submits one more deposit each time that the station has gathered, and counts the
-// answers that it finds then and when the station has answered.
+// answers that it finds then and when it is told of a turn, or else when the station has answered.
 #[derive(Drop)]
 struct AtTheFeed {
     feed: Mutex<Feed>,
+    looks_at_the_turn: bool,
     before: AtomicU64,
     after: AtomicU64,
 }
@@ -34,7 +37,21 @@ impl Gate for AtTheFeed {
         }
     }
 
+    fn took(&self, _turn: &Turn) {
+        if self.looks_at_the_turn {
+            self.look();
+        }
+    }
+
     fn answered(&self, _station: u8) {
+        if !self.looks_at_the_turn {
+            self.look();
+        }
+    }
+}
+
+impl AtTheFeed {
+    fn look(&self) {
         if let Some(mut feed) = self.feed.try_lock() {
             count_answers(&mut *feed, &self.after);
         }
@@ -49,16 +66,18 @@ fn count_answers(feed: &mut Feed, count: &AtomicU64) {
     }
 }
 
-#[test]
-fn answers_are_there_when_a_gate_hears_of_them_and_what_comes_after_gathering_waits(
-    rt: HostRuntime,
+// One turn of the bottom station with two deposits, beside such a gate.
+fn one_turn<R: Abort + Threads + Wait + Sync>(
+    rt: &R,
+    alloc: Global,
+    looks_at_the_turn: bool,
 ) -> Result<(), Fail> {
-    let alloc = rt.alloc();
     let (mut feed, desk) = desk(alloc, 4)?;
     assert!(rt; feed.submit(deposit(1, 5)) == Ok(0));
     assert!(rt; feed.submit(deposit(1, 6)) == Ok(1));
     let gate = AtTheFeed {
         feed: Mutex::new(feed),
+        looks_at_the_turn,
         before: AtomicU64::new(0),
         after: AtomicU64::new(0),
     };
@@ -71,7 +90,7 @@ fn answers_are_there_when_a_gate_hears_of_them_and_what_comes_after_gathering_wa
         moves: 1,
         tries: 0,
     };
-    let left = played(&rt, alloc, line([0, 0], [1, 0])?, run)?;
+    let left = played(rt, alloc, line([0, 0], [1, 0])?, run)?;
 
     let bottom = left.get(0).ok_or("the bottom station")?;
     assert!(rt; (bottom.end, bottom.turns.len()) == (End::Reached, 1));
@@ -80,6 +99,14 @@ fn answers_are_there_when_a_gate_hears_of_them_and_what_comes_after_gathering_wa
     assert!(rt; gate.before.load(Ordering::SeqCst) == 0);
     assert!(rt; gate.after.load(Ordering::SeqCst) == 2);
     Ok(())
+}
+
+#[test]
+fn answers_are_there_when_a_gate_hears_of_them_and_what_comes_after_gathering_waits(
+    rt: HostRuntime,
+) -> Result<(), Fail> {
+    one_turn(&rt, rt.alloc(), true)?;
+    one_turn(&rt, rt.alloc(), false)
 }
 
 // How often station 1 of three has gathered when station 0 takes its first turn, its second one, and asks for a third.

@@ -4,7 +4,7 @@ use Rattle.std.proofs.lemmas.List.Elements.{All-more}
 use Rattle.four_state.specs.Configuration.{IsConfiguration, stations}
 use Rattle.sweep_auditor.specs.RunLaws.{stations-after}
 use Rattle.turn_clerk.specs.History.{moves_of}
-use Rattle.line_lock.specs.Account.{IsBorneOut, WasToldTruly, IsSeatMissing}
+use Rattle.line_lock.specs.Account.{IsBorneOut, IsSeatMissing}
 use Rattle.line_lock.proofs.Counting.{all_there, hold_all}
 use Rattle.line_lock.proofs.OneEach.{one_each}
 use Rattle.line_lock.proofs.closing.look_at.Goals as goal
@@ -12,14 +12,9 @@ use Rattle.line_lock.proofs.closing.look_at.Goals as goal
 pub loop-seat-preserved : goal.loop-seat-preserved
 loop-seat-preserved g c =
     let clerk = c.args.clerk.now in
-    let seat = c.seat-item.result in
-    let out : IsBorneOut clerk.opening.line clerk.history seat = c.is_borne_out.ensures.0 c.if-not-is_borne_out.false in
-    let told : WasToldTruly clerk seat = c.was_told_truly.ensures.0 c.if-not-was_told_truly.false in (
-      All-more (IsBorneOut clerk.opening.line clerk.history) c.args.seats.now c.loop-seat.seat-index seat c.loop-seat-test.true c.loop-seat.invariant.0
-          (subst (IsBorneOut clerk.opening.line clerk.history) c.seat-item.is out),
-      All-more (WasToldTruly clerk) c.args.seats.now c.loop-seat.seat-index seat c.loop-seat-test.true c.loop-seat.invariant.1
-          (subst (WasToldTruly clerk) c.seat-item.is told),
-    )
+    let out : IsBorneOut clerk c.seat-item.result = c.is_borne_out.ensures.0 c.if-not-is_borne_out.false in
+    All-more (IsBorneOut clerk) c.args.seats.now c.loop-seat.seat-index c.seat-item.result c.loop-seat-test.true c.loop-seat.invariant
+    (subst (IsBorneOut clerk) c.seat-item.is out)
 
 pub returns-clause-one_each : goal.returns-clause-one_each
 returns-clause-one_each g c =
@@ -35,12 +30,7 @@ returns-clause-one_each g c =
 pub returns-clause-borne_out : goal.returns-clause-borne_out
 returns-clause-borne_out g c =
     let seats = c.args.seats.now in
-    subst (All (IsBorneOut c.args.clerk.now.opening.line c.args.clerk.now.history)) (take_all c.loop-seat.seat-index seats c.loop-seat-test.false) c.loop-seat.invariant.0
-
-pub returns-clause-told : goal.returns-clause-told
-returns-clause-told g c =
-    let seats = c.args.seats.now in
-    subst (All (WasToldTruly c.args.clerk.now)) (take_all c.loop-seat.seat-index seats c.loop-seat-test.false) c.loop-seat.invariant.1
+    subst (All (IsBorneOut c.args.clerk.now)) (take_all c.loop-seat.seat-index seats c.loop-seat-test.false) c.loop-seat.invariant
 
 pub returns-clause-there : goal.returns-clause-there
 returns-clause-there g c =
@@ -54,5 +44,5 @@ returns-clause-there g c =
 pub returns-clause-counted : goal.returns-clause-counted
 returns-clause-counted g c =
     let clerk = c.args.clerk.now in
-    hold_all g.L.Ledger.parts clerk.opening.line clerk.history c.args.seats.now (returns-clause-there g c)
+    hold_all g.L.Ledger.parts clerk c.args.seats.now (returns-clause-there g c)
     (returns-clause-one_each g c) (returns-clause-borne_out g c)

@@ -17,7 +17,6 @@ returns-in-Ok-close-clause-worked g c =
       subst (λ (count : ℕ). AccountFor count seats clerk) c.requires.named.one_each (record {
         one_seat = closing.one_seat;
         borne_out = closing.borne_out;
-        told = closing.told;
         counted = closing.counted;
         there = closing.there;
         failed = closing.failed;

@@ -1,9 +1,12 @@
-use Rattle.std.proofs.Common.{◌≡◌, ◌∙◌, List, length, map, sym, subst}
+use Rattle.std.proofs.Common.{◌≡◌, ◌∙◌, List, length, map, sym, ap, subst}
+use Rattle.std.specs.List.{AllZip}
 use Rattle.std.proofs.lemmas.Slice.Zip.{AllZip-long}
 use Rattle.station_desk.specs.Rings.{FeedState, AreTogether}
 use Rattle.office_day.specs.Spans.{adjourned_to, span_of, Span, HasLived}
 use Rattle.office_day.proofs.SpanLaws.{kept_open, left_together}
-use Rattle.live_office.specs.Kept.{HandsBack}
+use Rattle.live_office.specs.Kept.{HandsBack, stands_with}
+use Rattle.live_office.specs.Conversation.{ConversationState, IsOver}
+use Rattle.live_office.proofs.Heard.{kept_for, left_open}
 use Rattle.live_office.specs.declared.session.Session.{Session}
 use Rattle.live_office.proofs.open_office.keep_open.Goals as goal
 
@@ -16,8 +19,9 @@ settled-requires g c =
     let lived = c.in-Ok-life.ensures.lived in
     let life = c.in-Ok-life.life in
     record {
-      together = left_together _ _ (feeds c.in-Ok.begun.dispatcher.promise.0.value.items) (feeds c.join-sessions.result.items) c.in-Ok.begun.desks.items life.left.items
-          c.in-Ok.ensures.together c.join-sessions.ensures lived.left;
+      together = subst (λ (l : List FeedState). AllZip stands_with l life.left.items) (sym c.in-Ok-ended.ensures.feeds)
+          (left_together _ _ (feeds c.in-Ok.begun.dispatcher.promise.0.value.items) (feeds c.join.result.items) c.in-Ok.begun.desks.items life.left.items
+          c.in-Ok.ensures.together c.join.ensures lived.left);
     }
 
 pub returns-in-Ok-settled-clause-kept : goal.returns-in-Ok-settled-clause-kept
@@ -28,29 +32,31 @@ returns-in-Ok-settled-clause-kept g c =
     let told = c.in-Ok-settled.ensures in
     let begun = c.in-Ok.begun in
     let old = feeds begun.dispatcher.promise.0.value.items in
-    let new = feeds c.join-sessions.result.items in
+    let new = c.in-Ok-ended.feeds.items in
+    let are : new ≡ feeds c.join.result.items = c.in-Ok-ended.ensures.feeds in
     let last : span_of life.clerk life.audit ≡ span_of closed.clerk closed.audit = λ i. span_of (sym told.clerk i) (sym told.audit i) in
     let many = c.in-Ok.ensures.as_many ∙ c.stations.ensures.count in
-    let fed : length new ≡ length begun.desks.items = c.join-sessions.ensures.as_many ∙ sym (AllZip-long AreTogether old begun.desks.items c.in-Ok.ensures.together) in
-    kept_open g.D.Device.state c.args.moves (Unit {0}) c.args.device c.args.line begun.desks.items (span_of closed.clerk closed.audit) life.left.items new closed.stations.items
+    let fed : length new ≡ length begun.desks.items =
+    ap length are ∙ c.join.ensures.as_many ∙ sym (AllZip-long AreTogether old begun.desks.items c.in-Ok.ensures.together) in
+    let over : AllZip IsOver new closed.conversations.items =
+    subst (λ (l : List ConversationState). AllZip IsOver new l) (sym told.conversations)
+    (subst (λ (l : List FeedState). AllZip IsOver l c.in-Ok-ended.conversations.items) (sym are) c.in-Ok-ended.ensures.over) in
+    let kept = kept_open g.D.Device.state c.args.moves (Unit {0}) c.args.device c.args.line begun.desks.items (span_of closed.clerk closed.audit) life.left.items new closed.stations.items
     (subst (λ (span : Span _). HasLived g.D.Device.state c.args.moves (Unit {0}) (adjourned_to c.args.device c.args.line begun.desks.items) span life.left.items) last lived)
-    c.in-Ok.ensures.fresh many (fed ∙ many) told.stations
+    c.in-Ok.ensures.fresh many (fed ∙ many) told.stations in
+    kept_for g.D.Device.state c.args.moves c.args.device c.args.line (span_of closed.clerk closed.audit) begun.desks.items life.left.items new closed.stations.items closed.conversations.items
+    kept many (fed ∙ many) over told.stations
+
+pub returns-in_default-clause-left : goal.returns-in_default-clause-left
+returns-in_default-clause-left g c =
+    let life = c.in-Ok-life.life in
+    left_open g.D.Device.state c.args.moves (Unit {0}) c.args.device c.args.line c.in-Ok.begun.desks.items (span_of life.clerk life.audit) life.left.items c.into_device.result
+    c.in-Ok-life.ensures.lived (sym c.into_device.ensures)
 
 pub returns-clause-left : goal.returns-clause-left
 returns-clause-left g c =
-    let lived = c.in-Ok-life.ensures.lived in
-    let closed = lived.closed.closed in
+    let life = c.in-Ok-life.life in
     let told = c.in-Err-settled.ensures in
-    subst (HandsBack g.D.Device.state c.args.moves c.args.device c.args.line c.in-Err-settled.device) (sym told.unsettled) (record {
-      earlier = lived.earlier.spans;
-      between = lived.before.device;
-      stood = lived.before.line;
-      joined = lived.earlier.joined;
-      left = record {
-        clerk = c.in-Ok-life.life.clerk;
-        has = sym told.back;
-        opened = closed.opened;
-        legal = closed.legal;
-        acknowledged = λ honest. closed.acknowledged (closed.opened.stays_honest honest);
-      };
-    })
+    subst (HandsBack g.D.Device.state c.args.moves c.args.device c.args.line c.in-Err-settled.device) (sym told.unsettled)
+    (left_open g.D.Device.state c.args.moves (Unit {0}) c.args.device c.args.line c.in-Ok.begun.desks.items (span_of life.clerk life.audit) life.left.items c.in-Err-settled.device
+    c.in-Ok-life.ensures.lived (sym told.back))

@@ -9,7 +9,7 @@ returns-clause-closed g c =
     let ran = c.in_ok-run.ensures.ran in
     record {
       closed = c.in_ok-run.ensures.closed;
-      within = is-span (stations c.args.office.line) c.in_ok-run.run'.0.clerk ran.1 ran.2.borne_out ran.2.told ran.2.there c.in_ok-run.ensures.closed.legal;
+      within = is-span (stations c.args.office.line) c.in_ok-run.run'.0.clerk ran.1 ran.2.borne_out ran.2.there c.in_ok-run.ensures.closed.legal;
     }
 
 pub returns-clause-left : goal.returns-clause-left
@@ -20,5 +20,5 @@ returns-clause-left g c =
     record {
       as_many = ran.1.left_as_many ∙ many ∙ sym c.requires.as_many;
       each = λ i desk part low.
-          own_served count c.in_ok-run.run'.0.clerk ran.1 ran.2.borne_out ran.2.told c.in_ok-run.run'.0.audit i desk part (subst (λ n. i < n) c.requires.as_many low);
+          own_served count c.in_ok-run.run'.0.clerk ran.1 ran.2.borne_out c.in_ok-run.run'.0.audit i desk part (subst (λ n. i < n) c.requires.as_many low);
     }

@@ -1,0 +1,9 @@
+use Rattle.std.specs.Prelude.{◌≡◌, map}
+use Rattle.std.specs.List.{AllZip}
+use Rattle.live_office.specs.declared.session.Session.{Session}
+use Rattle.live_office.specs.Conversation.{IsOver}
+use Rattle.live_office.proofs.open_office.all_ended.Given as goal
+
+-- the feeds of the sessions so far, and their conversations
+abbrev pub invariant-loop-session : goal.invariant-loop-session
+invariant-loop-session g l = (l.feeds.items ≡ map (λ (session : Session). session.feed) l.yielded) × AllZip IsOver (map (λ (session : Session). session.feed) l.yielded) l.conversations.items

@@ -1,0 +1,166 @@
+//! What was said at a counter, and what it was told.
+ghost use Rattle.std.specs.Prelude.{◌≡◌, false, ◌++◌, OnOk};
+ghost use Rattle.station_desk.specs.Rings.{FeedState};
+ghost use Rattle.live_office.specs.Conversation.{posting_of, is_answer, IsOver};
+
+use crate::messages::Message;
+use crate::recent::Recent;
+use crate::responses::Response;
+use crate::session::CAPACITY;
+use crate::wakers::Wakers;
+use rtrb::{Consumer, Producer};
+use script_grammar::Request;
+use std::alloc::AllocError;
+use std::collections::vec_deque;
+use std::iter::Skip;
+use std::marker::Model;
+use std::sync::Arc;
+use std::thread::sleep;
+use std::time::{Clock, Duration};
+use turn_ledger::Entry;
+
+/// How often it is looked whether a counter's reader has handed on all that it has read, and how many milliseconds lie
+/// between two looks.
+const LOOKS: u64 = 400;
+
+const PAUSE: u64 = 5;
+
+/// What was said at a counter of an office that closes, and what it was told. Contracts see both, by the ends of the rings
+/// whose other ends the counter's threads have; a program sees what came too late, and what the counter wasn't told.
+#[derive(Drop)]
+pub struct Conversation {
+    messages: Consumer<Message>,
+    responses: Producer<Response>,
+    unheard: Vec<Entry>,
+    recent: Recent,
+    wakers: Arc<Wakers>,
+    // Whether the counter was told that the office closes, behind which it is told nothing.
+    is_told_closing: bool,
+}
+
+impl Model for Conversation {
+    ghost use Rattle.rtrb.specs.Ring.{sent, received};
+    ghost use Rattle.live_office.specs.Conversation.{ConversationState};
+
+    ghost Value = { ConversationState };
+
+    ghost view = { λ c. record {
+      said = received c.messages;
+      told = sent c.responses;
+      unheard = c.unheard.items;
+    } };
+}
+
+impl Conversation {
+    ghost use Rattle.rtrb.specs.Ring.{sent, received};
+
+    /// With these ends of the rings, and these entries that nobody submitted.
+    pub(crate) fn new(
+        messages: Consumer<Message>,
+        responses: Producer<Response>,
+        unheard: Vec<Entry>,
+        recent: Recent,
+        wakers: Arc<Wakers>,
+        is_told_closing: bool,
+    ) -> Conversation
+        ensures { result ≡ record {
+          said = received messages;
+          told = sent responses;
+          unheard = unheard.items;
+        } }
+    {
+        Conversation {
+            messages,
+            responses,
+            unheard,
+            recent,
+            wakers,
+            is_told_closing,
+        }
+    }
+
+    /// Takes what the counter's reader still hands on, until that is all that it has read; but not for ever.
+    pub(crate) fn take_late<C: Clock>(&mut self, clock: &C) -> Result<(), AllocError>
+        ensures { OnOk result ((feed : FeedState) → IsOver feed self.old → IsOver feed self.new) }
+    {
+        for _ in 0..LOOKS {
+            let is_last = self.wakers.has_handed_on();
+            self.take_waiting()?;
+            if is_last {
+                break;
+            }
+            self.wakers.reader.unpark();
+            sleep(clock, Duration::from_millis(PAUSE));
+        }
+        Ok(())
+    }
+
+    // Takes what the reader has handed on.
+    fn take_waiting(&mut self) -> Result<(), AllocError>
+        ensures { OnOk result ((feed : FeedState) → IsOver feed self.old → IsOver feed self.new) }
+    {
+        for _ in 0..CAPACITY {
+            let Ok(message) = self.messages.pop() else {
+                break;
+            };
+            list(&message, &mut self.unheard)?;
+            self.refuse(&message);
+        }
+        Ok(())
+    }
+
+    /// Answers a question that comes too late.
+    pub(crate) fn refuse(&mut self, message: &Message)
+        ensures { (feed : FeedState) → IsOver feed self.old → IsOver feed self.new }
+    {
+        match message {
+            Message::Asked(Request::Balance { .. } | Request::Find { .. }) => {
+                self.tell(Response::Closed)
+            }
+            Message::Asked(Request::Help) => self.tell(Response::Help),
+            Message::Wrong(wrong) => self.tell(Response::Wrong(*wrong)),
+            Message::Asked(Request::Post(_) | Request::Close) | Message::Ended => {}
+        }
+    }
+
+    /// Tells the counter that the office closes.
+    pub(crate) fn tell_closing(&mut self)
+        ensures { (feed : FeedState) → IsOver feed self.old → IsOver feed self.new }
+    {
+        self.tell(Response::Closing);
+        self.is_told_closing = true;
+    }
+
+    // Tells the counter something else than an answer, if there is a place for it.
+    fn tell(&mut self, response: Response)
+        requires other { is_answer response ≡ false }
+        ensures { (feed : FeedState) → IsOver feed self.old → IsOver feed self.new }
+    {
+        if !self.is_told_closing && self.responses.push(response).is_ok() {
+            self.recent.note(response);
+            self.wakers.note_given();
+        }
+    }
+
+    /// The entries that the counter asked to post, and that came too late to be submitted, in order.
+    pub fn unheard(&self) -> &[Entry]
+        ensures { result.now ≡ self.now.unheard }
+    {
+        self.unheard.as_slice()
+    }
+
+    /// The last of its responses, in order, that aren't written by now, or of which that isn't known: its client reads nothing.
+    pub fn untold(&self) -> Skip<vec_deque::Iter<'_, Response>> {
+        self.recent.last(self.wakers.unwritten())
+    }
+}
+
+/// Lists the entry that a message asks to post, if it does.
+pub(crate) fn list(message: &Message, unheard: &mut Vec<Entry>) -> Result<(), AllocError>
+    ensures { OnOk result (unheard.new.items ≡ unheard.old.items ++ posting_of message.now) }
+{
+    if let Message::Asked(Request::Post(entry)) = message {
+        unheard.push(*entry)?;
+    }
+    Ok(())
+}
