@@ -125,7 +125,8 @@ damaged slots "its number of slots is out of range, or it is too short for them 
 damaged empty "it holds no ledger"
 status=0
 "$tool" map tail > drawn 2> told || status=$?
-[ "$status" -eq 1 ] && grep -q '</svg>' drawn && grep -q '^tail: a slot is open' told \
+[ "$status" -eq 1 ] && grep -q '</svg>' drawn && grep -q '<rect class="damaged" .*<title>' drawn \
+    && grep -q '>damage: .*of the file<' drawn && grep -q '^tail: a slot is open' told \
     || { echo "map of a damaged file: ends with status $status"; exit 1; }
 echo "map of a damaged file: as it must be"
 

@@ -37,4 +37,4 @@ pub use refusals::Refusal;
 pub use script_grammar::LineFault;
 pub use script_streams::StreamFault;
 pub use sector_device::{Device, MemoryDevice};
-pub use settings::{Options, Plan, Upgrade, WrongWords};
+pub use settings::{Options, Plan, Target, Upgrade, WrongWords};

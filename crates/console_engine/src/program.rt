@@ -10,7 +10,7 @@ use crate::command_line::{not_text, options};
 use crate::engine::run_script;
 use crate::faults::{ProgramFault, ScriptFault};
 use crate::migration::migrate_onto;
-use crate::settings::{Options, Plan, Upgrade, WrongWords};
+use crate::settings::{Plan, Target, Upgrade, WrongWords};
 use clap::Error;
 use clap::error::ErrorKind;
 use file_device::FileDevice;
@@ -57,18 +57,17 @@ pub fn run_program<F: Files<File = File> + Threads + Wait + Sync, R: Read, W: Wr
         Ok(plan) => plan,
         Err(wrong) => return tell_wrong_words(alloc, wrong, errors),
     };
-    match run_plan(rt, alloc, plan, options, reader, writer) {
+    match run_plan(rt, alloc, plan, reader, writer) {
         Ok(()) => DONE,
         Err(fault) => tell(alloc, fault, errors),
     }
 }
 
-// Runs the script on what the plan of these options says.
+// Runs the script on what the plan says.
 fn run_plan<'a, F: Files<File = File> + Threads + Wait + Sync, R: Read, W: Write>(
     rt: &F,
     alloc: Global,
     plan: Plan<'a>,
-    options: Options<'a>,
     reader: &mut R,
     writer: &mut W,
 ) -> Result<(), ProgramFault<'a>>
@@ -77,16 +76,16 @@ fn run_plan<'a, F: Files<File = File> + Threads + Wait + Sync, R: Read, W: Write
         first_fault 1 (lines bytes) ≡ None)) }
 {
     match plan {
-        Plan::Memory => {
-            let device = MemoryDevice::new(alloc, options.sectors).map_err(ScriptFault::from)?;
+        Plan::Memory(sectors) => {
+            let device = MemoryDevice::new(alloc, sectors).map_err(ScriptFault::from)?;
             run_script(rt, alloc, reader, writer, device)?;
         }
-        Plan::File(path) => {
-            let device = open_device(rt, alloc, path, options)?;
+        Plan::File(target) => {
+            let device = open_device(rt, alloc, target)?;
             run_script(rt, alloc, reader, writer, device)?;
         }
         Plan::Upgraded(upgrade) => {
-            let device = upgraded(rt, alloc, upgrade, options)?;
+            let device = upgraded(rt, alloc, upgrade)?;
             write_migrated(alloc, upgrade.slots, writer)?;
             run_script(rt, alloc, reader, writer, device)?;
         }
@@ -99,7 +98,6 @@ fn upgraded<'a, F: Files<File = File>>(
     rt: &F,
     alloc: Global,
     upgrade: Upgrade<'a>,
-    options: Options<'a>,
 ) -> Result<FileDevice, ProgramFault<'a>>
     requires { 1 ≤ upgrade.slots }
 {
@@ -107,23 +105,27 @@ fn upgraded<'a, F: Files<File = File>>(
         Ok(old) => old,
         Err(refusal) => return Err(ProgramFault::of_device(upgrade.old, refusal)),
     };
-    let device = open_device(rt, alloc, upgrade.path, options)?;
+    let device = open_device(rt, alloc, upgrade.onto)?;
     let (device, migrated) = migrate_onto(alloc, old, device, upgrade.slots);
     migrated?;
     Ok(device)
 }
 
-// The file or the disk at this path, as the options ask for it.
+// The device, opened as is asked for.
 fn open_device<'a, F: Files<File = File>>(
     rt: &F,
     alloc: Global,
-    path: &'a str,
-    options: Options<'_>,
+    target: Target<'a>,
 ) -> Result<FileDevice, ProgramFault<'a>> {
-    let opened = if options.overwrite {
-        FileDevice::overwrite(rt, alloc, path, options.sectors)
+    let Target {
+        path,
+        sectors,
+        overwrite,
+    } = target;
+    let opened = if overwrite {
+        FileDevice::overwrite(rt, alloc, path, sectors)
     } else {
-        open_for_script(rt, alloc, path, options.sectors)
+        open_for_script(rt, alloc, path, sectors)
     };
     match opened {
         Ok(device) => Ok(device),

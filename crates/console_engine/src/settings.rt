@@ -36,13 +36,24 @@ pub enum WrongWords {
     OverwriteAlone,
 }
 
+/// The file or the disk that is the device, and how it is opened.
+#[derive(Clone, Copy, Debug)]
+pub struct Target<'a> {
+    /// Its path.
+    pub path: &'a str,
+    /// How many sectors it has at least.
+    pub sectors: u64,
+    /// Whether it is a disk that is taken whatever it holds.
+    pub overwrite: bool,
+}
+
 /// A file of an older layout that is copied onto another one, and the slots that each bank of that gets.
 #[derive(Clone, Copy, Debug)]
 pub struct Upgrade<'a> {
     /// The path of the file of an older layout.
     pub old: &'a str,
-    /// The path of the file that it is copied onto.
-    pub path: &'a str,
+    /// The device that it is copied onto.
+    pub onto: Target<'a>,
     /// 1 to 1,000,000.
     pub slots: u64,
 }
@@ -50,11 +61,11 @@ pub struct Upgrade<'a> {
 /// On what the script runs.
 #[derive(Clone, Copy, Debug)]
 pub enum Plan<'a> {
-    /// A device in memory.
-    Memory,
-    /// The file at this path.
-    File(&'a str),
-    /// The file that an older one was copied onto first.
+    /// A device in memory, of so many sectors.
+    Memory(u64),
+    /// A file or a disk.
+    File(Target<'a>),
+    /// The device that an older one was copied onto first.
     Upgraded(Upgrade<'a>),
 }
 
@@ -78,15 +89,32 @@ impl<'a> Options<'a> {
     {
         let upgrade = match (self.migrate, self.device, self.slots) {
             (None, None, None) if self.overwrite => return Err(WrongWords::OverwriteAlone),
-            (None, None, None) => return Ok(Plan::Memory),
-            (None, Some(path), None) => return Ok(Plan::File(path)),
+            (None, None, None) => return Ok(Plan::Memory(self.sectors)),
+            (None, Some(path), None) => return Ok(Plan::File(self.target(path))),
             (None, _, Some(_)) => return Err(WrongWords::SlotsAlone),
-            (Some(old), Some(path), Some(slots)) => Upgrade { old, path, slots },
+            (Some(old), Some(path), Some(slots)) => Upgrade {
+                old,
+                onto: self.target(path),
+                slots,
+            },
             (Some(_), _, _) => return Err(WrongWords::MigrateAlone),
         };
-        if upgrade.old == upgrade.path {
+        if upgrade.old == upgrade.onto.path {
             return Err(WrongWords::OnePath);
         }
         Ok(Plan::Upgraded(upgrade))
+    }
+
+    // The device at this path, opened as the options say.
+    fn target(&self, path: &'a str) -> Target<'a>
+        ensures path { result.path ≡ path.entry }
+        ensures sectors { result.sectors ≡ self.now.sectors }
+        ensures overwrite { result.overwrite ≡ self.now.overwrite }
+    {
+        Target {
+            path,
+            sectors: self.sectors,
+            overwrite: self.overwrite,
+        }
     }
 }

@@ -1,7 +1,8 @@
 //! What a device is drawn as: its parts in order, and the kind of each sector.
-ghost use Rattle.std.specs.Prelude.{IsErr};
+ghost use Rattle.std.specs.Prelude.{◌≡◌, ◌≢◌, ◌↔◌, IsErr, IsTrue, IfOk};
 ghost use Rattle.sector_device.specs.Device.{AreCalls};
 ghost use Rattle.sector_device.specs.Crash.{LooksOnly};
+ghost use Rattle.ledger_map.specs.Damage.{HasDamage};
 
 use crate::kind::Kind;
 use crate::live::find_live;
@@ -29,6 +30,7 @@ impl Map {
     pub(crate) fn read<D: Device>(device: &mut D, damage: Option<Place>) -> Result<Map, DeviceFault>
         ensures call { AreCalls (D.state device.old) (D.state device.new) (IsErr result) }
         ensures looks { LooksOnly (D.state device.old) (D.state device.new) }
+        ensures damage { IfOk result (λ map. map.damage ≡ damage) }
     {
         let plan = read_plan(device)?;
         let live = match plan {
@@ -120,6 +122,7 @@ impl Map {
     ) -> Result<Kind, DeviceFault>
         ensures call { AreCalls (D.state device.old) (D.state device.new) (IsErr result) }
         ensures looks { LooksOnly (D.state device.old) (D.state device.new) }
+        ensures damaged { IfOk result (λ kind. (kind ≡ Kind.Damaged) ↔ HasDamage self.now.damage from to) }
     {
         if self.is_damaged(from, to) {
             return Ok(Kind::Damaged);
@@ -131,7 +134,9 @@ impl Map {
         }
     }
 
-    fn is_damaged(&self, from: u64, to: u64) -> bool {
+    fn is_damaged(&self, from: u64, to: u64) -> bool
+        ensures { IsTrue result ↔ HasDamage self.now.damage from to }
+    {
         match self.damage {
             Some(place) => from <= place.sector && place.sector < to,
             None => false,
@@ -168,6 +173,7 @@ fn greatest_kind<D: Device>(
 ) -> Result<Kind, DeviceFault>
     ensures call { AreCalls (D.state device.old) (D.state device.new) (IsErr result) }
     ensures looks { LooksOnly (D.state device.old) (D.state device.new) }
+    ensures not_damaged { IfOk result (λ kind. kind ≢ Kind.Damaged) }
 {
     let mut greatest = Kind::Unused;
     for sector in from..to {
@@ -180,6 +186,7 @@ fn greatest_kind<D: Device>(
 fn read_kind<D: Device>(device: &mut D, plan: Plan, sector: u64) -> Result<Kind, DeviceFault>
     ensures call { AreCalls (D.state device.old) (D.state device.new) (IsErr result) }
     ensures looks { LooksOnly (D.state device.old) (D.state device.new) }
+    ensures not_damaged { IfOk result (λ kind. kind ≢ Kind.Damaged) }
 {
     match plan.part(sector) {
         Part::Superblock => Ok(Kind::Superblock),

@@ -1,4 +1,7 @@
 //! The named pipes of counters.
+ghost use Rattle.std.specs.Prelude.{◌<ℤ◌, pos, IfOk};
+ghost use Rattle.std.specs.Fd.{file_raw_fd};
+
 use std::alloc::{AllocError, Global};
 use std::fs::{File, Files, OpenFile, OpenOptions};
 use std::os::fd::{AsRawFd, RawFd};
@@ -56,7 +59,9 @@ pub fn open_pipe<R: Files<File = File>>(
     folder: &str,
     side: Side,
     opened: &mut Vec<PipeNumber>,
-) -> Result<File, PipeRefusal> {
+) -> Result<File, PipeRefusal>
+    ensures clear { IfOk result (λ file. pos 2 <ℤ file_raw_fd file) }
+{
     let name = side.name();
     let path = match format!(in alloc; "{folder}/{name}") {
         Ok(path) => path,
@@ -92,7 +97,9 @@ fn note_pipe(file: &File, opened: &mut Vec<PipeNumber>) -> Result<(), PipeRefusa
 
 // Moves the file off the numbers of the standard streams: where one of these is closed, what is printed to it would land in
 // the pipe.
-fn clear_of_streams(file: File) -> Result<File, PipeRefusal> {
+fn clear_of_streams(file: File) -> Result<File, PipeRefusal>
+    ensures clear { IfOk result (λ moved. pos 2 <ℤ file_raw_fd moved) }
+{
     if file.as_raw_fd() > LAST_STREAM {
         return Ok(file);
     }

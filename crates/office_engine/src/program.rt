@@ -1,5 +1,7 @@
 //! The whole program, over the words and streams that it is handed.
-ghost use Rattle.std.specs.Prelude.{◌≤◌};
+ghost use Rattle.std.specs.Prelude.{◌≡◌, ◌≤◌, false, option_map, unwrap_or, IfOk, IfErr, IfSome, OnOk};
+ghost use Rattle.office_engine.specs.Ends.{NoneWasRefused, TellsRefusal, reason_of};
+ghost use Rattle.office_engine.specs.Settings.{stations_of};
 
 use crate::command_line::options;
 use crate::faults::{OfficeFault, PipeFault};
@@ -11,7 +13,7 @@ use four_state::Line;
 use journal_recovery::{Recovered, recover};
 use ledger_file::{FileDevice, Formatting, format_ledger, open_ledger};
 use live_office::{Closed, Conversation, Counter, Entry, Kind, are_threads_granted, keep_open};
-use office_day::{End, StationDay};
+use office_day::{End, StationDay, TurnRefusal};
 use script_streams::{Output, StreamFault};
 use sector_device::Device;
 use std::alloc::Global;
@@ -84,7 +86,15 @@ struct Plan {
     formatting: Option<Formatting>,
 }
 
-fn plan_of(options: &Options<'_>) -> Result<Plan, WrongWords> {
+fn plan_of(options: &Options<'_>) -> Result<Plan, WrongWords>
+    ensures stations { IfOk result (λ plan. plan.stations ≡ stations_of options.now) }
+    ensures slots { IfOk result (λ plan.
+        option_map (λ f. f.slots) plan.formatting ≡ options.now.format) }
+    ensures sectors { IfOk result (λ plan.
+        IfSome plan.formatting (λ f. f.sectors ≡ unwrap_or options.now.sectors 0)) }
+    ensures overwrite { IfOk result (λ plan.
+        IfSome plan.formatting (λ f. f.overwrite ≡ options.now.overwrite)) }
+{
     Ok(Plan {
         stations: options.stations_wanted()?,
         formatting: options.formatting()?,
@@ -238,7 +248,10 @@ fn first_line<'a>(stations: u64) -> Result<Line, OfficeFault<'a>> {
 fn tell_closed<'a, D: Device + Drop, W: Write>(
     closed: Closed<D>,
     output: &mut Output<'_, W>,
-) -> Result<(), OfficeFault<'a>> {
+) -> Result<(), OfficeFault<'a>>
+    ensures refused { OnOk result (NoneWasRefused closed.stations.items) }
+    ensures threads { OnOk result (closed.is_abandoned ≡ false) }
+{
     let line = closed.audit.last;
     let privileges = line.privileges();
     output.line(format_args!("closed after {} turns", closed.turns))?;
@@ -254,6 +267,7 @@ fn tell_closed<'a, D: Device + Drop, W: Write>(
     if closed.is_abandoned {
         return Err(OfficeFault::Threads);
     }
+    device_of(closed.stations.as_slice())?;
     refusal_of(closed.stations.as_slice())
 }
 
@@ -297,12 +311,38 @@ fn tell_untold<W: Write>(
     Ok(())
 }
 
-// Why the first station was refused its turn that was.
-fn refusal_of<'a>(stations: &[StationDay]) -> Result<(), OfficeFault<'a>> {
+// Whether a station's device failed. Other stations, which met that later, tell it in other words.
+fn device_of<'a>(stations: &[StationDay]) -> Result<(), OfficeFault<'a>>
+    ensures { IfErr result (TellsRefusal stations.now) }
+{
     for day in stations {
-        if let End::Refused(refusal) = day.end {
+        if day.end == End::Refused(TurnRefusal::Device) {
+            return Err(OfficeFault::Refused(TurnRefusal::Device));
+        }
+    }
+    Ok(())
+}
+
+// Why the first station was refused its turn that was. No other end needs to be told: a station ends as `Stopped` only
+// after another one ended, and as `Tries` only after 2^64 - 1 refusals in a row.
+fn refusal_of<'a>(stations: &[StationDay]) -> Result<(), OfficeFault<'a>>
+    ensures none { OnOk result (NoneWasRefused stations.now) }
+    ensures refused { IfErr result (TellsRefusal stations.now) }
+{
+    for day in stations {
+        if let Some(refusal) = reason_of(day.end) {
             return Err(OfficeFault::Refused(refusal));
         }
     }
     Ok(())
+}
+
+// Why a station was refused its last turn, if it ended by that.
+fn reason_of(end: End) -> Option<TurnRefusal>
+    ensures { result ≡ reason_of end }
+{
+    match end {
+        End::Refused(reason) => Some(reason),
+        End::NotStarted | End::Reached | End::Stopped | End::Tries | End::Closed => None,
+    }
 }

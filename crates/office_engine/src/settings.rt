@@ -1,5 +1,6 @@
 //! What the program is asked for.
-ghost use Rattle.std.specs.Prelude.{◌≡◌, ◌≤◌, ◌<◌, ◌+◌, ◌↔◌, length, false, [], None, option_map, unwrap_or, IsTrue, IfOk, IfSome, Err};
+ghost use Rattle.std.specs.Prelude.{◌≡◌, ◌≢◌, ◌≤◌, ◌<◌, ◌+◌, ◌↔◌, length, None, option_map, unwrap_or, IsTrue, IfOk, IfSome, Err};
+ghost use Rattle.office_engine.specs.Settings.{counters_of, fewest_of, stations_of};
 
 use ledger_file::Formatting;
 use std::num::NonZeroU64;
@@ -56,9 +57,13 @@ impl Options<'_> {
         ensures enough { IfOk result (λ stations. length self.now.counters.items ≤ stations) }
         ensures terminal { IfOk result (λ stations. IsTrue self.now.terminal
             → length self.now.counters.items + 1 ≤ stations) }
-        ensures nobody { result ≡ Err WrongWords.NoCounter
-            → (length self.now.counters.items ≡ 0) × (self.now.terminal ≡ false) }
-        ensures somebody { self.now.counters.items ≡ [] → self.now.terminal ≡ false → result ≡ Err WrongWords.NoCounter }
+        ensures as_asked { IfOk result (λ stations. stations ≡ stations_of self.now) }
+        ensures nobody { (result ≡ Err WrongWords.NoCounter) ↔ (counters_of self.now ≡ 0) }
+        ensures too_many { (result ≡ Err WrongWords.TooManyCounters) ↔ (64 < counters_of self.now) }
+        ensures too_few { (result ≡ Err WrongWords.TooFewStations)
+            ↔ ((1 ≤ counters_of self.now) × (counters_of self.now ≤ 64)
+            × (stations_of self.now < fewest_of self.now)) }
+        ensures not_format { result ≢ Err WrongWords.NoFormat }
     {
         let terminals = if self.terminal { 1 } else { 0 };
         if self.counters.is_empty() && !self.terminal {

@@ -1,4 +1,6 @@
 //! What is told of a device that holds no sound ledger.
+ghost use Rattle.std.specs.Prelude.{◌≡◌, ◌↔◌, true, false};
+
 use crate::request::Task;
 use crate::sentences::Damage;
 use ledger_map::locate;
@@ -34,7 +36,11 @@ pub(crate) enum Telling {
 
 impl Telling {
     /// Of a ledger that isn't sound, for what was asked of it.
-    pub(crate) fn of(task: Task) -> Telling {
+    pub(crate) fn of(task: Task) -> Telling
+        ensures nothing { (result ≡ Telling.Nothing) ↔ (task ≡ Task.Check true) }
+        ensures answer { (result ≡ Telling.Answer) ↔ (task ≡ Task.Check false) }
+        ensures drawing { (result ≡ Telling.Drawing) ↔ (task ≡ Task.Map) }
+    {
         match task {
             Task::Check { quiet: true } => Telling::Nothing,
             Task::Check { quiet: false } => Telling::Answer,

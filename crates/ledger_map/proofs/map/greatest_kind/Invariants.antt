@@ -1,6 +1,8 @@
--- the device has been read alone
+-- the device has been read alone, and no kind was that of a damage
+use Rattle.std.proofs.Common.{◌≢◌}
 use Rattle.sector_device.specs.Device.{AreCalls}
 use Rattle.sector_device.specs.Crash.{OnlyLooks}
+use Rattle.ledger_map.specs.declared.kind.Kind.TheVariants.{Damaged}
 use Rattle.ledger_map.proofs.map.greatest_kind.Given as goal
 
 abbrev pub invariant-loop-sector : goal.invariant-loop-sector
@@ -9,4 +11,5 @@ invariant-loop-sector g l =
     record {
       call : AreCalls (state l.initial.device) (state l.device) ⊥;
       looks : (state l.initial.device).honest → OnlyLooks (state l.initial.device) (state l.device);
+      not_damaged : l.greatest ≢ Damaged;
     }
