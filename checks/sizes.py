@@ -1,5 +1,6 @@
-"""Counts the lines of each crate of the product, and looks whether the table in docs/PROVED.md tells them so. Status 1
-where it doesn't. `--write` writes the table. Needs Python alone.
+"""Counts the lines of each crate of the product, and looks whether the table in docs/PROVED.md tells them so, and whether
+that document and the map in docs/DESIGN.md name what crates.txt does. Status 1 where it isn't so. `--write` writes it there.
+Needs Python alone.
 
 A line is one that is neither blank nor a comment nor an import. What runs are the lines of code that are no part of a
 contract, without tests; contracts are clauses and the ghost members of types and traits; definitions are in `specs/`, and
@@ -11,12 +12,15 @@ from pathlib import Path
 
 import clauses
 
-DOCUMENT = clauses.ROOT / "docs/PROVED.md"
+PROVED = clauses.ROOT / "docs/PROVED.md"
+DESIGN = clauses.ROOT / "docs/DESIGN.md"
 HEAD = ["| Crate | Lines that run | Contracts | Definitions | Proofs |", "|---|---|---|---|---|"]
 TABLE = re.compile("(?:^\\|.*\\|\n)+", re.MULTILINE)
 OF_A_CONTRACT = re.compile(r"\s*(?:pub(?:\([\w: ]+\))? )?(?:requires|ensures|ghost)\b")
 IMPORT = re.compile(r"\s*(?:pub )?(?:ghost )?(?:use|mod)\b")
 COMMENT = re.compile(r"\s*(?://|--)")
+PORTED = re.compile(r"of the ported crates \([^)]*\)")
+ROW_OF_MAP = re.compile(r"^\| `(\w+)` \| ([^|]*) \| [^|]* \|$", re.MULTILINE)
 
 
 def lines_of(paths):
@@ -57,15 +61,52 @@ def table():
     return HEAD + ["| " + " | ".join([name, *(f"{count:,}" for count in counts)]) + " |" for name, *counts in rows]
 
 
+def libraries():
+    """The names of the libraries that each crate uses, as crates.txt has them."""
+    lines = (clauses.ROOT / "crates.txt").read_text(encoding="utf-8").splitlines()
+    rows = [line.partition(":") for line in lines if line.strip() and not line.startswith("#")]
+    return {name.split()[0]: used.split() for name, _, used in rows}
+
+
+def stands_on(name, used):
+    """Of the project's crates that it uses those on which no other one of them stands."""
+    own = [library for library in used[name] if library in used]
+    return [library for library in own if not any(library in used[other] for other in own)]
+
+
+def as_list(names):
+    return ", ".join(f"`{name}`" for name in names) or "nothing"
+
+
+def in_proved(text, used):
+    """The document with the table, and with the ported crates that the product uses."""
+    text = TABLE.sub(lambda _: "\n".join(table()) + "\n", text, count=1)
+    product = [name for name in used if not clauses.OF_TESTS.fullmatch(name)]
+    ported = sorted({library for name in product for library in used[name] if library not in used})
+    return PORTED.sub(lambda _: f"of the ported crates ({as_list(ported)})", text, count=1)
+
+
+def in_design(text, used):
+    """The document, where each row of the map ends with what the crate stands on."""
+    def row(found):
+        name, does = found.groups()
+        return f"| `{name}` | {does} | {as_list(stands_on(name, used))} |" if name in used else found.group()
+
+    return ROW_OF_MAP.sub(row, text)
+
+
 def main():
-    made, text = "\n".join(table()) + "\n", DOCUMENT.read_text(encoding="utf-8")
-    if "--write" in sys.argv:
-        DOCUMENT.write_text(TABLE.sub(lambda _: made, text, count=1), encoding="utf-8")
-    elif made not in text:
-        print(f"{DOCUMENT.name} doesn't have the lines that are there: python3 checks/sizes.py --write")
-        return 1
-    print(made.splitlines()[-1])
-    return 0
+    used, status = libraries(), 0
+    for document, made_in in ((PROVED, in_proved), (DESIGN, in_design)):
+        text = document.read_text(encoding="utf-8")
+        made = made_in(text, used)
+        if "--write" in sys.argv:
+            document.write_text(made, encoding="utf-8")
+        elif made != text:
+            print(f"{document.name} doesn't tell what is there: python3 checks/sizes.py --write")
+            status = 1
+    print(table()[-1])
+    return status
 
 
 if __name__ == "__main__":

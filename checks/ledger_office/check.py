@@ -30,6 +30,8 @@ CASES = (
     refusals.a_ledger_that_is_there,
     refusals.wrong_words,
     refusals.a_device_that_fails,
+    refusals.an_exhausted_journal,
+    refusals.without_threads,
     refusals.closed_streams,
     order.syncs_before_it_tells,
     waiting.asks_for_nothing,

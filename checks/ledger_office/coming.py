@@ -63,11 +63,18 @@ def says_and_never_listens(case):
         unanswered = office.closed()
         require_closed(office, 2, 200)
         told = mute.hear_rest()
+        untold = office.untold()
+        left = mute.unread()
     rows = [row.reference for row in case.rows() if row.station == 0]
     require_same(rows, list(range(1, len(rows) + 1)), "the references of one that never listens")
     wanted = [f"{number}" for number in range(1, len(told) + 1)]
     require_same([line.split()[2] for line in told], wanted, "what it was told")
     require(len(told) <= len(rows) <= taken // 12, f"it was told {len(told)}, and {len(rows)} of {taken / 12} are posted")
+    # each that is posted was told, or is listed; of those that were being written both
+    references = [int(line.split()[-1]) for counter, line in untold if counter == 0]
+    require_same(references, list(range(len(rows) + 1 - len(untold), len(rows) + 1)), "the references of what it wasn't told")
+    require(len(told) + len(untold) >= len(rows), f"it was told {len(told)}, {len(untold)} are listed, {len(rows)} are posted")
+    require_same(len(rows) + len(unanswered), (taken - left) // 12, "posted and unanswered, of what was read")
     behind = [(0, reference) for reference in range(len(rows) + 1, len(rows) + 1 + len(unanswered))]
     require_same(unanswered, behind, f"what is unanswered behind {len(rows)} that are posted")
 
@@ -99,7 +106,7 @@ def close_at_once(case):
         unanswered = office.closed()
         require_closed(office, 2, 0)
         told = one.hear_rest() + other.hear_rest()
-        require(told in (["closing"], ["closing", "closing"]), f"the two are told {told}")
+        require_same(told, ["closing"] * 2, "what the two are told")
         late = [(0, 2), (0, 50), (0, 6), (1, 2)]
         require(unanswered in (late, late[:3], late[3:]), f"unanswered is {unanswered} and not of {late}")
     require_same(case.rows(), [], "the records in the file")
@@ -118,7 +125,7 @@ def close_amid_postings(case):
         rows = case.rows()
         for number, client in enumerate(clients[:2]):
             wanted = [f"posted {row.sequence} {row.reference}" for row in rows if row.station == number]
-            require_same(client.hear_rest(), wanted, f"what counter {number} was told, beside the file")
+            require_same(client.hear_rest(), wanted + ["closing"], f"what counter {number} was told, beside the file")
             late = [reference for counter, reference in unanswered if counter == number]
             first = 1000 * number + len(wanted)
             require_same(late, list(range(first, first + len(late))), f"unanswered of counter {number}")

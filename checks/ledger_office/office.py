@@ -119,6 +119,16 @@ class Counter:
         self.say(said.encode() + b"\n")
         return self.hear(count, seconds)
 
+    def unread(self):
+        """How many bytes that it said stand in its pipe, of an office that has ended."""
+        left = os.open(self.folder / "in", os.O_RDONLY | os.O_NONBLOCK)
+        try:
+            return len(os.read(left, 1 << 20))
+        except BlockingIOError:
+            return 0
+        finally:
+            os.close(left)
+
     def hear_rest(self):
         """All whole lines that are left, of an office that has ended."""
         while self.listen():
@@ -186,6 +196,11 @@ class Office:
     def unanswered(self):
         lines = [line.split() for line in self.printed() if line.startswith("unanswered ")]
         return [(int(counter), int(reference)) for _, counter, reference in lines]
+
+    def untold(self):
+        """The pairs of counter and answer that it tells as not read."""
+        lines = [line.split(maxsplit=2) for line in self.printed() if line.startswith("untold ")]
+        return [(int(counter), answer) for _, counter, answer in lines]
 
     def figure(self, name):
         """A number of its status, as of VmHWM."""

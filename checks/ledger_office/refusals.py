@@ -4,6 +4,7 @@ import os
 import resource
 import shutil
 import signal
+import time
 
 from office import await_until, require, require_same
 from talking import require_closed
@@ -136,7 +137,9 @@ def a_device_that_fails(case):
         require_same(one.ask("deposit 1 5 8"), ["undecided 8"], "a posting behind the limit")
         require_same((office.status(), office.told()), (1, ["the device failed"]), "the end")
         require_closed(office, 2, 1)
-        require_same((one.hear_rest(), other.hear_rest(), office.unanswered()), ([], [], []), "what is told then")
+        # the other one was told by the office before, too
+        require_same((one.hear_rest(), other.hear_rest()), (["closing"], ["closing"] * 2), "what is told then")
+        require_same(office.unanswered(), [], "what is unanswered")
     require_same([row.reference for row in case.rows()], [1, 7], "the references in the file")
     with case.office(clients, preexec_fn=limit) as office:
         office.opened()
@@ -144,7 +147,10 @@ def a_device_that_fails(case):
         other.say(b"deposit 1 5 200\nbalance 1\n")
         require_same((office.status(), office.told()), (1, ["the device failed"]), "the end amid postings")
         for number, client, first in ((0, one, 100), (1, other, 200)):
-            told = client.hear_rest()
+            *told, last = client.hear_rest()
+            require_same(last, "closing", f"what counter {number} is told last")
+            if number == 1 and told:
+                require(told.pop() in ("refused Faulted", "refused Closed"), f"a question behind it is answered by {told}")
             undecided = [f"undecided {first + place}" for place in range(len(told))]
             require_same(told, undecided, f"what counter {number} is told")
             late = [reference for counter, reference in office.unanswered() if counter == number]
@@ -152,3 +158,42 @@ def a_device_that_fails(case):
     with case.office(clients) as office:
         require_same(office.opened(), ["opened 2 next 2 total 10"], "the opening without the limit")
         require_same(one.ask("deposit 1 5 9"), ["posted 2 9"], "a posting without the limit")
+
+
+def an_exhausted_journal(case):
+    """Where no number is left for a batch, the office ends, says why, and lists what it was asked."""
+    one, other = clients = case.counters(2)
+    with case.formatted(clients, 4) as office:
+        office.opened(*clients)
+        require_same(one.ask("close"), ["closing"], "the answer to close")
+        office.closed()
+    # the base of the first bank: one number is left
+    ledger = bytearray(case.device.read_bytes())
+    ledger[512 * 2 + 16:512 * 2 + 24] = (2 ** 64 - 2).to_bytes(8, "big")
+    case.device.write_bytes(ledger)
+    with case.office(clients) as office:
+        require_same(office.opened(), [f"opened 2 next {2 ** 64 - 2} total 0"], "the opening")
+        require_same(other.hear(1), ["closing"], "what the other counter was told")
+        require_same(one.ask("deposit 1 5 7"), [f"posted {2 ** 64 - 2} 7"], "the last posting")
+        one.say(b"deposit 1 5 8\nbalance 1\n")
+        wanted = 1, ["there are no more sequence numbers or epochs"]
+        require_same((office.status(), office.told()), wanted, "the end")
+        require_same(office.unanswered(), [(0, 8)], "what is unanswered")
+        require_same((one.hear_rest(), other.hear_rest()), (["refused Closed", "closing"], ["closing"]), "what is told")
+    require_same([row.reference for row in case.rows()], [7], "the references in the file")
+
+
+def few_threads():
+    """What leaves room for the stacks of a few threads alone, before the program begins."""
+    resource.setrlimit(resource.RLIMIT_STACK, (1 << 30, 1 << 30))
+    resource.setrlimit(resource.RLIMIT_AS, (4 << 30, 4 << 30))
+
+
+def without_threads(case):
+    """Where the system refuses threads, the office says so once, at once, and nothing else."""
+    clients = case.counters(8)
+    start = time.monotonic()
+    with case.formatted(clients, 4, preexec_fn=few_threads) as office:
+        require_same((office.status(), office.told()), (1, ["the system refused a thread"]), "the end")
+        require_same(office.printed(), ["formatted 4"], "what is printed")
+    require(time.monotonic() - start < 5, f"it takes {time.monotonic() - start} seconds to say so")

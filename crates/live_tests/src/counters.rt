@@ -112,3 +112,45 @@ fn a_counter_is_answered_in_order(rt: HostRuntime) -> Result<(), Fail> {
     }
     Ok(())
 }
+
+// What a counter of an office on a device is told, of which the read of that number fails; none if it can't be opened.
+fn told_beside_a_fault<R: Abort + Threads + Wait + Clock + Sync + Send + Clone + Drop + 'static>(
+    rt: &R,
+    alloc: Global,
+    read: u64,
+) -> Result<Option<String>, Fail> {
+    let device = OneFault::new(formatted(alloc, 4)?, Op::Read, read);
+    let (mut answers, output) = io::pipe(rt)?;
+    let input: &'static [u8] = b"deposit 1 5 7\nfind 7\nbalance 1\nclose\n";
+    let counter = Counter {
+        input,
+        output,
+        kind: Kind::Pipes,
+    };
+    let counters = vec![in alloc; counter]?;
+    if keep_open(rt, alloc, device, line([0, 0], [1, 0])?, counters, 1_000).is_err() {
+        return Ok(None);
+    }
+    let mut told = String::new(alloc);
+    for _ in 0..4 {
+        read_line(&mut answers, &mut told)?;
+    }
+    Ok(Some(told))
+}
+
+// A search whose read fails is told so, and isn't made again: the office goes on, since no turn met the fault.
+#[test]
+fn a_read_that_fails_within_a_search_is_told(rt: HostRuntime) -> Result<(), Fail> {
+    let mut failed = 0;
+    for read in 20..32 {
+        let Some(told) = told_beside_a_fault(&rt, rt.alloc(), read)? else {
+            continue;
+        };
+        let is_found = told.as_str() == "posted 0 7\nposted 0 7\nbalance 1 5\nclosing\n";
+        let has_failed = told.as_str() == "posted 0 7\nrefused Device\nbalance 1 5\nclosing\n";
+        assert!(rt; is_found || has_failed);
+        failed += has_failed as u64;
+    }
+    assert!(rt; failed == 1);
+    Ok(())
+}
