@@ -56,3 +56,18 @@ fn a_file_of_broken_sectors_is_refused_before_the_script(rt: HostRuntime) -> Res
     fs::remove_file(&rt, path)?;
     Ok(())
 }
+
+// A ledger of layout 1 with four slots, which is smaller than the 64 sectors that the program asks for.
+#[test]
+fn a_file_of_layout_1_is_refused_and_stays_as_it_is(rt: HostRuntime) -> Result<(), Fail> {
+    let path = "older.ledger";
+    let mut older = [0; 9 * 512];
+    older[..16].copy_from_slice(b"TLDG\0\x01\0\0\0\0\0\0\0\0\0\x04");
+    fs::write(&rt, path, &older)?;
+    let (status, output, errors) = run_on(&rt, rt.alloc(), path, "open 2 00 10\nbits\n");
+    assert!(rt; (status, errors.len()) == (0, 0));
+    assert!(rt; output.as_slice() == b"refused Version 1\nrefused NoOffice\n".as_slice());
+    assert!(rt; fs::read(&rt, path)?.as_slice() == older.as_slice());
+    fs::remove_file(&rt, path)?;
+    Ok(())
+}

@@ -1,9 +1,7 @@
 //! What is listed of a ledger, also beside a device that fails or lies.
-use crate::old_devices::{deposited, of_layout_1};
 use fault_injector::{OneFault, Op};
 use gate_journal::{ACCOUNTS, Journal, Record, Snapshot, format_with};
-use journal_recovery::read_old;
-use ledger_reading::{Cause, Entry, Listed, Listing, OpenRefusal, ReadRefusal, Sound, look};
+use ledger_reading::{Entry, Listed, Listing, OpenRefusal, ReadRefusal, Sound, look};
 use sector_device::{Device, MemoryDevice, SECTOR};
 use std::alloc::Global;
 use std::process::Abort;
@@ -129,26 +127,6 @@ fn what_was_changed_after_the_look_is_told(rt: HostRuntime) -> Result<(), Fail> 
         assert!(rt;
             all_of_it(alloc, Rewritten::new(device, at, [0; SECTOR])) == Err(ReadRefusal::Changed)
         );
-    }
-    Ok(())
-}
-
-// Opening an older journal reads each body once and replaying a second time: then it is told which one is no record any
-// more, and no ledger with the records before it is. Slot k has its body in sector 1 + 2k, and sector 8 is of a closed one.
-#[test]
-fn a_record_that_changes_between_two_readings_is_no_record(rt: HostRuntime) -> Result<(), Fail> {
-    let alloc = rt.alloc();
-    let cause = Cause::Header;
-    let table = [
-        (8, None),
-        (1, Some(OpenRefusal::Damaged { slot: 0, cause })),
-        (3, Some(OpenRefusal::Damaged { slot: 1, cause })),
-        (5, Some(OpenRefusal::Damaged { slot: 2, cause })),
-    ];
-    for (at, refusal) in table {
-        let old = of_layout_1(&rt, alloc, &[deposited(1, 5); 3])?;
-        let (_, found) = read_old(alloc, Rewritten::new(old, at, [0; SECTOR]));
-        assert!(rt; found.err() == refusal);
     }
     Ok(())
 }

@@ -1,10 +1,13 @@
 //! Why a device isn't copied.
-use crate::old_devices::{deposited, device_of, of_layout_1, place, superblock};
+use crate::old_devices::{
+    Begins, ZERO, balances, body, deposited, device_of, of_layout_1, of_layout_2, place, superblock,
+};
 use journal_recovery::{Cause, MigrateRefusal, OpenRefusal, migrate};
-use sector_device::MemoryDevice;
+use sector_device::{MemoryDevice, Sector};
 use std::alloc::Global;
 use std::process::Abort;
 use std::test::Fail;
+use test_scenes::{Rewritten, sectors_needed};
 
 // A device isn't copied to one of so many sectors with four slots in each bank, for this reason.
 fn is_refused(
@@ -20,9 +23,9 @@ fn is_refused(
     Ok(())
 }
 
-// What a damaged slot 0 is told as.
-fn damaged(cause: Cause) -> MigrateRefusal {
-    MigrateRefusal::Source(OpenRefusal::Damaged { slot: 0, cause })
+// What a damaged slot is told as.
+fn damaged(slot: u64, cause: Cause) -> MigrateRefusal {
+    MigrateRefusal::Source(OpenRefusal::Damaged { slot, cause })
 }
 
 #[test]
@@ -43,7 +46,7 @@ fn a_device_that_is_no_older_ledger_is_refused(rt: HostRuntime) -> Result<(), Fa
         (deposited(65, 1), Cause::Verdict(0)),
     ] {
         let old = of_layout_1(&rt, alloc, &[entry])?;
-        is_refused(&rt, alloc, old, 55, damaged(cause))?;
+        is_refused(&rt, alloc, old, 55, damaged(0, cause))?;
     }
     Ok(())
 }
@@ -53,5 +56,48 @@ fn a_refusal_tells_what_it_holds(rt: HostRuntime) -> Result<(), Fail> {
     let refusal = MigrateRefusal::Source(OpenRefusal::Version(3));
     let told = format!(in rt.alloc(); "{refusal}")?;
     assert!(rt; told.as_str() == "the old device wasn't read: the device has version 3");
+    Ok(())
+}
+
+// A device isn't copied of which a sector has these bytes from its second reading on, for this reason, if any.
+fn is_refused_changed(
+    rt: &impl Abort,
+    alloc: Global,
+    old: MemoryDevice,
+    (at, bytes): (u64, Sector),
+    expected: Option<MigrateRefusal>,
+) -> Result<(), Fail> {
+    let mut new = MemoryDevice::new(alloc, sectors_needed(1))?;
+    let (_, answer) = migrate(alloc, Rewritten::new(old, at, bytes), &mut new, 1);
+    assert!(rt; answer.err() == expected, "{at}");
+    Ok(())
+}
+
+// Opening an older journal reads each body once, and posting reads it a second time: which one is no record any more is
+// told then, by its slot. Slot k of the live bank of layout 2 has its body in sector 15 + 2k, and the sequence 7 + k: a
+// record with the sequence k isn't its own. The last gate is read once.
+#[test]
+fn a_record_that_changes_between_two_readings_is_no_record(rt: HostRuntime) -> Result<(), Fail> {
+    let alloc = rt.alloc();
+    let records = [deposited(1, 5); 3];
+    let begins = Begins {
+        base: 7,
+        balances: balances(5),
+    };
+    let table = [
+        (8, 22, None),
+        (1, 15, Some(damaged(0, Cause::Header))),
+        (3, 17, Some(damaged(1, Cause::Header))),
+        (5, 19, Some(damaged(2, Cause::Header))),
+    ];
+    for (first, second, expected) in table {
+        let old = of_layout_1(&rt, alloc, &records)?;
+        is_refused_changed(&rt, alloc, old, (first, ZERO), expected)?;
+        let other = body(first / 2, &deposited(1, 6));
+        for bytes in [ZERO, other] {
+            let old = of_layout_2(&rt, alloc, begins, &records)?;
+            is_refused_changed(&rt, alloc, old, (second, bytes), expected)?;
+        }
+    }
     Ok(())
 }

@@ -1,8 +1,9 @@
 //! Devices that are copied, and the bytes that they are copied to.
 use crate::old_devices::{
-    Begins, ZERO, all_of, balances, deposited, has_pending, of_layout_1, of_layout_2, open_gate,
+    Banks, Begins, LAYOUT_2, Live, ZERO, all_of, balances, deposited, has_pending, of_layout_1,
+    of_layout_2, open_gate, with_banks,
 };
-use journal_recovery::{Recovered, migrate, recover};
+use journal_recovery::{Recovered, may_hold_postings, migrate, recover};
 use sector_device::{Device, MemoryDevice, Sector};
 use std::alloc::Global;
 use std::process::Abort;
@@ -24,7 +25,7 @@ fn migrated(
     old: MemoryDevice,
     slots: u64,
 ) -> Result<(MemoryDevice, MemoryDevice), Fail> {
-    assert!(rt; 1 <= slots && slots < 100);
+    assert!(rt; 1 <= slots && slots <= 1_000);
     let mut new = MemoryDevice::new(alloc, sectors_needed(slots))?;
     let (old, answer) = migrate(alloc, old, &mut new, slots);
     assert!(rt; answer == Ok(()));
@@ -103,4 +104,40 @@ fn a_checkpoint_and_a_record_of_layout_2_come_over(rt: HostRuntime) -> Result<()
         ) == (2, 2, 0)
     );
     Ok(())
+}
+
+// A full device is copied to as many slots. Neither of the two may be written over then.
+fn thousand_come_over(
+    rt: &impl Abort,
+    alloc: Global,
+    old: MemoryDevice,
+    (total, next): (u64, u64),
+) -> Result<(), Fail> {
+    let (old, new) = migrated(rt, alloc, old, 1_000)?;
+    let (_, old) = may_hold_postings(alloc, old);
+    let (new, postings) = may_hold_postings(alloc, new);
+    assert!(rt; (new.sectors(), old, postings) == (4_039, Ok(true), Ok(true)));
+    let found = recovered(rt, alloc, new);
+    assert!(rt; (found.ledger.balance(1), found.ledger.total()) == (Some(total), total));
+    let journal = (found.journal.base(), found.journal.room());
+    assert!(rt; journal == (next, 1_000));
+    Ok(())
+}
+
+#[test]
+fn a_thousand_full_slots_come_over(rt: HostRuntime) -> Result<(), Fail> {
+    let alloc = rt.alloc();
+    let entries = vec![in alloc; deposited(1, 5); 1_000]?;
+    let old = of_layout_1(&rt, alloc, entries.as_slice())?;
+    thousand_come_over(&rt, alloc, old, (5_000, 1_000))?;
+    let begins = Begins {
+        base: 7,
+        balances: balances(9),
+    };
+    let layout = Banks {
+        slots: 1_000,
+        ..LAYOUT_2
+    };
+    let old = with_banks(&rt, alloc, layout, Live::Second, begins, entries.as_slice())?;
+    thousand_come_over(&rt, alloc, old, (5_009, 1_007))
 }

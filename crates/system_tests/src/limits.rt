@@ -2,12 +2,13 @@
 ghost use Rattle.file_device.specs.RealFile.{unknown_sectors};
 
 use crate::devices::{found_on, opened, recovered};
+use gate_journal::format;
 use sector_device::{Device, DeviceFault, MemoryDevice, SECTOR, Sector};
 use std::alloc::Global;
 use std::process::Abort;
 use std::test::Fail;
 use test_scenes::{FIRST, deposit, formatted, line, transfer};
-use turn_clerk::Clerk;
+use turn_clerk::{Clerk, Event};
 
 // Two stations, the bottom one privileged, over this journal.
 fn two_stations(
@@ -28,18 +29,36 @@ fn is_filled(rt: &impl Abort, device: &mut MemoryDevice, at: u64, byte: u8) -> R
     Ok(())
 }
 
-#[test]
-fn a_device_in_memory_takes_250_000_calls(rt: HostRuntime) -> Result<(), Fail> {
-    let mut device = MemoryDevice::new(rt.alloc(), 3)?;
-    for number in 0..125_000u32 {
+// Writes so often to the first two sectors by turns, each time the last byte of the number of the write.
+fn write_often(
+    rt: &impl Abort,
+    device: &mut MemoryDevice,
+    writes: u32,
+    syncs_each: bool,
+) -> Result<(), Fail> {
+    for number in 0..writes {
         assert!(rt; device.sectors() == 3);
         device.write(u64::from(number % 2), &[number.to_le_bytes()[0]; SECTOR])?;
-        device.sync()?;
+        if syncs_each {
+            device.sync()?;
+        }
     }
-    assert!(rt; device.sectors() == 3);
+    Ok(())
+}
+
+// Each write is synced by itself, and then one sync makes all of many durable.
+#[test]
+fn a_device_in_memory_takes_450_001_calls(rt: HostRuntime) -> Result<(), Fail> {
+    let mut device = MemoryDevice::new(rt.alloc(), 3)?;
+    write_often(&rt, &mut device, 125_000, true)?;
     // 124,998 and 124,999 have the last bytes 70 and 71.
     is_filled(&rt, &mut device, 0, 70)?;
     is_filled(&rt, &mut device, 1, 71)?;
+    write_often(&rt, &mut device, 200_000, false)?;
+    device.sync()?;
+    // 199,998 and 199,999 have the last bytes 62 and 63.
+    is_filled(&rt, &mut device, 0, 62)?;
+    is_filled(&rt, &mut device, 1, 63)?;
     is_filled(&rt, &mut device, 2, 0)
 }
 
@@ -51,16 +70,32 @@ fn take_turn(rt: &impl Abort, clerk: &mut Clerk<MemoryDevice>, number: u64) -> R
     Ok(())
 }
 
+// The events of 300 turns, each with a deposit of 1.
+fn events(alloc: Global) -> Result<Vec<Event>, Fail> {
+    let mut events = Vec::new(alloc);
+    for number in 0..300u64 {
+        let entries = vec![in alloc; deposit(1, 1)]?;
+        let station = (number % 2) as u8;
+        events.push(Event { station, entries })?;
+    }
+    Ok(events)
+}
+
 #[test]
-fn a_clerk_takes_300_turns(rt: HostRuntime) -> Result<(), Fail> {
-    let mut clerk = two_stations(&rt, rt.alloc(), formatted(rt.alloc(), 300)?)?;
+fn a_clerk_takes_300_turns_and_a_run_of_300_events(rt: HostRuntime) -> Result<(), Fail> {
+    let alloc = rt.alloc();
+    let mut clerk = two_stations(&rt, alloc, formatted(alloc, 600)?)?;
     for number in 0..300u64 {
         take_turn(&rt, &mut clerk, number)?;
     }
-    assert!(rt; (clerk.history().len(), clerk.moves().len()) == (300, 300));
     // 1 + 2 + .. + 299
     assert!(rt; clerk.ledger().total() == 44_850);
-    assert!(rt; recovered(&rt, rt.alloc(), clerk.into_device()) == (Some(44_850), 299));
+    let mut replies = Vec::new(alloc);
+    clerk.run(events(alloc)?.as_slice(), &mut replies)?;
+    let answered = replies.iter().filter(|reply| reply.is_ok()).count();
+    assert!(rt; (replies.len(), answered) == (300, 300));
+    assert!(rt; (clerk.history().len(), clerk.moves().len()) == (600, 600));
+    assert!(rt; recovered(&rt, alloc, clerk.into_device()) == (Some(45_150), 599));
     Ok(())
 }
 
@@ -87,16 +122,17 @@ fn a_turn_takes_15_accepted_entries(rt: HostRuntime) -> Result<(), Fail> {
 // How many sectors there are up to the gate of the first slot.
 const FRONT: usize = 22;
 
-// A device of so many sectors, of which all but the front are zero. It can't be written.
+// A device of so many sectors, of which all but the front are zero. It counts what is written, and keeps nothing of it.
 #[derive(Drop)]
 struct Sparse {
     sectors: u64,
     front: [Sector; FRONT],
-    failures: u64,
+    writes: u64,
+    syncs: u64,
 }
 
 impl Device for Sparse {
-    ghost state = { λ s. unknown_sectors (record { sectors = s.sectors; failures = s.failures }) };
+    ghost state = { λ s. unknown_sectors (record { sectors = s.sectors; failures = 0 }) };
 
     fn sectors(&self) -> u64 {
         self.sectors
@@ -112,11 +148,12 @@ impl Device for Sparse {
     }
 
     fn write(&mut self, _at: u64, _from: &Sector) -> Result<(), DeviceFault> {
-        self.failures = self.failures.saturating_add(1);
-        Err(DeviceFault)
+        self.writes = self.writes.saturating_add(1);
+        Ok(())
     }
 
     fn sync(&mut self) -> Result<(), DeviceFault> {
+        self.syncs = self.syncs.saturating_add(1);
         Ok(())
     }
 
@@ -137,7 +174,8 @@ fn a_million_slots() -> Sparse {
     Sparse {
         sectors: 8_000_000,
         front,
-        failures: 0,
+        writes: 0,
+        syncs: 0,
     }
 }
 
@@ -146,4 +184,12 @@ fn a_device_of_8_000_000_sectors_is_recovered(rt: HostRuntime) {
     let found = found_on(&rt, rt.alloc(), a_million_slots());
     assert!(rt; found.ledger.balance(1) == Some(500));
     assert!(rt; (found.journal.next(), found.journal.room()) == (1, 999_999));
+}
+
+// A head, seventeen sectors of a snapshot, the gates of the slots and of both banks, and the superblock.
+#[test]
+fn a_million_slots_are_formatted(rt: HostRuntime) {
+    let mut device = a_million_slots();
+    assert!(rt; format(&mut device, 1_000_000) == Ok(()));
+    assert!(rt; (device.writes, device.syncs) == (1_000_021, 1));
 }

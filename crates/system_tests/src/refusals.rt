@@ -1,4 +1,4 @@
-//! The texts of refusals that name a number or hold another refusal.
+//! The texts of refusals that name a number or hold another refusal, and of a search that isn't answered.
 use gate_journal::{FormatRefusal, JournalCause, JournalRefusal};
 use journal_recovery::{Cause, OpenRefusal};
 use office_day::{CloseRefusal, DayRefusal};
@@ -6,6 +6,7 @@ use std::alloc::Global;
 use std::fmt::Display;
 use std::process::Abort;
 use std::test::Fail;
+use turn_clerk::FindRefusal;
 
 // Each refusal and its text.
 fn read_as<T: Display>(rt: &impl Abort, alloc: Global, table: &[(T, &str)]) -> Result<(), Fail> {
@@ -63,6 +64,20 @@ fn refusals_of_a_day_are_told_as_what_they_hold(rt: HostRuntime) -> Result<(), F
         (Memory, "out of memory"),
         (Opening(opening), "the device has version 2"),
         (Closing(closing), "the seat of a station is missing"),
+    ];
+    read_as(&rt, rt.alloc(), &table)
+}
+
+#[test]
+fn a_search_tells_why_it_is_not_answered(rt: HostRuntime) -> Result<(), Fail> {
+    use FindRefusal::*;
+    let table = [
+        (
+            Faulted,
+            "a device fault was met and the device must be opened again",
+        ),
+        (Changed, "the record is no longer there"),
+        (Device, "the device failed"),
     ];
     read_as(&rt, rt.alloc(), &table)
 }

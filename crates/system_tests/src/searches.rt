@@ -98,19 +98,19 @@ fn a_search_behind_a_checkpoint_reads_the_other_bank(rt: HostRuntime) -> Result<
     Ok(())
 }
 
-// A device with one record, of two deposits with references 7 and 8, whose body has another byte at that place from the
-// second read on.
+// A device whose second bank is live, with one record of number 2, which has two deposits with references 7 and 8. The
+// record's body has another byte at that place from the second read on.
 fn with_another_byte(
     rt: &impl Abort,
     alloc: Global,
     place: usize,
     byte: u8,
 ) -> Result<Rewritten, Fail> {
-    let device = formatted(alloc, 2)?;
+    let device = posted(rt, alloc, formatted(alloc, 2)?, 2)?;
     let mut clerk = opened(rt, alloc, device, line([0, 0], [1, 0])?);
     clerk.turn(0, &[with_reference(7), with_reference(8)])?;
     let mut inner = clerk.into_device();
-    let at = FIRST.body(0);
+    let at = second(2).body(0);
     let mut bytes = [0; SECTOR];
     assert!(rt; place < SECTOR && at < inner.sectors());
     inner.read(at, &mut bytes)?;
@@ -131,8 +131,8 @@ fn told(
     let Ok(mut journal) = Journal::open(with_another_byte(rt, alloc, place, byte)?) else {
         panic!(rt; "not opened");
     };
-    assert!(rt; (journal.base(), journal.next()) == (0, 1));
-    Ok((found, journal.read_record(0).err()))
+    assert!(rt; (journal.base(), journal.next()) == (2, 3));
+    Ok((found, journal.read_record(2).err()))
 }
 
 // A record that is none any more is told, and never taken for one without the reference: its mark, its sequence, its
@@ -141,7 +141,7 @@ fn told(
 #[test]
 fn a_record_that_was_changed_is_told(rt: HostRuntime) -> Result<(), Fail> {
     let changed = Err(FindRefusal::Changed);
-    let posted = Ok(Found::Posted(0));
+    let posted = Ok(Found::Posted(2));
     let no_record = Some(ReadRefusal::Changed);
     let table = [
         (0, 0, [changed, changed], no_record),
