@@ -39,11 +39,14 @@ impl Waiting {
 pub fn are_threads_granted<R: Threads + Wait + Send + Clone + Drop + 'static>(
     rt: &R,
     alloc: Global,
-    stations: u8,
-    counters: u8,
+    stations: u64,
+    counters: usize,
 ) -> Result<bool, AllocError> {
     // two for each counter, one for each station, and the dispatcher's
-    let wanted = 2 * counters as usize + stations as usize + 1;
+    let wanted = counters
+        .saturating_mul(2)
+        .saturating_add(stations as usize)
+        .saturating_add(1);
     let mut waiting = Vec::with_capacity(alloc, wanted)?;
     let started = start(rt, alloc, wanted, &mut waiting);
     let granted = waiting.len();

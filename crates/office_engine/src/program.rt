@@ -119,7 +119,7 @@ fn run_office<
     let counters = open_counters(rt, alloc, options, terminal)?;
     let mut output = Output::new(alloc, writer)?;
     let device = open_device(rt, alloc, options, plan.formatting, &mut output)?;
-    if !are_threads_granted(rt, alloc, plan.stations as u8, counters.len() as u8)? {
+    if !are_threads_granted(rt, alloc, plan.stations, counters.len())? {
         return Err(OfficeFault::Threads);
     }
     let (device, line) = tell_opened(alloc, options.device, device, plan.stations, &mut output)?;
