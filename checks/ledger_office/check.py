@@ -35,6 +35,7 @@ CASES = (
     refusals.closed_streams,
     order.syncs_before_it_tells,
     waiting.asks_for_nothing,
+    waiting.asks_questions_alone,
     waiting.at_a_terminal,
     waiting.input_that_ends,
 )

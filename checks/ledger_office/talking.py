@@ -97,7 +97,7 @@ HELP = ["deposit", "withdraw", "transfer", "seal", "balance", "find", "help", "c
 
 def require_closed(office, stations, turns):
     """That the output's end tells so many turns at least, and a line as it stands."""
-    closed, bits = [line for line in office.printed() if not line.startswith("unanswered ")][-2:]
+    closed, bits = [line for line in office.printed() if not line.startswith(("unanswered ", "untold "))][-2:]
     told = re.fullmatch(r"closed after (\d+) turns", closed)
     require(told and int(told[1]) >= turns, f"the end is {closed!r} after {turns} batches")
     pattern = rf"bits [01]{{{stations}}}/[01]{{{stations}}} privileges [1-9]\d*"

@@ -22,6 +22,20 @@ def asks_for_nothing(case):
         office.closed()
 
 
+def asks_questions_alone(case):
+    """An office that is only asked questions takes no turn."""
+    one, other = clients = case.counters(2)
+    with case.formatted(clients, 64) as office:
+        office.opened(*clients)
+        for number in range(20):
+            require_same(one.ask(f"balance {number + 1}"), [f"balance {number + 1} 0"], "a balance")
+            require_same(other.ask(f"find {number}"), ["unknown since 0"], "a reference")
+        require_same(one.ask("close"), ["closing"], "the answer to close")
+        require_same(office.closed(), [], "what is unanswered")
+        require("closed after 0 turns" in office.printed(), f"it prints {office.printed()}")
+        require_same((one.hear_rest(), other.hear_rest()), ([], ["closing"]), "what is told last")
+
+
 class Typist:
     """Someone at a terminal."""
 

@@ -119,6 +119,19 @@ fn a_counter_is_answered_in_order(rt: HostRuntime) -> Result<(), Fail> {
     Ok(())
 }
 
+// Adds the next line to what was told.
+fn read_line(answers: &mut PipeReader, told: &mut String) -> Result<(), Fail> {
+    let mut byte = [0];
+    for _ in 0..100 {
+        answers.read_exact(&mut byte)?;
+        told.push(byte[0] as char)?;
+        if byte[0] == b'\n' {
+            break;
+        }
+    }
+    Ok(())
+}
+
 // What a counter of an office on a device is told, of which the read of that number fails; none if it can't be opened.
 fn told_beside_a_fault<R: Files + Threads + Wait + Clock + Sync + Send + Clone + Drop + 'static>(
     rt: &R,
@@ -138,15 +151,8 @@ fn told_beside_a_fault<R: Files + Threads + Wait + Clock + Sync + Send + Clone +
         return Ok(None);
     }
     let mut told = String::new(alloc);
-    let mut byte = [0];
-    let mut lines = 0;
-    for _ in 0..200 {
-        answers.read_exact(&mut byte)?;
-        told.push(byte[0] as char)?;
-        lines += (byte[0] == b'\n') as u64;
-        if lines == 4 {
-            break;
-        }
+    for _ in 0..4 {
+        read_line(&mut answers, &mut told)?;
     }
     Ok(Some(told))
 }
@@ -154,7 +160,7 @@ fn told_beside_a_fault<R: Files + Threads + Wait + Clock + Sync + Send + Clone +
 // A search whose read fails is told so, and isn't made again: the office goes on, since no turn met the fault.
 #[test]
 fn a_read_that_fails_within_a_search_is_told(rt: HostRuntime) -> Result<(), Fail> {
-    let mut failed = 0;
+    let mut failed: u64 = 0;
     for read in 20..32 {
         let Some(told) = told_beside_a_fault(&rt, rt.alloc(), read)? else {
             continue;
@@ -162,7 +168,7 @@ fn a_read_that_fails_within_a_search_is_told(rt: HostRuntime) -> Result<(), Fail
         let is_found = told.as_str() == "posted 0 7\nposted 0 7\nbalance 1 5\nclosing\n";
         let has_failed = told.as_str() == "posted 0 7\nrefused Device\nbalance 1 5\nclosing\n";
         assert!(rt; is_found || has_failed);
-        failed += has_failed as u64;
+        failed = failed.saturating_add(has_failed as u64);
     }
     assert!(rt; failed == 1);
     Ok(())
