@@ -134,11 +134,11 @@ def a_device_that_fails(case):
     with case.office(clients, preexec_fn=limit) as office:
         require_same(office.opened(), ["opened 2 next 1 total 5"], "the opening")
         require_same(one.ask("deposit 1 5 7"), ["posted 1 7"], "a posting before the limit")
-        require_same(one.ask("deposit 1 5 8"), ["undecided 8"], "a posting behind the limit")
+        require_same(one.ask("deposit 1 5 8", 2), ["undecided 8", "closing"], "a posting behind the limit")
         require_same((office.status(), office.told()), (1, ["the device failed"]), "the end")
         require_closed(office, 2, 1)
         # the other one was told by the office before, too
-        require_same((one.hear_rest(), other.hear_rest()), (["closing"], ["closing"] * 2), "what is told then")
+        require_same((one.hear_rest(), other.hear_rest()), ([], ["closing"] * 2), "what is told then")
         require_same(office.unanswered(), [], "what is unanswered")
     require_same([row.reference for row in case.rows()], [1, 7], "the references in the file")
     with case.office(clients, preexec_fn=limit) as office:
@@ -195,5 +195,5 @@ def without_threads(case):
     start = time.monotonic()
     with case.formatted(clients, 4, preexec_fn=few_threads) as office:
         require_same((office.status(), office.told()), (1, ["the system refused a thread"]), "the end")
-        require_same(office.printed(), ["formatted 4"], "what is printed")
+        require_same(office.printed(), [], "what is printed")
     require(time.monotonic() - start < 5, f"it takes {time.monotonic() - start} seconds to say so")

@@ -3,7 +3,7 @@
 use crate::course::{AMOUNTS, CALLS, Course, Met, found_by, opened, two_stations};
 use fault_injector::{OneFault, Op};
 use line_lock::{
-    Clerk, Closing, Count, Office, OfficeRefusal, OfficeWork, OpenRefusal, Opening, Seat, Turn,
+    Clerk, Closing, Count, Office, OfficeRefusal, OfficeWork, OpenRefusal, OpenedOn, Seat, Turn,
     TurnRefusal, with_office,
 };
 use sector_device::MemoryDevice;
@@ -23,7 +23,7 @@ struct Walked {
 }
 
 // The seat is told of the fault.
-fn is_told<L: Count + Opening, R: Abort + Wait>(
+fn is_told<L: Count + OpenedOn, R: Abort + Wait>(
     rt: &R,
     office: &Office<Device, L>,
     seat: &mut Seat<L>,
@@ -32,7 +32,7 @@ fn is_told<L: Count + Opening, R: Abort + Wait>(
 }
 
 // Takes the turns, each with the seat whose turn it is, up to the first fault, and then each seat is told of it.
-fn take_turns<L: Count + Opening, R: Abort + Wait>(
+fn take_turns<L: Count + OpenedOn, R: Abort + Wait>(
     rt: &R,
     alloc: Global,
     office: &Office<Device, L>,
@@ -87,7 +87,7 @@ impl<'a, R: Abort + Wait> OfficeWork<Device> for TwoSeats<'a, R> {
 
     type Failure = AllocError;
 
-    fn work<L: Count + Opening + Send + Sync>(
+    fn work<L: Count + OpenedOn + Send + Sync>(
         self,
         office: &Office<Device, L>,
         mut seats: Vec<Seat<L>>,

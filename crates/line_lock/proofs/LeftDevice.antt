@@ -3,7 +3,7 @@ use Rattle.std.proofs.Common.{◌≡◌, sym}
 use Rattle.sector_device.specs.Device.{DeviceState}
 use Rattle.four_state.specs.Configuration.{Configuration}
 use Rattle.turn_clerk.specs.Clerk.{ClerkState, KeepsHistory, LeavesAcknowledged}
-use Rattle.line_lock.specs.Opening.{WasOpenedOn, WasLeftByClerk}
+use Rattle.line_lock.specs.OpenedOn.{WasOpenedOn, WasLeftByClerk}
 
 -- a device that comes from its clerk
 pub left_by : {D : Type 0} (state : D → DeviceState) (device : DeviceState) (from : Configuration) (clerk : ClerkState D) (after : D)

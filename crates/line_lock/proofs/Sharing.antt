@@ -10,7 +10,7 @@ use Rattle.std.specs.declared.sync.ledger.Ledger as ledger
 use Rattle.std.proofs.sync.ledger.Book.TheSendSync as book_sends
 use Rattle.std.proofs.sync.ledger.Share.TheSendSync as share_sends
 use Rattle.turn_clerk.specs.contracts.clerk.Clerk as clerk
-use Rattle.line_lock.specs.declared.opening.Opening as opening
+use Rattle.line_lock.specs.declared.opened_on.OpenedOn as opening
 use Rattle.line_lock.specs.contracts.locked.Locked as locked
 use Rattle.line_lock.specs.contracts.locked.Locked.TheInside as inside
 use Rattle.line_lock.specs.contracts.office.Office as office

@@ -9,7 +9,7 @@ use Rattle.turn_clerk.specs.Found.{IsNumbered, HasFound}
 use Rattle.turn_clerk.specs.declared.searching.Found.{Found}
 use Rattle.turn_clerk.specs.declared.refusals.FindRefusal.{FindRefusal}
 use Rattle.turn_clerk.specs.declared.refusals.FindRefusal.TheVariants as find
-use Rattle.line_lock.specs.Opening.{WasOpenedOn}
+use Rattle.line_lock.specs.OpenedOn.{WasOpenedOn}
 use Rattle.line_lock.specs.Seat.{SeatState}
 use Rattle.line_lock.specs.declared.refusals.BalanceRefusal.{BalanceRefusal}
 use Rattle.line_lock.specs.declared.refusals.BalanceRefusal.TheVariants.{Faulted, NoAccount}

@@ -13,7 +13,7 @@ use Rattle.journal_recovery.specs.declared.refusals.OpenRefusal.TheVariants.{Mem
 use Rattle.turn_clerk.specs.Clerk.{ClerkState, KeepsHistory, LeavesAcknowledged, LeftPrefixEver}
 use Rattle.turn_clerk.specs.History.{moves_of}
 use Rattle.line_lock.specs.Account.{IsBorneOut, failed_turns, seats_of}
-use Rattle.line_lock.specs.Opening.{WasOpenedOn}
+use Rattle.line_lock.specs.OpenedOn.{WasOpenedOn}
 use Rattle.line_lock.specs.Seat.{SeatState, new_seat}
 use Rattle.line_lock.specs.declared.lent.OfficeRefusal.{OfficeRefusal}
 use Rattle.line_lock.specs.declared.lent.OfficeRefusal.TheVariants.{Opening}

@@ -1,6 +1,6 @@
 pub mod Seat
 pub mod Account
-pub mod Opening
+pub mod OpenedOn
 pub mod Told
 pub mod Lent
 pub mod Asked

@@ -8,7 +8,7 @@ use Rattle.turn_clerk.specs.Turn.{HasPrivilege}
 use Rattle.turn_clerk.specs.History.{line_after, state_after_turns}
 use Rattle.turn_clerk.specs.Refused.{Standing, ClerkRefuses}
 use Rattle.turn_ledger.specs.declared.entry.Entry.{Entry}
-use Rattle.line_lock.specs.Opening.{IsHistoryOf}
+use Rattle.line_lock.specs.OpenedOn.{IsHistoryOf}
 use Rattle.line_lock.specs.declared.told.ToldBalance.{ToldBalance}
 
 pub record SeatState : Type 0 where

@@ -2,13 +2,13 @@
 ghost use Rattle.std.specs.Prelude.{◌≡◌, ℕ, List, IfOk, IfErr};
 ghost use Rattle.sector_device.specs.Device.{DeviceState};
 ghost use Rattle.four_state.specs.Configuration.{Configuration, stations};
-ghost use Rattle.line_lock.specs.Opening.{Names, WasLeftByClerk};
+ghost use Rattle.line_lock.specs.OpenedOn.{Names, WasLeftByClerk};
 ghost use Rattle.line_lock.specs.Seat.{SeatState};
 ghost use Rattle.line_lock.specs.Lent.{new_seats, AccountFor, IsClosed, IsRefused, IfOpening, UnlessOpening};
 
 use crate::closing::{CloseRefusal, Closing};
 use crate::office::Office;
-use crate::opening::Opening;
+use crate::opened_on::OpenedOn;
 use crate::seat::Seat;
 use four_state::Line;
 use sector_device::Device;
@@ -35,7 +35,7 @@ pub trait OfficeWork<D: Device>: Drop {
     ghost makes: { Self → DeviceState → Configuration → List SeatState → List SeatState → Self.Answer → Type 0 } = { λ _ _ _ _ _ _. Unit {0} };
 
     /// Works with the seats of an office, that of station 0 first, and gives all of them back.
-    fn work<L: Count + Opening + Send + Sync>(
+    fn work<L: Count + OpenedOn + Send + Sync>(
         self,
         office: &Office<D, L>,
         seats: Vec<Seat<L>>,
@@ -94,7 +94,7 @@ pub fn with_office<D: Device, W: OfficeWork<D>>(
 }
 
 // The same in an office that has a name, which says what it is opened on.
-fn lent<D: Device, L: Count + Opening + Send + Sync, W: OfficeWork<D>>(
+fn lent<D: Device, L: Count + OpenedOn + Send + Sync, W: OfficeWork<D>>(
     alloc: Global,
     device: D,
     line: Line,

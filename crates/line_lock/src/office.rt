@@ -11,7 +11,7 @@ ghost use Rattle.turn_clerk.specs.History.{moves_of};
 ghost use Rattle.turn_clerk.specs.Reply.{turn_of};
 ghost use Rattle.line_lock.specs.Account.{IsBorneOut, failed_turns, seats_of, IsSeatMissing};
 ghost use Rattle.journal_recovery.specs.Refused.{RecoveryRefuses};
-ghost use Rattle.line_lock.specs.Opening.{Names, WasOpenedOn, WasLeftByClerk};
+ghost use Rattle.line_lock.specs.OpenedOn.{Names, WasOpenedOn, WasLeftByClerk};
 ghost use Rattle.line_lock.specs.Seat.{new_seat};
 ghost use Rattle.line_lock.specs.Told.{WasTold};
 ghost use Rattle.line_lock.specs.Asked.{WasToldBalance, WasSearched};
@@ -19,7 +19,7 @@ ghost use Rattle.turn_ledger.specs.State.{IsAccount};
 
 use crate::closing::{CloseRefusal, Closing, audited, gathered, look_at};
 use crate::locked::{Locked, LockedTurn};
-use crate::opening::Opening;
+use crate::opened_on::OpenedOn;
 use crate::refusals::{BalanceRefusal, WithinRefusal};
 use crate::seat::Seat;
 use four_state::Line;
@@ -32,11 +32,11 @@ use turn_ledger::Entry;
 
 /// One clerk that several stations share, one turn at a time.
 #[derive(Drop)]
-pub struct Office<D: Device, L: Count + Opening> {
+pub struct Office<D: Device, L: Count + OpenedOn> {
     locked: Mutex<Locked<D, L>>,
 }
 
-impl<D: Device, L: Count + Opening> Office<D, L> {
+impl<D: Device, L: Count + OpenedOn> Office<D, L> {
     /// Opens the ledger of a device for a line of stations, and hands out a seat for each, station 0 first. All memory
     /// is reserved before any device call. A refusal hands the device back and drops the blank. `L` names the device and
     /// the line, so that closing the office can tell what it was opened on.

@@ -3,7 +3,7 @@ use Rattle.std.specs.Prelude.{◌≡◌, ◌<◌, ℕ, List, length}
 use Rattle.std.specs.List.{slice_index_or}
 use Rattle.sector_device.specs.Device.{DeviceState}
 use Rattle.four_state.specs.Configuration.{Configuration, stations}
-use Rattle.line_lock.specs.Opening.{WasLeftByClerk}
+use Rattle.line_lock.specs.OpenedOn.{WasLeftByClerk}
 use Rattle.station_desk.specs.Rings.{FeedState, AreTogether}
 use Rattle.station_desk.specs.declared.messages.Answer.{Answer}
 use Rattle.office_day.specs.declared.seated.Left.{Left}

@@ -2,7 +2,7 @@
 ghost use Rattle.std.specs.Prelude.{◌≡◌, [], ◌∷◌, ◌++◌, length, map, All, IfOk, OnOk};
 ghost use Rattle.std.specs.List.{AllZip};
 ghost use Rattle.station_desk.specs.Rings.{AreTogether};
-ghost use Rattle.office_day.specs.Counters.{IsFresh};
+ghost use Rattle.office_day.specs.HandedIn.{IsFresh};
 
 use crate::counter::{Counter, Unserved, begin_session, empty_session};
 use crate::dispatcher::{SameFeeds, dispatch};

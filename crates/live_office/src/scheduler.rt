@@ -25,7 +25,7 @@ struct Exchange {
 
 /// What wakes one station.
 #[derive(Drop)]
-struct Post {
+struct Waker {
     parker: Parker,
     // Whether it may have become privileged since it last asked for its turn.
     may_ask: AtomicBool,
@@ -33,9 +33,9 @@ struct Post {
     exchange: Mutex<Exchange>,
 }
 
-impl Post {
-    fn new() -> Post {
-        Post {
+impl Waker {
+    fn new() -> Waker {
+        Waker {
             parker: Parker::new(),
             may_ask: AtomicBool::new(true),
             has_begun: AtomicBool::new(false),
@@ -55,7 +55,7 @@ impl Post {
 /// What the threads of a live office share.
 #[derive(Drop)]
 pub(crate) struct Scheduler {
-    posts: Vec<Post>,
+    wakers: Vec<Waker>,
     // Requests that were submitted, and that no turn has taken.
     waiting: AtomicU64,
     // After so many turns of the office's life one station alone is privileged.
@@ -80,13 +80,13 @@ pub(crate) struct Scheduler {
 impl Scheduler {
     /// For a line of so many stations.
     pub(crate) fn new(alloc: Global, stations: u8) -> Result<Scheduler, AllocError> {
-        let mut posts = Vec::with_capacity(alloc, stations as usize)?;
+        let mut wakers = Vec::with_capacity(alloc, stations as usize)?;
         for _ in 0..stations {
-            posts.push(Post::new())?;
+            wakers.push(Waker::new())?;
         }
         let top = (stations as u64).saturating_sub(1);
         Ok(Scheduler {
-            posts,
+            wakers,
             waiting: AtomicU64::new(0),
             // n² − n + 1 moves, with n for the number of the top station
             healed_after: top * top.saturating_sub(1) + 1,
@@ -112,16 +112,16 @@ impl Scheduler {
 
     /// Puts a question to a station; its report comes later.
     pub(crate) fn put_question<R: Wait>(&self, rt: &R, station: u8, question: Question) {
-        if let Some(post) = self.posts.get(station as usize) {
-            post.exchange.lock(rt).question = Some(question);
-            post.parker.unpark();
+        if let Some(waker) = self.wakers.get(station as usize) {
+            waker.exchange.lock(rt).question = Some(question);
+            waker.parker.unpark();
         }
     }
 
     /// What a station has reported, once.
     pub(crate) fn take_report<R: Wait>(&self, rt: &R, station: u8) -> Option<Report> {
-        let post = self.posts.get(station as usize)?;
-        post.exchange.lock(rt).report.take()
+        let waker = self.wakers.get(station as usize)?;
+        waker.exchange.lock(rt).report.take()
     }
 
     /// The office is to close once all that was submitted is answered.
@@ -168,37 +168,39 @@ impl Scheduler {
     }
 
     fn wake_those_who_may_ask(&self) {
-        for post in &self.posts {
-            if post.may_ask.load(Ordering::SeqCst) {
-                post.parker.unpark();
+        for waker in &self.wakers {
+            if waker.may_ask.load(Ordering::SeqCst) {
+                waker.parker.unpark();
             }
         }
     }
 
     fn wake_all(&self) {
-        for post in &self.posts {
-            post.parker.unpark();
+        for waker in &self.wakers {
+            waker.parker.unpark();
         }
     }
 
     fn let_all_ask(&self) {
-        for post in &self.posts {
-            post.let_ask();
+        for waker in &self.wakers {
+            waker.let_ask();
         }
     }
 
     // Waits until each station has begun. Where that takes too long, as where the system refuses a thread, the office is
     // abandoned.
-    fn await_others<R: Wait>(&self, rt: &R, post: &Post) {
-        if !post.has_begun.swap(true, Ordering::SeqCst) {
+    fn await_others<R: Wait>(&self, rt: &R, waker: &Waker) {
+        if !waker.has_begun.swap(true, Ordering::SeqCst) {
             self.begun.fetch_add(1, Ordering::SeqCst);
             self.wake_all();
         }
         for _ in 0..PATIENCE {
-            if self.begun.load(Ordering::SeqCst) >= self.posts.len() as u64 || self.is_abandoned() {
+            if self.begun.load(Ordering::SeqCst) >= self.wakers.len() as u64
+                || self.is_abandoned()
+            {
                 return;
             }
-            post.parker.park_timeout(rt, Duration::from_millis(PAUSE));
+            waker.parker.park_timeout(rt, Duration::from_millis(PAUSE));
         }
         self.abandoned.store(true, Ordering::SeqCst);
     }
@@ -210,17 +212,19 @@ impl Scheduler {
     }
 
     // What a station is to do now, if there is anything.
-    fn due<R: Wait>(&self, rt: &R, post: &Post) -> Option<Errand> {
+    fn due<R: Wait>(&self, rt: &R, waker: &Waker) -> Option<Errand> {
         if self.goes_home() {
             return Some(Errand::Close);
         }
         if self.stopping.load(Ordering::SeqCst) {
             return Some(Errand::Turn);
         }
-        if let Some(question) = post.exchange.lock(rt).question.take() {
+        if let Some(question) = waker.exchange.lock(rt).question.take() {
             return Some(Errand::Ask(question));
         }
-        if self.waiting.load(Ordering::SeqCst) == 0 || !post.may_ask.swap(false, Ordering::SeqCst) {
+        if self.waiting.load(Ordering::SeqCst) == 0
+            || !waker.may_ask.swap(false, Ordering::SeqCst)
+        {
             return None;
         }
         Some(Errand::Turn)
@@ -240,8 +244,8 @@ impl Scheduler {
             Rule::Bottom | Rule::Raise => turn.station.saturating_add(1),
             Rule::Top | Rule::Lower => turn.station.saturating_sub(1),
         };
-        if let Some(post) = self.posts.get(next as usize) {
-            post.let_ask();
+        if let Some(waker) = self.wakers.get(next as usize) {
+            waker.let_ask();
         }
     }
 
@@ -252,31 +256,31 @@ impl Scheduler {
         self.begun.store(0, Ordering::SeqCst);
         self.ended.store(0, Ordering::SeqCst);
         self.stopping.store(false, Ordering::SeqCst);
-        for post in &self.posts {
-            post.has_begun.store(false, Ordering::SeqCst);
-            post.may_ask.store(true, Ordering::SeqCst);
+        for waker in &self.wakers {
+            waker.has_begun.store(false, Ordering::SeqCst);
+            waker.may_ask.store(true, Ordering::SeqCst);
         }
     }
 }
 
 impl Gate for Scheduler {
     fn errand<R: Wait>(&self, rt: &R, station: u8) -> Errand {
-        let Some(post) = self.posts.get(station as usize) else {
+        let Some(waker) = self.wakers.get(station as usize) else {
             return Errand::Close;
         };
-        self.await_others(rt, post);
+        self.await_others(rt, waker);
         for _ in rt.forever() {
-            if let Some(errand) = self.due(rt, post) {
+            if let Some(errand) = self.due(rt, waker) {
                 return errand;
             }
-            post.parker.park(rt);
+            waker.parker.park(rt);
         }
         unreachable!()
     }
 
     fn reported<R: Wait>(&self, rt: &R, station: u8, report: Report) {
-        if let Some(post) = self.posts.get(station as usize) {
-            post.exchange.lock(rt).report = Some(report);
+        if let Some(waker) = self.wakers.get(station as usize) {
+            waker.exchange.lock(rt).report = Some(report);
         }
         self.wake_dispatcher();
     }
@@ -301,7 +305,7 @@ impl Gate for Scheduler {
     fn ended(&self, _station: u8) {
         self.stopping.store(true, Ordering::SeqCst);
         let before = self.ended.fetch_add(1, Ordering::SeqCst);
-        if before.saturating_add(1) == self.posts.len() as u64 {
+        if before.saturating_add(1) == self.wakers.len() as u64 {
             self.begin_anew();
         } else {
             self.wake_all();

@@ -25,7 +25,7 @@ use Rattle.turn_clerk.specs.Clerk.{ClerkState}
 use Rattle.station_desk.specs.declared.end.End.{End}
 use Rattle.office_day.specs.Ended.{HasEnded}
 use Rattle.office_day.proofs.Ended.{has_ended}
-use Rattle.office_day.specs.Counters.{HasHandedIn, IsFresh}
+use Rattle.office_day.specs.HandedIn.{HasHandedIn, IsFresh}
 use Rattle.office_day.specs.Day.{HadDay, HadTheirDay, IsReconciled, AreReconciled, HaveServed}
 use Rattle.office_day.proofs.Lists.{AllZip-at, first}
 

@@ -22,7 +22,7 @@ use Rattle.station_desk.specs.declared.end.End.TheVariants.{NotStarted, Reached,
 use Rattle.station_desk.specs.Rings.{AreTogether}
 use Rattle.office_day.specs.declared.reconciled.StationDay.{StationDay}
 use Rattle.office_day.specs.declared.seated.Left.{Left}
-use Rattle.office_day.specs.Counters.{HasHandedIn}
+use Rattle.office_day.specs.HandedIn.{HasHandedIn}
 use Rattle.office_day.specs.Day.{HadTheirDay, failures, failures_told}
 use Rattle.office_day.proofs.Days.{Parts, Went, length-new_seats, new_seat_at}
 use Rattle.office_day.proofs.Lists.{sum_by-alike, first}

@@ -27,7 +27,7 @@ use Rattle.station_desk.specs.Worked.{HasWorked}
 use Rattle.office_day.specs.declared.seated.Left.{Left}
 use Rattle.line_lock.specs.declared.lent.OfficeRefusal.{OfficeRefusal}
 use Rattle.office_day.specs.declared.reconciled.StationDay.{StationDay}
-use Rattle.office_day.specs.Counters.{IsFresh}
+use Rattle.office_day.specs.HandedIn.{IsFresh}
 use Rattle.office_day.specs.Day.{HaveServed, IsReconciled, AreReconciled}
 use Rattle.station_desk.specs.declared.end.End.{End}
 use Rattle.office_day.specs.Ended.{HasEnded}

@@ -1,4 +1,4 @@
-pub mod Counters
+pub mod HandedIn
 pub mod Left
 pub mod Refusal
 pub mod Day

@@ -9,7 +9,7 @@ use Rattle.turn_clerk.specs.Clerk.{ClerkState}
 use Rattle.line_lock.specs.Account.{turns_of}
 use Rattle.line_lock.specs.declared.lent.OfficeRefusal.{OfficeRefusal}
 use Rattle.line_lock.specs.Lent.{IsClosed, IsRefused, IfOpening, UnlessOpening}
-use Rattle.line_lock.specs.Opening.{WasLeftByClerk}
+use Rattle.line_lock.specs.OpenedOn.{WasLeftByClerk}
 use Rattle.station_desk.specs.declared.messages.Ask.{Ask}
 use Rattle.station_desk.specs.declared.messages.Answer.{Answer}
 use Rattle.station_desk.specs.Messages.{entries_of, asks_of, outcomes_in, AreNumberedFrom}

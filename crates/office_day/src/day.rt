@@ -8,12 +8,12 @@ ghost use Rattle.sweep_auditor.specs.Audited.{IsAuditOf};
 ghost use Rattle.turn_clerk.specs.Clerk.{KeepsHistory, LeavesAcknowledged, LeftPrefixEver};
 ghost use Rattle.turn_clerk.specs.History.{moves_of};
 ghost use Rattle.journal_recovery.specs.Refused.{RecoveryRefuses};
-ghost use Rattle.line_lock.specs.Opening.{WasOpenedOn, WasLeftByClerk};
+ghost use Rattle.line_lock.specs.OpenedOn.{WasOpenedOn, WasLeftByClerk};
 ghost use Rattle.line_lock.specs.Account.{failed_turns};
 ghost use Rattle.office_day.specs.Day.{HadTheirDay, failures_told};
 ghost use Rattle.office_day.specs.Refusal.{IfOpening, UnlessOpening, day_refusal};
 
-use crate::counters::counters;
+use crate::handing_in::hand_in_all;
 use crate::held_entries::HeldEntries;
 use crate::office_run::run_office;
 use crate::reconciled::{StationDay, all_reconciled};
@@ -104,7 +104,7 @@ pub fn run_day<D: Device + Send, R: Threads + Wait + Sync>(
         refusal ≢ OpenRefusal.Device → RecoveryRefuses (D.state device).reads refusal)) }
     ensures not_memory { IfErr result (λ e. e.1 ≢ DayRefusal.Opening OpenRefusal.Memory) }
 {
-    let Ok((feeds, desks)) = counters(alloc, held) else {
+    let Ok((feeds, desks)) = hand_in_all(alloc, held) else {
         return Err((device, DayRefusal::Memory));
     };
     let run = run_office(rt, alloc, device, line, desks, &NobodyLooks, moves, tries);

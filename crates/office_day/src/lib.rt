@@ -4,8 +4,8 @@
 //! The test `a_day_accounts_for_each_request` in `src/stations/day.rt` of the crate `station_tests` is an example.
 #![tactic(auto)]
 
-mod counters;
 mod day;
+mod handing_in;
 mod held_entries;
 mod office_run;
 mod reconciled;

@@ -1,13 +1,13 @@
 //! An office that is opened for its stations, runs, and is closed.
 ghost use Rattle.std.specs.Prelude.{◌≡◌, ◌-◌, List, length, IfOk, IfErr};
 ghost use Rattle.four_state.specs.Configuration.{stations};
-ghost use Rattle.line_lock.specs.Opening.{Names, WasLeftByClerk};
+ghost use Rattle.line_lock.specs.OpenedOn.{Names, WasLeftByClerk};
 ghost use Rattle.line_lock.specs.Seat.{SeatState};
 ghost use Rattle.line_lock.specs.Lent.{new_seats, AccountFor, IsClosed, IsRefused, IfOpening, UnlessOpening};
 ghost use Rattle.office_day.specs.Day.{HaveServed};
 
 use crate::seated::{Left, risen, seated};
-use line_lock::{Blank, Closing, Count, Device, Line, Office, OfficeRefusal, Opening, Seat};
+use line_lock::{Blank, Closing, Count, Device, Line, Office, OfficeRefusal, OpenedOn, Seat};
 use station_desk::{Desk, Gate, run_stations};
 use std::alloc::{AllocError, Global};
 use std::marker::Brand;
@@ -59,7 +59,7 @@ pub fn run_office<D: Device + Send, G: Gate + Sync, R: Threads + Wait + Sync>(
 // The same in an office that has a name, which says what it is opened on.
 fn named_run<
     D: Device + Send,
-    L: Count + Opening + Send + Sync,
+    L: Count + OpenedOn + Send + Sync,
     G: Gate + Sync,
     R: Threads + Wait + Sync,
 >(
@@ -100,7 +100,7 @@ fn named_run<
 // The stations take their seats, run, and rise again.
 fn served<
     D: Device + Send,
-    L: Count + Opening + Send + Sync,
+    L: Count + OpenedOn + Send + Sync,
     G: Gate + Sync,
     R: Threads + Wait + Sync,
 >(

@@ -1,7 +1,7 @@
 //! An office that stays open: it is closed and opened again, on one device and one line, as often as it takes.
 ghost use Rattle.std.specs.Prelude.{◌≡◌, ◌↔◌, [], length, map, All, IsTrue, IfOk, IfErr};
 ghost use Rattle.four_state.specs.Configuration.{stations};
-ghost use Rattle.line_lock.specs.Opening.{WasLeftByClerk};
+ghost use Rattle.line_lock.specs.OpenedOn.{WasLeftByClerk};
 ghost use Rattle.line_lock.specs.Lent.{IsRefused, IfOpening, UnlessOpening};
 ghost use Rattle.station_desk.specs.declared.end.End.TheVariants.{Reached};
 ghost use Rattle.office_day.specs.Spans.{adjourned_to, span_of, IsSpan, HaveLeft, HasLived, WasBrokenOff};

@@ -1,7 +1,7 @@
 //! An office: its opening, and turns through its seats.
 use crate::beginnings::{Noted, line, noted, told};
 use line_lock::{
-    Closing, Count, Office, OfficeRefusal, OfficeWork, OpenRefusal, Opening, Seat, TurnRefusal,
+    Closing, Count, Office, OfficeRefusal, OfficeWork, OpenRefusal, OpenedOn, Seat, TurnRefusal,
     WithinRefusal, with_office,
 };
 use std::alloc::Global;
@@ -31,7 +31,7 @@ fn is_new<L: Count>(rt: &impl Abort, seat: &Seat<L>) {
 }
 
 // Running out of memory for a place in a seat's list comes before every other refusal, and leaves the seat as it was.
-fn asks_in_vain<L: Count + Opening, R: Abort + Wait + Print>(
+fn asks_in_vain<L: Count + OpenedOn, R: Abort + Wait + Print>(
     rt: &R,
     office: &Office<Noted, L>,
     bottom: &mut Seat<L>,
@@ -56,7 +56,7 @@ fn asks_in_vain<L: Count + Opening, R: Abort + Wait + Print>(
 }
 
 // A turn of a seat with a place in its list: under the lock there may be no memory for the history, or for the device.
-fn takes_a_turn<L: Count + Opening, R: Abort + Wait + Print>(
+fn takes_a_turn<L: Count + OpenedOn, R: Abort + Wait + Print>(
     rt: &R,
     office: &Office<Noted, L>,
     seat: &mut Seat<L>,
@@ -87,7 +87,7 @@ fn takes_a_turn<L: Count + Opening, R: Abort + Wait + Print>(
 }
 
 // Six turns, each with the seat whose turn it is, up to the first fault.
-fn takes_turns<L: Count + Opening, R: Abort + Wait + Print>(
+fn takes_turns<L: Count + OpenedOn, R: Abort + Wait + Print>(
     rt: &R,
     office: &Office<Noted, L>,
     bottom: &mut Seat<L>,
@@ -109,7 +109,7 @@ impl<'a, R: Abort + Wait + Print> OfficeWork<Noted> for TwoSeats<'a, R> {
 
     type Failure = Infallible;
 
-    fn work<L: Count + Opening + Send + Sync>(
+    fn work<L: Count + OpenedOn + Send + Sync>(
         self,
         office: &Office<Noted, L>,
         mut seats: Vec<Seat<L>>,

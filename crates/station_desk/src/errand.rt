@@ -2,7 +2,7 @@
 ghost use Rattle.line_lock.specs.Asked.{NotesAlone};
 ghost use Rattle.station_desk.specs.Asked.{IsReportOn};
 
-use line_lock::{BalanceRefusal, Count, FindRefusal, Found, Office, Opening, Seat};
+use line_lock::{BalanceRefusal, Count, FindRefusal, Found, Office, OpenedOn, Seat};
 use sector_device::Device;
 use std::sync::Wait;
 
@@ -41,7 +41,7 @@ pub enum Report {
 }
 
 // What the office answers to a question of the station at this seat.
-pub(crate) fn put_question<D: Device, L: Count + Opening, R: Wait>(
+pub(crate) fn put_question<D: Device, L: Count + OpenedOn, R: Wait>(
     rt: &R,
     office: &Office<D, L>,
     seat: &mut Seat<L>,

@@ -25,7 +25,7 @@ pub use end::End;
 pub use errand::{Errand, Question, Report};
 pub use feed::Feed;
 pub use gate::Gate;
-pub use line_lock::{BalanceRefusal, Count, FindRefusal, Found, Office, Opening, Seat};
+pub use line_lock::{BalanceRefusal, Count, FindRefusal, Found, Office, OpenedOn, Seat};
 pub use messages::{Answer, Ask, Outcome};
 pub use reconciling::{Reconciled, reconcile};
 pub use rings::desk;

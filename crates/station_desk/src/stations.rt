@@ -10,7 +10,7 @@ use crate::desk_end::Desk;
 use crate::end::End;
 use crate::errand::{Errand, put_question};
 use crate::gate::Gate;
-use line_lock::{Count, Office, Opening, Seat, WithinRefusal};
+use line_lock::{Count, Office, OpenedOn, Seat, WithinRefusal};
 use sector_device::Device;
 use std::sync::Wait;
 use std::sync::atomic::{AtomicBool, Ordering};
@@ -30,7 +30,7 @@ pub struct Station<L: Count> {
 }
 
 // One round: a turn with all that is gathered, and an answer for each.
-fn round<D: Device, L: Count + Opening, G: Gate, R: Wait>(
+fn round<D: Device, L: Count + OpenedOn, G: Gate, R: Wait>(
     rt: &R,
     office: &Office<D, L>,
     seat: &mut Seat<L>,
@@ -101,7 +101,7 @@ fn end_of(refusal: WithinRefusal) -> Option<End>
 }
 
 // Rounds of a station until it ends, and how it ends.
-fn work<D: Device, L: Count + Opening, G: Gate, R: Wait>(
+fn work<D: Device, L: Count + OpenedOn, G: Gate, R: Wait>(
     rt: &R,
     office: &Office<D, L>,
     seat: &mut Seat<L>,
@@ -152,7 +152,7 @@ fn work<D: Device, L: Count + Opening, G: Gate, R: Wait>(
 }
 
 // The run of one station; one that ends otherwise than as Reached or Closed stops the others.
-fn run_station<D: Device, L: Count + Opening, G: Gate, R: Wait>(
+fn run_station<D: Device, L: Count + OpenedOn, G: Gate, R: Wait>(
     rt: &R,
     office: &Office<D, L>,
     station: &mut Station<L>,
@@ -180,7 +180,7 @@ fn run_station<D: Device, L: Count + Opening, G: Gate, R: Wait>(
 /// stations run one after another. The call may wait.
 pub fn run_stations<
     D: Device + Send,
-    L: Count + Opening + Send + Sync,
+    L: Count + OpenedOn + Send + Sync,
     G: Gate + Sync,
     R: Threads + Wait + Sync,
 >(rt: &R, office: &Office<D, L>, stations: &mut [Station<L>], gate: &G, moves: u64, tries: u64)

@@ -11,7 +11,7 @@ mod moments;
 mod runs;
 mod tries;
 
-use line_lock::{Closing, Count, Office, Opening, Seat};
+use line_lock::{Closing, Count, Office, OpenedOn, Seat};
 use sector_device::Device;
 use station_desk::{End, Feed, Reconciled, Station, desk, reconcile};
 use std::alloc::{AllocError, Global};
@@ -75,7 +75,7 @@ fn reconciled<L: Count>(
 }
 
 // Closes the office, or fails the test.
-fn closed<D: Device, L: Count + Opening>(
+fn closed<D: Device, L: Count + OpenedOn>(
     rt: &impl Abort,
     office: Office<D, L>,
     seats: Vec<Seat<L>>,

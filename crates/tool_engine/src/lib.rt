@@ -18,9 +18,9 @@ mod sound_ledger;
 mod unsound_ledger;
 
 pub use command_line::read_request;
+pub use device_drawing::Place;
 pub use end::{End, end_of};
 pub use file_device::{FileFault, Locking};
-pub use ledger_map::Place;
 pub use ledger_printing::{Date, Format, JournalWish, Progress, Selection};
 pub use ledger_reading::{Cause, Device, OpenRefusal};
 pub use meter::Meter;

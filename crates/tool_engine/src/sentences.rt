@@ -1,5 +1,5 @@
 //! What is told of a file in a sentence.
-use ledger_map::Place;
+use device_drawing::Place;
 use ledger_reading::{Cause, OpenRefusal};
 use std::fmt;
 

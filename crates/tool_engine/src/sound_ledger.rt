@@ -2,7 +2,7 @@
 ghost use Rattle.std.specs.Prelude.{◌≡◌, ◌+◌, ◌≤◌};
 
 use crate::request::Task;
-use ledger_map::{DrawFault, Place, draw};
+use device_drawing::{DrawFault, Place, draw};
 use ledger_printing::{PrintFault, Progress, print_balances, print_journal};
 use ledger_reading::{AnyJournal, Device, Numbers, ReadRefusal, Sound};
 use script_streams::{Output, StreamFault};

@@ -3,7 +3,7 @@ ghost use Rattle.std.specs.Prelude.{◌≡◌, ◌↔◌, true, false};
 
 use crate::request::Task;
 use crate::sentences::Damage;
-use ledger_map::locate;
+use device_drawing::locate;
 use ledger_reading::{Device, OpenRefusal};
 
 /// What is wrong with the device that was refused so. A second look at it finds the place; if that look fails, the

@@ -1,9 +1,9 @@
 //! Two threads of a caller.
 ghost use Rattle.std.specs.Prelude.{◌<◌, length};
 ghost use Rattle.sector_device.specs.MemoryDevice.{memory_device_state};
-ghost use Rattle.line_lock.specs.Opening.{Names};
+ghost use Rattle.line_lock.specs.OpenedOn.{Names};
 
-use line_lock::{Blank, Closing, Count, Line, Office, Opening, Seat, Turn, TurnRefusal};
+use line_lock::{Blank, Closing, Count, Line, Office, OpenedOn, Seat, Turn, TurnRefusal};
 use sector_device::{Device, MemoryDevice};
 use std::alloc::Global;
 use std::marker::Brand;
@@ -20,7 +20,7 @@ const MOST_REFUSALS: u32 = 10_000_000;
 
 // Takes turns until the seat has all of them; a station whose turn it isn't lets others go on, and one that is refused
 // for another reason stops them.
-fn take_turns<D: Device, L: Count + Opening, R: Wait>(
+fn take_turns<D: Device, L: Count + OpenedOn, R: Wait>(
     rt: &R,
     office: &Office<D, L>,
     seat: &mut Seat<L>,
@@ -39,7 +39,7 @@ fn take_turns<D: Device, L: Count + Opening, R: Wait>(
 }
 
 // Each seat's turns in a thread of its own.
-fn take_all_turns<D: Device + Send, L: Count + Opening + Send + Sync, R: Wait + Threads + Sync>(
+fn take_all_turns<D: Device + Send, L: Count + OpenedOn + Send + Sync, R: Wait + Threads + Sync>(
     rt: &R,
     office: &Office<D, L>,
     seats: &mut [Seat<L>],
@@ -64,7 +64,7 @@ fn took_turns(rt: &impl Abort, history: &[Turn]) {
     }
 }
 
-fn two_callers_in<L: Count + Opening + Send + Sync, R: Abort + Wait + Threads + Sync>(
+fn two_callers_in<L: Count + OpenedOn + Send + Sync, R: Abort + Wait + Threads + Sync>(
     rt: &R,
     alloc: Global,
     device: MemoryDevice,

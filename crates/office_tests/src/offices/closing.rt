@@ -1,10 +1,10 @@
 //! Closing: what is missing, what is foreign, and what is handed back. Who closes an office twice, or not at all, opens it
 //! by hand. Each office has a book of its own, so such a test is a scene that is played in whichever office it is given.
 ghost use Rattle.sector_device.specs.MemoryDevice.{memory_device_state};
-ghost use Rattle.line_lock.specs.Opening.{Names};
+ghost use Rattle.line_lock.specs.OpenedOn.{Names};
 
 use line_lock::{
-    Blank, Clerk, CloseRefusal, Closing, Count, Line, Office, OfficeWork, Opening, Seat, Turn,
+    Blank, Clerk, CloseRefusal, Closing, Count, Line, Office, OfficeWork, OpenedOn, Seat, Turn,
     TurnRefusal, with_office,
 };
 use sector_device::MemoryDevice;
@@ -17,7 +17,7 @@ use test_scenes::{deposit, formatted, line};
 
 // What is done with an office of two stations.
 trait Scene {
-    fn play<L: Count + Opening, R: Abort + Wait>(
+    fn play<L: Count + OpenedOn, R: Abort + Wait>(
         rt: &R,
         office: Office<MemoryDevice, L>,
         seats: Vec<Seat<L>>,
@@ -32,7 +32,7 @@ fn act<S: Scene, R: Abort + Wait>(rt: &R, alloc: Global) -> Result<(), Fail> {
     act_in::<S, Brand, R>(rt, alloc, device, line, blank)
 }
 
-fn act_in<S: Scene, L: Count + Opening, R: Abort + Wait>(
+fn act_in<S: Scene, L: Count + OpenedOn, R: Abort + Wait>(
     rt: &R,
     alloc: Global,
     device: MemoryDevice,
@@ -48,7 +48,7 @@ fn act_in<S: Scene, L: Count + Opening, R: Abort + Wait>(
 }
 
 // Turns 0 and 1 of an office.
-fn one_turn_each<L: Count + Opening, R: Abort + Wait>(
+fn one_turn_each<L: Count + OpenedOn, R: Abort + Wait>(
     rt: &R,
     office: &Office<MemoryDevice, L>,
     bottom: &mut Seat<L>,
@@ -65,7 +65,7 @@ fn one_turn_each<L: Count + Opening, R: Abort + Wait>(
 struct OneSeatIsMissing;
 
 impl Scene for OneSeatIsMissing {
-    fn play<L: Count + Opening, R: Abort + Wait>(
+    fn play<L: Count + OpenedOn, R: Abort + Wait>(
         rt: &R,
         office: Office<MemoryDevice, L>,
         mut seats: Vec<Seat<L>>,
@@ -101,7 +101,7 @@ impl OfficeWork<MemoryDevice> for NobodyTakesATurn {
 
     type Failure = AllocError;
 
-    fn work<L: Count + Opening + Send + Sync>(
+    fn work<L: Count + OpenedOn + Send + Sync>(
         self,
         _office: &Office<MemoryDevice, L>,
         seats: Vec<Seat<L>>,
@@ -144,7 +144,7 @@ fn close_keeps_opening(rt: HostRuntime) -> Result<(), Fail> {
 struct NobodyCloses;
 
 impl Scene for NobodyCloses {
-    fn play<L: Count + Opening, R: Abort + Wait>(
+    fn play<L: Count + OpenedOn, R: Abort + Wait>(
         rt: &R,
         office: Office<MemoryDevice, L>,
         mut seats: Vec<Seat<L>>,

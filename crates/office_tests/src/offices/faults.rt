@@ -2,7 +2,7 @@
 
 use fault_injector::{OneFault, Op};
 use line_lock::{
-    BalanceRefusal, Closing, Count, FindRefusal, Office, OfficeWork, Opening, Seat, TurnRefusal,
+    BalanceRefusal, Closing, Count, FindRefusal, Office, OfficeWork, OpenedOn, Seat, TurnRefusal,
     with_office,
 };
 use sector_device::MemoryDevice;
@@ -24,7 +24,7 @@ impl<'a, R: Abort + Wait> OfficeWork<Failing> for TheDeviceFails<'a, R> {
 
     type Failure = TurnRefusal;
 
-    fn work<L: Count + Opening + Send + Sync>(
+    fn work<L: Count + OpenedOn + Send + Sync>(
         self,
         office: &Office<Failing, L>,
         mut seats: Vec<Seat<L>>,

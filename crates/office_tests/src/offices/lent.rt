@@ -1,7 +1,7 @@
 //! An office that is lent to a piece of work, and isn't closed.
 
 use line_lock::{
-    CloseRefusal, Count, Office, OfficeRefusal, OfficeWork, OpenRefusal, Opening, Seat,
+    CloseRefusal, Count, Office, OfficeRefusal, OfficeWork, OpenRefusal, OpenedOn, Seat,
     TurnRefusal, with_office,
 };
 use sector_device::MemoryDevice;
@@ -21,7 +21,7 @@ impl OfficeWork<MemoryDevice> for NoGoodWork {
 
     type Failure = TurnRefusal;
 
-    fn work<L: Count + Opening + Send + Sync>(
+    fn work<L: Count + OpenedOn + Send + Sync>(
         self,
         _office: &Office<MemoryDevice, L>,
         mut seats: Vec<Seat<L>>,

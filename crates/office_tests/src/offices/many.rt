@@ -1,6 +1,6 @@
 //! Many turns in one office.
 
-use line_lock::{Closing, Count, Office, OfficeWork, Opening, Seat, TurnRefusal, with_office};
+use line_lock::{Closing, Count, Office, OfficeWork, OpenedOn, Seat, TurnRefusal, with_office};
 use sector_device::MemoryDevice;
 use std::process::Abort;
 use std::sync::Wait;
@@ -20,7 +20,7 @@ impl<'a, R: Abort + Wait> OfficeWork<MemoryDevice> for SeventyThousandTurnsEach<
 
     type Failure = TurnRefusal;
 
-    fn work<L: Count + Opening + Send + Sync>(
+    fn work<L: Count + OpenedOn + Send + Sync>(
         self,
         office: &Office<MemoryDevice, L>,
         mut seats: Vec<Seat<L>>,

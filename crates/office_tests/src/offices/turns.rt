@@ -1,7 +1,7 @@
 //! What a seat is answered.
 
 use line_lock::{
-    BalanceRefusal, Clerk, Closing, Count, Found, Office, OfficeWork, Opening, Rule, Seat,
+    BalanceRefusal, Clerk, Closing, Count, Found, Office, OfficeWork, OpenedOn, Rule, Seat,
     ToldBalance, Turn, TurnRefusal, WithinRefusal, with_office,
 };
 use sector_device::MemoryDevice;
@@ -21,7 +21,7 @@ impl<'a, R: Abort + Wait> OfficeWork<MemoryDevice> for OneTurnAfterTheOther<'a, 
 
     type Failure = WithinRefusal;
 
-    fn work<L: Count + Opening + Send + Sync>(
+    fn work<L: Count + OpenedOn + Send + Sync>(
         self,
         office: &Office<MemoryDevice, L>,
         mut seats: Vec<Seat<L>>,
@@ -50,7 +50,7 @@ const SHOWN: &str =
     "Office { .. } Seat { station: 1, turns: 1, denied: Some(2), reached: 1, told: Some(ToldBalance { account: 1, amount: 5, turns: 2 }), was_faulted: false, .. }";
 
 // The seat is told what account 1 holds, where the history has so many turns.
-fn is_told<L: Count + Opening, R: Abort + Wait>(
+fn is_told<L: Count + OpenedOn, R: Abort + Wait>(
     rt: &R,
     office: &Office<MemoryDevice, L>,
     seat: &mut Seat<L>,
@@ -69,7 +69,7 @@ fn is_told<L: Count + Opening, R: Abort + Wait>(
 }
 
 // The seat is denied a turn, which would have had this index.
-fn is_denied<L: Count + Opening, R: Abort + Wait>(
+fn is_denied<L: Count + OpenedOn, R: Abort + Wait>(
     rt: &R,
     office: &Office<MemoryDevice, L>,
     seat: &mut Seat<L>,
@@ -80,7 +80,7 @@ fn is_denied<L: Count + Opening, R: Abort + Wait>(
 }
 
 // The first turn is the bottom station's, which is denied a second one; before it the top station is denied.
-fn bottom_turn<L: Count + Opening, R: Abort + Wait>(
+fn bottom_turn<L: Count + OpenedOn, R: Abort + Wait>(
     rt: &R,
     office: &Office<MemoryDevice, L>,
     bottom: &mut Seat<L>,
@@ -97,7 +97,7 @@ fn bottom_turn<L: Count + Opening, R: Abort + Wait>(
 }
 
 // The second turn is the top station's, where two are wanted and not where one is; it is denied a third one.
-fn top_turn<L: Count + Opening, R: Abort + Wait>(
+fn top_turn<L: Count + OpenedOn, R: Abort + Wait>(
     rt: &R,
     office: &Office<MemoryDevice, L>,
     top: &mut Seat<L>,
@@ -113,7 +113,7 @@ fn top_turn<L: Count + Opening, R: Abort + Wait>(
     Ok(second)
 }
 
-fn is_denied_within_three<L: Count + Opening, R: Abort + Wait>(
+fn is_denied_within_three<L: Count + OpenedOn, R: Abort + Wait>(
     rt: &R,
     office: &Office<MemoryDevice, L>,
     top: &mut Seat<L>,

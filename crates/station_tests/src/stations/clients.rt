@@ -1,13 +1,13 @@
 //! Clients that submit and collect while the stations take turns. Like its neighbour it needs threads at once.
 ghost use Rattle.std.specs.Prelude.{◌≡◌, map, IfOk};
 ghost use Rattle.sector_device.specs.MemoryDevice.{memory_device_state};
-ghost use Rattle.line_lock.specs.Opening.{Names};
+ghost use Rattle.line_lock.specs.OpenedOn.{Names};
 ghost use Rattle.station_desk.specs.PairLaws.{AllStandAt};
 ghost use Rattle.station_desk.specs.Rings.{StandsAt};
 ghost use Rattle.station_desk.specs.Run.{HaveRun};
 
 use super::{Remains, TRIES, closed, reconciled, seated};
-use line_lock::{Blank, Closing, Count, Line, Office, Opening};
+use line_lock::{Blank, Closing, Count, Line, Office, OpenedOn};
 use sector_device::{Device, MemoryDevice};
 use station_desk::{
     Answer, End, Errand, Feed, Gate, Outcome, Reconciled, Station, Turn, run_stations,
@@ -156,7 +156,7 @@ impl Gate for InTurn {
 }
 
 // Runs the stations, and beside them the clients until the stations have ended.
-fn run_beside<D: Device + Send, L: Count + Opening + Send + Sync, R: Wait + Threads + Sync>(
+fn run_beside<D: Device + Send, L: Count + OpenedOn + Send + Sync, R: Wait + Threads + Sync>(
     rt: &R,
     office: &Office<D, L>,
     stations: &mut [Station<L>],
@@ -223,7 +223,7 @@ fn posted(rt: &impl Abort, tally: Tally, account: &Reconciled) -> u64 {
     answered
 }
 
-fn many_moves<L: Count + Opening + Send + Sync, R: Abort + Wait + Threads + Sync>(
+fn many_moves<L: Count + OpenedOn + Send + Sync, R: Abort + Wait + Threads + Sync>(
     rt: &R,
     alloc: Global,
     device: MemoryDevice,

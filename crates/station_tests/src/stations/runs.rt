@@ -1,8 +1,8 @@
 //! A run of some stations of a line, with a gate that a test gives.
 ghost use Rattle.sector_device.specs.MemoryDevice.{memory_device_state};
-ghost use Rattle.line_lock.specs.Opening.{Names};
+ghost use Rattle.line_lock.specs.OpenedOn.{Names};
 
-use line_lock::{Blank, Count, Line, Office, Opening, Turn};
+use line_lock::{Blank, Count, Line, Office, OpenedOn, Turn};
 use sector_device::MemoryDevice;
 use station_desk::{Desk, End, Gate, Station, desk, run_stations};
 use std::alloc::{AllocError, Global};
@@ -43,7 +43,7 @@ pub(super) fn played<'a, G: Gate + Sync, R: Abort + Wait + Threads + Sync>(
     play_in::<G, Brand, R>(rt, alloc, device, line, blank, run)
 }
 
-fn play_in<'a, G: Gate + Sync, L: Count + Opening + Send + Sync, R: Abort + Wait + Threads + Sync>(
+fn play_in<'a, G: Gate + Sync, L: Count + OpenedOn + Send + Sync, R: Abort + Wait + Threads + Sync>(
     rt: &R,
     alloc: Global,
     device: MemoryDevice,

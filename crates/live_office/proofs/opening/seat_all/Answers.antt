@@ -3,7 +3,7 @@ use Rattle.std.specs.List.{AllZip}
 use Rattle.std.proofs.lemmas.List.{length-append, map-append}
 use Rattle.std.proofs.lemmas.List.Elements.{All-push}
 use Rattle.station_desk.specs.Rings.{FeedState, DeskState, AreTogether}
-use Rattle.office_day.specs.Counters.{IsFresh}
+use Rattle.office_day.specs.HandedIn.{IsFresh}
 use Rattle.office_day.proofs.Lists.{AllZip-more}
 use Rattle.live_office.specs.declared.session.Session.{Session}
 use Rattle.live_office.proofs.opening.seat_all.Goals as goal

@@ -1,7 +1,7 @@
 use Rattle.std.proofs.Common.{◌≡◌, length, map, All}
 use Rattle.std.specs.List.{AllZip}
 use Rattle.station_desk.specs.Rings.{AreTogether}
-use Rattle.office_day.specs.Counters.{IsFresh}
+use Rattle.office_day.specs.HandedIn.{IsFresh}
 use Rattle.live_office.proofs.opening.seat_all.Given as goal
 
 -- the stations so far: each session's feed is together with its desk, which is fresh

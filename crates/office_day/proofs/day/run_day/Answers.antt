@@ -8,7 +8,7 @@ use Rattle.journal_recovery.specs.Refused.{RecoveryRefuses}
 use Rattle.journal_recovery.specs.declared.refusals.OpenRefusal.TheVariants.{Device}
 use Rattle.line_lock.specs.Lent.{new_seats}
 use Rattle.station_desk.specs.Rings.{FeedState, DeskState, AreTogether}
-use Rattle.office_day.specs.Counters.{HasHandedIn}
+use Rattle.office_day.specs.HandedIn.{HasHandedIn}
 use Rattle.office_day.specs.Day.{HaveServed}
 use Rattle.office_day.specs.Refusal.{IfOpening}
 use Rattle.office_day.specs.declared.refusals.DayRefusal.{DayRefusal}

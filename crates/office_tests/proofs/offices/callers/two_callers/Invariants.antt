@@ -4,5 +4,5 @@ use Rattle.office_tests.proofs.offices.callers.two_callers.Given as goal
 abbrev pub ghosts-two_callers_in-L-Ledger : goal.ghosts-two_callers_in-L-Ledger
 ghosts-two_callers_in-L-Ledger g a = record { name = a.blank.name; parts = a.blank.parts }
 
-abbrev pub ghosts-two_callers_in-L-Opening : goal.ghosts-two_callers_in-L-Opening
-ghosts-two_callers_in-L-Opening g a = record { device = memory_device_state a.device; line = a.line }
+abbrev pub ghosts-two_callers_in-L-OpenedOn : goal.ghosts-two_callers_in-L-OpenedOn
+ghosts-two_callers_in-L-OpenedOn g a = record { device = memory_device_state a.device; line = a.line }
