@@ -106,7 +106,8 @@ def close_at_once(case):
         unanswered = office.closed()
         require_closed(office, 2, 0)
         told = one.hear_rest() + other.hear_rest()
-        require_same(told, ["closing"] * 2, "what the two are told")
+        # the question is refused of one that wasn't told of the closing by then
+        require(told in (["closing"] * 2, ["refused Closed"] + ["closing"] * 2), f"the two are told {told}")
         late = [(0, 2), (0, 50), (0, 6), (1, 2)]
         require(unanswered in (late, late[:3], late[3:]), f"unanswered is {unanswered} and not of {late}")
     require_same(case.rows(), [], "the records in the file")

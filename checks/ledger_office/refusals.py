@@ -155,6 +155,8 @@ def a_device_that_fails(case):
             require_same(told, undecided, f"what counter {number} is told")
             late = [reference for counter, reference in office.unanswered() if counter == number]
             require_same(late, list(range(first + len(told), first + len(told) + len(late))), "what is unanswered")
+            # what wasn't read would be asked of the next office
+            client.unread()
     with case.office(clients) as office:
         require_same(office.opened(), ["opened 2 next 2 total 10"], "the opening without the limit")
         require_same(one.ask("deposit 1 5 9"), ["posted 2 9"], "a posting without the limit")
