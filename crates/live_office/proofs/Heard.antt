@@ -27,7 +27,9 @@ heard feed conversation part day over done = record {
 }
 
 -- all of them
-pub kept_for : {D : Type 0} (state : D → DeviceState) (moves : ℕ) (device : D) (line : Configuration) (last : Span D) (desks : List DeskState) (left : List Left) (feeds : List FeedState) (days : List StationDay) (conversations : List ConversationState)
+pub kept_for : {D : Type 0} (state : D
+    → DeviceState) (moves : ℕ) (device : D) (line : Configuration) (last : Span D) (desks : List DeskState) (left : List Left) (feeds : List FeedState) (days : List StationDay)
+    (conversations : List ConversationState)
     → WasKeptOpen state moves device line last (map (λ (feed : FeedState). feed.collected) feeds) days → length desks ≡ stations line → length feeds ≡ stations line
     → AllZip IsOver feeds conversations → AreReconciled feeds left days → WasKeptFor state moves device line last days conversations
 kept_for state moves device line last desks left feeds days conversations kept many fed over done = record {

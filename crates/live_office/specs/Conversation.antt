@@ -7,6 +7,7 @@ use Rattle.script_grammar.specs.declared.requests.Request.TheVariants as request
 use Rattle.turn_clerk.specs.declared.searching.Found.{Found}
 use Rattle.turn_clerk.specs.declared.searching.Found.TheVariants as found
 use Rattle.turn_clerk.specs.declared.refusals.FindRefusal.{FindRefusal}
+use Rattle.line_lock.specs.declared.refusals.BalanceRefusal.{BalanceRefusal}
 use Rattle.station_desk.specs.Messages.{entries_of, asks_of}
 use Rattle.station_desk.specs.Rings.{FeedState}
 use Rattle.station_desk.specs.declared.errand.Question.{Question}
@@ -80,6 +81,19 @@ IsResponseTo (Asked request.Close) response.Closing = Unit {0}
 IsResponseTo (Wrong wrong) (response.Wrong told) = told ≡ wrong
 IsResponseTo _ _ = ⊥
 
+-- what a counter is told of an account
+abbrev pub told_of_balance : ℕ → Result ℕ BalanceRefusal → Response
+told_of_balance account (Ok amount) = response.Balance account amount
+told_of_balance account (Err refusal) = response.NoBalance refusal
+
+-- what it is told of a step of its search, which found something before or didn't
+abbrev pub told_of_step : Bool → ℕ → Result Found FindRefusal → Option Response
+told_of_step before reference (Ok (found.Posted number)) = Some (response.Found number reference)
+told_of_step before reference (Ok (found.Further number)) = None
+told_of_step true reference (Ok (found.Nowhere since)) = None
+told_of_step false reference (Ok (found.Nowhere since)) = Some (response.Unknown since)
+told_of_step before reference (Err refusal) = Some (response.NotFound refusal)
+
 -- The question is the one that the message asks, whose search has come to that record.
 abbrev pub IsQuestionOf : Message → ℕ → Question → Type 0
 IsQuestionOf (Asked (request.Balance account)) from (question.Balance named) = named ≡ account
@@ -99,22 +113,22 @@ IsLast (Ok (found.Further number)) = ⊥
 IsLast (Ok (found.Nowhere since)) = Unit {0}
 IsLast (Err refusal) = Unit {0}
 
--- A conversation at one moment: every message that was taken from the counter's reader, every response that was handed to
--- its writer, each in order, and the entries that it asked to post and that nobody submitted.
+-- A conversation at one moment: every message that was taken from the counter's reader, every response that was handed
+-- to its writer, each in order, and the entries that it asked to post and that nobody submitted.
 pub record ConversationState : Type 0 where
   pub said : List Message
   pub told : List Response
   pub unheard : List Entry
 
--- The conversation with a counter is over, whose requests went by this feed: of the responses those that tell of entries are
--- the responses to the answers that were collected, in order, each once; and the entries that it asked to post are, in order,
--- those that were submitted and those that weren't.
+-- The conversation with a counter is over, whose requests went by this feed: of the responses those that tell of
+-- entries are the responses to the answers that were collected, in order, each once; and the entries that it asked to
+-- post are, in order, those that were submitted and those that weren't.
 pub record IsOver (feed : FeedState) (conversation : ConversationState) : Type 0 where
   pub told : answers_among conversation.told ≡ map response_of feed.collected
   pub said : postings_among conversation.said ≡ entries_of feed.asked ++ conversation.unheard
 
--- The same of what became of its requests: those whose answers were collected, those whose answers weren't, and those without
--- an answer.
+-- The same of what became of its requests: those whose answers were collected, those whose answers weren't, and those
+-- without an answer.
 pub record IsHeard (conversation : ConversationState) (collected : List Answer) (day : StationDay) : Type 0 where
   pub told : answers_among conversation.told ≡ map response_of collected
   pub said : postings_among conversation.said ≡ entries_of (asks_of collected ++ asks_of day.answers.items ++ day.unanswered.items) ++ conversation.unheard

@@ -19,9 +19,10 @@ use Rattle.live_office.specs.declared.open_office.LiveRefusal.TheVariants.{Memor
 abbrev pub stands_with : FeedState → Left → Type 0
 stands_with feed part = AreTogether feed part.desk
 
--- An office was kept open on that device and that line, of whose spans this is the last, for counters with whom it had these
--- conversations: each was told the answers that were collected for it, and what it asked for was heard.
-pub record WasKeptFor {D : Type 0} (state : D → DeviceState) (moves : ℕ) (device : D) (line : Configuration) (last : Span D) (days : List StationDay) (conversations : List ConversationState) : Type 0 where
+-- An office was kept open on that device and that line, of whose spans this is the last, for counters with whom it had
+-- these conversations: each was told the answers that were collected for it, and what it asked for was heard.
+pub record WasKeptFor {D : Type 0} (state : D
+    → DeviceState) (moves : ℕ) (device : D) (line : Configuration) (last : Span D) (days : List StationDay) (conversations : List ConversationState) : Type 0 where
   pub collected : List (List Answer)
   pub kept : WasKeptOpen state moves device line last collected days
   pub as_many : length conversations ≡ stations line
@@ -33,8 +34,8 @@ abbrev pub live_refusal : Unserved → LiveRefusal
 live_refusal unserved.Memory = Memory
 live_refusal unserved.Threads = Threads
 
--- The device comes from an office that was kept open on that one with that line, for some spans in a row and one more: a
--- clerk took turns on it.
+-- The device comes from an office that was kept open on that one with that line, for some spans in a row and one more:
+-- a clerk took turns on it.
 pub record WasLeftOpen {D : Type 0} (state : D → DeviceState) (moves : ℕ) (device : D) (line : Configuration) (after : D) : Type 0 where
   pub earlier : List (Span D)
   pub between : D

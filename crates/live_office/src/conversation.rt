@@ -25,8 +25,9 @@ const LOOKS: u64 = 400;
 
 const PAUSE: u64 = 5;
 
-/// What was said at a counter of an office that closes, and what it was told. Contracts see both, by the ends of the rings
-/// whose other ends the counter's threads have; a program sees what came too late, and what the counter wasn't told.
+/// What was said at a counter of an office that closes, and what it was told. Contracts see both, by the ends of the
+/// rings whose other ends the counter's threads have; a program sees what came too late, and what the counter wasn't
+/// told.
 #[derive(Drop)]
 pub struct Conversation {
     messages: Consumer<Message>,
@@ -149,7 +150,7 @@ impl Conversation {
         self.unheard.as_slice()
     }
 
-    /// The last of its responses, in order, that aren't written by now, or of which that isn't known: its client reads nothing.
+    /// The last of its responses, in order, that its writer isn't done with by now, since the stream takes no more.
     pub fn untold(&self) -> Skip<vec_deque::Iter<'_, Response>> {
         self.recent.last(self.wakers.unwritten())
     }

@@ -1,6 +1,8 @@
 //! What counters are told.
-ghost use Rattle.std.specs.Prelude.{◌≡◌};
-ghost use Rattle.live_office.specs.Conversation.{is_answer};
+ghost use Rattle.std.specs.Prelude.{◌≡◌, false};
+ghost use Rattle.script_grammar.specs.declared.requests.Request.TheVariants.{Balance};
+ghost use Rattle.live_office.specs.declared.messages.Message.TheVariants.{Asked};
+ghost use Rattle.live_office.specs.Conversation.{is_answer, told_of_balance, IsResponseTo};
 
 use crate::messages::WrongLine;
 use line_lock::{BalanceRefusal, FindRefusal};
@@ -8,7 +10,8 @@ use station_desk::{Answer, Outcome};
 use std::fmt;
 use turn_ledger::EntryRefusal;
 
-const HELP: &str = "\
+/// The requests of counters, as `help` tells them.
+pub const REQUESTS: &str = "\
 deposit A M [R]       M units to account A
 withdraw A M [R]      M units from account A
 transfer A B M [R]    M units from account A to account B
@@ -65,6 +68,18 @@ pub enum Response {
 }
 
 impl Response {
+    /// What is told of an account.
+    pub(crate) fn of_balance(account: u32, answer: Result<u64, BalanceRefusal>) -> Response
+        ensures told { result ≡ told_of_balance account answer }
+        ensures right { IsResponseTo (Asked (Balance account)) result }
+        ensures other { is_answer result ≡ false }
+    {
+        match answer {
+            Ok(amount) => Response::Balance { account, amount },
+            Err(refusal) => Response::NoBalance(refusal),
+        }
+    }
+
     /// Whether it tells of an entry that was submitted.
     pub fn is_answer(&self) -> bool
         ensures { result ≡ is_answer self.now }
@@ -108,7 +123,7 @@ impl fmt::Display for Response {
             Response::NotFound(refusal) => write!(f, "refused {refusal:?}"),
             Response::Closed => f.write_str("refused Closed"),
             Response::Wrong(wrong) => write!(f, "wrong {wrong}"),
-            Response::Help => f.write_str(HELP),
+            Response::Help => f.write_str(REQUESTS),
             Response::Closing => f.write_str("closing"),
         }
     }

@@ -1,7 +1,8 @@
 //! Who wakes the stations and the dispatcher of a live office.
 //!
-//! Nobody asks for a turn while no request waits. While the line may still be healing each station may ask after each turn;
-//! from then on one station alone is privileged, and which one follows from the last move, so that it alone is woken.
+//! Nobody asks for a turn while no request waits. While the line may still be healing each station may ask after each
+//! turn; from then on one station alone is privileged, and which one follows from the last move, so that it alone is
+//! woken.
 use four_state::Rule;
 use station_desk::{Errand, Gate, Question, Report, Turn};
 use std::alloc::{AllocError, Global};
@@ -102,8 +103,8 @@ impl Scheduler {
         })
     }
 
-    /// A request is submitted: stations that may be privileged ask for their turns. One may have taken it by now, so that the
-    /// count was below zero, and wrapped, for a moment.
+    /// A request is submitted: stations that may be privileged ask for their turns. One may have taken it by now, so
+    /// that the count was below zero, and wrapped, for a moment.
     pub(crate) fn note_submitted(&self) {
         if self.waiting.fetch_add(1, Ordering::SeqCst) == 0 {
             self.wake_those_who_may_ask();
@@ -187,8 +188,8 @@ impl Scheduler {
         }
     }
 
-    // Waits until each station has begun. Where that takes too long, as where the system refuses a thread, the office is
-    // abandoned.
+    // Waits until each station has begun. Where that takes too long, as where the system refuses a thread, the office
+    // is abandoned.
     fn await_others<R: Wait>(&self, rt: &R, waker: &Waker) {
         if !waker.has_begun.swap(true, Ordering::SeqCst) {
             self.begun.fetch_add(1, Ordering::SeqCst);

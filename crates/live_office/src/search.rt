@@ -1,8 +1,8 @@
 //! A search for a reference, step by step.
-ghost use Rattle.std.specs.Prelude.{◌≡◌, ◌↔◌, ℕ, true, false, IsTrue, IfOk, IfSome, Ok, Err, Some};
+ghost use Rattle.std.specs.Prelude.{◌≡◌, ◌↔◌, ℕ, true, false, IsTrue, IfOk, IfSome, Ok};
 ghost use Rattle.script_grammar.specs.declared.requests.Request.TheVariants.{Find};
 ghost use Rattle.live_office.specs.declared.messages.Message.TheVariants.{Asked};
-ghost use Rattle.live_office.specs.Conversation.{is_answer, IsResponseTo, MeetsAt, IsLast};
+ghost use Rattle.live_office.specs.Conversation.{is_answer, told_of_step, IsResponseTo, MeetsAt, IsLast};
 
 use crate::responses::Response;
 use line_lock::{FindRefusal, Found};
@@ -48,10 +48,8 @@ impl Search {
         ensures other { IfSome result.response (λ response. is_answer response ≡ false) }
         ensures right { IfSome result.response (IsResponseTo (Asked (Find reference))) }
         ensures meets { IfOk found (λ step. MeetsAt step self.new.from) }
-        ensures posted { (number : ℕ) → found ≡ Ok (Found.Posted number)
-            → (result.response ≡ Some (Response.Found number reference)) × (self.new.has_found ≡ true) }
-        ensures unknown { (since : ℕ) → found ≡ Ok (Found.Nowhere since) → self.old.has_found ≡ false
-            → result.response ≡ Some (Response.Unknown since) }
+        ensures told { result.response ≡ told_of_step self.old.has_found reference found }
+        ensures noted { (number : ℕ) → found ≡ Ok (Found.Posted number) → self.new.has_found ≡ true }
         ensures last { IsTrue result.is_last ↔ IsLast found }
     {
         match found {
@@ -85,7 +83,8 @@ impl Search {
     fn unknown(&self, since: u64) -> Option<Response>
         ensures other { IfSome result (λ response. is_answer response ≡ false) }
         ensures right { (reference : ℕ) → IfSome result (IsResponseTo (Asked (Find reference))) }
-        ensures unknown { self.now.has_found ≡ false → result ≡ Some (Response.Unknown since) }
+        ensures told { (reference : ℕ)
+            → result ≡ told_of_step self.now.has_found reference (Ok (Found.Nowhere since)) }
     {
         if self.has_found {
             return None;

@@ -25,10 +25,10 @@ use turn_ledger::Entry;
 /// How many messages and responses lie at most between the dispatcher and one counter, each way.
 pub(crate) const CAPACITY: usize = 256;
 
-/// A counter as the dispatcher sees it. What was submitted is what the counter's messages asked to post, in order, but for
-/// the message that is handled next; and what its writer was handed of that are the answers that were collected, in order,
-/// each once. For each request that is submitted a place is kept for the response to it, so that a counter that reads
-/// nothing holds up nobody but itself.
+/// A counter as the dispatcher sees it. What was submitted is what the counter's messages asked to post, in order, but
+/// for the message that is handled next; and what its writer was handed of that are the answers that were collected, in
+/// order, each once. For each request that is submitted a place is kept for the response to it, so that a counter that
+/// reads nothing holds up nobody but itself.
 #[derive(Drop)]
 pub(crate) struct Session {
     station: u8,
@@ -222,7 +222,8 @@ impl Session {
         true
     }
 
-    // Tells the counter something else than an answer: a response to the message that is handled, for which there is a place.
+    // Tells the counter something else than an answer: a response to the message that is handled, for which there is a
+    // place.
     fn respond(&mut self, response: Response) -> bool
         requires place { self.old.unanswered < known_free self.old.responses }
         requires other { is_answer response ≡ false }
@@ -270,10 +271,7 @@ impl Session {
         ensures next { self.new.next ≡ self.old.next }
     {
         match self.report(rt, scheduler, Question::Balance(account)) {
-            Some(Report::Balance(Ok(amount))) => {
-                self.respond(Response::Balance { account, amount })
-            }
-            Some(Report::Balance(Err(refusal))) => self.respond(Response::NoBalance(refusal)),
+            Some(Report::Balance(answer)) => self.respond(Response::of_balance(account, answer)),
             Some(Report::Found(_)) | None => false,
         }
     }
@@ -316,8 +314,8 @@ impl Session {
         }
     }
 
-    /// Ends the conversation: what the counter asks to post by now is listed, other questions are refused, and it is told that
-    /// the office closes.
+    /// Ends the conversation: what the counter asks to post by now is listed, other questions are refused, and it is
+    /// told that the office closes.
     ///
     /// # Errors
     /// Out of memory.
