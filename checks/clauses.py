@@ -1,7 +1,7 @@
 """Looks how wide clauses are: of each the longest line counts. Public are those of a public function, or of a method of a
-trait or of an impl of one. Prints how many of these are over 100 columns, of which crates, and each clause that is over 120.
-Status 1 where more than 20 are over 100 or any is over 120. It reads the crates that are no crates of tests, and needs
-Python alone."""
+trait or of an impl of one. Prints how many of these are over 100 columns, of which crates, and each clause that is over 120,
+each comment in code that is, and each line of a definition or a proof that is over 200. Status 1 where more than 20 are over
+100 or any is over its limit. Of clauses it reads the crates that are no crates of tests. It needs Python alone."""
 import re
 import sys
 from collections import Counter
@@ -11,6 +11,7 @@ ROOT = Path(__file__).resolve().parent.parent
 PAGE = 100
 MOST_OVER_THE_PAGE = 20
 NEVER_OVER = 120
+PROOFS_NEVER_OVER = 200
 
 OF_TESTS = re.compile(r"\w+_tests|refused_memory|test_scenes")
 FUNCTION = re.compile(r"(\s*)(pub (?!\()|pub\([\w: ]+\) )?(?:const )?(?:unsafe )?fn (\w+)")
@@ -51,6 +52,16 @@ def clauses(lines):
             yield number + 1, function, label or kind, public, width(lines, number)
 
 
+def other_lines():
+    """Comments in code, and lines of definitions and proofs, that are over their limits."""
+    for path in sorted([*(ROOT / "crates").glob("*/src/**/*.rt"), *(ROOT / "crates").glob("*/specs/**/*.antt"),
+                        *(ROOT / "crates").glob("*/proofs/**/*.antt")]):
+        for number, line in enumerate(path.read_text(encoding="utf-8").splitlines(), 1):
+            limit = PROOFS_NEVER_OVER if path.suffix == ".antt" else NEVER_OVER if line.lstrip().startswith("//") else None
+            if limit and len(line) > limit:
+                yield f"{path.relative_to(ROOT)}:{number}: {len(line)} columns"
+
+
 def main():
     over, far_over, counted = Counter(), [], Counter()
     for path in sources():
@@ -63,6 +74,7 @@ def main():
                 far_over.append(f"{name}:{number}: {label} of {function} has {columns} columns")
     print(f"{sum(over.values())} of {counted[True]} public clauses are over {PAGE} columns, of which {MOST_OVER_THE_PAGE} may be; "
           f"{len(far_over)} of these and {counted[False]} private ones are over {NEVER_OVER}")
+    far_over += other_lines()
     print("\n".join([*(f"  {crate}: {count}" for crate, count in sorted(over.items())), *far_over]))
     return int(sum(over.values()) > MOST_OVER_THE_PAGE or bool(far_over))
 

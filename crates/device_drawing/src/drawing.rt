@@ -42,10 +42,10 @@ const SECTIONS_AT: u64 = 124;
 /// How high a heading is with the room before it.
 const HEADING: u64 = 24;
 
-/// Draws the sectors of a device as a picture in SVG: what each is, which gates are open, which bank is live, and in red the
-/// sector of the damage. Each part of the layout begins with a row of its own. Of more than 4,096 sectors neighbours of one
-/// part are drawn as one cell, which is red if one of them is damaged, and else a record if one of them is. The device is
-/// only read; the memory doesn't grow with its sectors.
+/// Draws the sectors of a device as a picture in SVG: what each is, which gates are open, which bank is live, and in
+/// red the sector of the damage. Each part of the layout begins with a row of its own. Of more than 4,096 sectors
+/// neighbours of one part are drawn as one cell, which is red if one of them is damaged, and else a record if one of
+/// them is. The device is only read; the memory doesn't grow with its sectors.
 ///
 /// # Errors
 /// A read failed, the drawing can't be written, or out of memory.

@@ -3,8 +3,8 @@ use crate::images::{Change, Row, Sound, THIRD, are_found};
 use journal_recovery::Cause::Bank;
 use std::test::Fail;
 
-// The heads are sectors 2 and 29, in layout 2 sectors 2 and 13. The magic and zeros have bytes 0 to 7, zeros stand from 24
-// on.
+// The heads are sectors 2 and 29, in layout 2 sectors 2 and 13. The magic and zeros have bytes 0 to 7, zeros stand from
+// 24 on.
 #[test]
 fn damaged_heads_are_found(rt: HostRuntime) -> Result<(), Fail> {
     let table: [Row<'_>; 4] = [
@@ -21,11 +21,11 @@ fn damaged_heads_are_found(rt: HostRuntime) -> Result<(), Fail> {
     are_found(&rt, rt.alloc(), Sound::Second, None, &table)
 }
 
-// The gates are sectors 1 and 28, and both closed. The second bank has the epoch 1, in bytes 8 to 15 of its head, and the
-// first one is given it too. Balances of the second bank are in sectors 30 to 45; account 1 has bytes 0 to 7 of the first,
-// account 1,024 bytes 504 to 511 of the last. 0x10 in a highest byte is 2^60, more than 10^18; 0x08 is 2^59, and two of it
-// are. The marks are in sector 46: 128 bytes, and zeros behind them. The first bank is live if it has the greater epoch or
-// is open alone: its balances are sectors 3 to 18, its marks 19.
+// The gates are sectors 1 and 28, and both closed. The second bank has the epoch 1, in bytes 8 to 15 of its head, and
+// the first one is given it too. Balances of the second bank are in sectors 30 to 45; account 1 has bytes 0 to 7 of the
+// first, account 1,024 bytes 504 to 511 of the last. 0x10 in a highest byte is 2^60, more than 10^18; 0x08 is 2^59, and
+// two of it are. The marks are in sector 46: 128 bytes, and zeros behind them. The first bank is live if it has the
+// greater epoch or is open alone: its balances are sectors 3 to 18, its marks 19.
 #[test]
 fn damaged_banks_are_found(rt: HostRuntime) -> Result<(), Fail> {
     let table: [Row<'_>; 8] = [

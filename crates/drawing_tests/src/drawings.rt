@@ -74,8 +74,9 @@ fn shows(
     Ok(())
 }
 
-// Layout 3: the superblock; of each bank a gate, a head and 17 sectors of its snapshot; two open slots and six closed ones,
-// with two sectors each. Layout 2 has one sector of each snapshot. Layout 1 has nine sectors, and two of four slots open.
+// Layout 3: the superblock; of each bank a gate, a head and 17 sectors of its snapshot; two open slots and six closed
+// ones, with two sectors each. Layout 2 has one sector of each snapshot. Layout 1 has nine sectors, and two of four
+// slots open.
 #[test]
 fn each_sector_is_a_cell_of_its_kind(rt: HostRuntime) -> Result<(), Fail> {
     let table: [(Sound, Option<u64>, [usize; 10]); 6] = [
@@ -93,8 +94,8 @@ fn each_sector_is_a_cell_of_its_kind(rt: HostRuntime) -> Result<(), Fail> {
     Ok(())
 }
 
-// The gate of the second bank closed: the first one is live. Both closed: none is. A slot's gate behind a closed one is open.
-// What is no ledger is drawn as unknown, also if only the number of slots is wrong.
+// The gate of the second bank closed: the first one is live. Both closed: none is. A slot's gate behind a closed one is
+// open. What is no ledger is drawn as unknown, also if only the number of slots is wrong.
 #[test]
 fn sectors_are_drawn_as_they_are(rt: HostRuntime) -> Result<(), Fail> {
     let alloc = rt.alloc();
@@ -146,8 +147,8 @@ fn captions_tell_what_is_drawn(rt: HostRuntime) -> Result<(), Fail> {
     Ok(())
 }
 
-// 4,096 sectors of no layout are as many cells. 4,097 are two in a cell, the last one alone in its own; 8,193 are three in a
-// cell.
+// 4,096 sectors of no layout are as many cells. 4,097 are two in a cell, the last one alone in its own; 8,193 are three
+// in a cell.
 #[test]
 fn neighbours_of_no_layout_are_joined(rt: HostRuntime) -> Result<(), Fail> {
     let alloc = rt.alloc();
@@ -166,8 +167,8 @@ fn neighbours_of_no_layout_are_joined(rt: HostRuntime) -> Result<(), Fail> {
     Ok(())
 }
 
-// 2,060 slots of layout 1 use 4,121 sectors, so two are a cell: each slot is one. Two of them hold a record. Sector 1,000 is
-// of one that doesn't. Behind them 100 sectors aren't used, two in a cell of at most 64.
+// 2,060 slots of layout 1 use 4,121 sectors, so two are a cell: each slot is one. Two of them hold a record. Sector
+// 1,000 is of one that doesn't. Behind them 100 sectors aren't used, two in a cell of at most 64.
 #[test]
 fn neighbours_of_slots_are_joined(rt: HostRuntime) -> Result<(), Fail> {
     for (damaged, expected) in [
@@ -182,8 +183,8 @@ fn neighbours_of_slots_are_joined(rt: HostRuntime) -> Result<(), Fail> {
     Ok(())
 }
 
-// Reads of the superblock, of two gates and two heads; of two bank gates, of eight slots' gates, and again of each for its
-// body.
+// Reads of the superblock, of two gates and two heads; of two bank gates, of eight slots' gates, and again of each for
+// its body.
 const CALLS: u64 = 23;
 
 #[test]

@@ -3,8 +3,8 @@ use crate::images::{Row, Sound, are_found};
 use journal_recovery::Cause::{Entry, Header, Sequence, Tail, Verdict};
 use std::test::Fail;
 
-// Slot k has its body in sector 1 + 2k, its gate in 2 + 2k, and the sequence k. A seal is no entry, and account 65 isn't
-// there.
+// Slot k has its body in sector 1 + 2k, its gate in 2 + 2k, and the sequence k. A seal is no entry, and account 65
+// isn't there.
 #[test]
 fn damage_of_layout_1_is_found(rt: HostRuntime) -> Result<(), Fail> {
     let table: [Row<'_>; 6] = [
@@ -18,8 +18,8 @@ fn damage_of_layout_1_is_found(rt: HostRuntime) -> Result<(), Fail> {
     are_found(&rt, rt.alloc(), Sound::First, None, &table)
 }
 
-// The second bank is live: slot k has its body in sector 15 + 2k, its gate in 16 + 2k, and the sequence 7 + k. The first
-// one is if it is open alone: slot k has its body in sector 4 + 2k, its gate behind it.
+// The second bank is live: slot k has its body in sector 15 + 2k, its gate in 16 + 2k, and the sequence 7 + k. The
+// first one is if it is open alone: slot k has its body in sector 4 + 2k, its gate behind it.
 #[test]
 fn damage_of_layout_2_is_found(rt: HostRuntime) -> Result<(), Fail> {
     let table: [Row<'_>; 5] = [

@@ -1,12 +1,12 @@
-//! Damage of slots, in layout 3. Slot 0 of the live bank, which is the second one, has its body in sector 47 and one place,
-//! slot 1 its body in sector 49 and two places, in bytes 32 to 63 and 64 to 95.
+//! Damage of slots, in layout 3. Slot 0 of the live bank, which is the second one, has its body in sector 47 and one
+//! place, slot 1 its body in sector 49 and two places, in bytes 32 to 63 and 64 to 95.
 use crate::images::{Row, Sound, THIRD, are_found};
 use journal_recovery::Cause::{Entry, Header, Sequence, Tail, Verdict};
 use std::test::Fail;
 
-// The magic has bytes 0 to 3; the station, at most 63, 4 and 5; the count, 1 to 15, 6 and 7; zeros stand behind the used
-// places. A count of one leaves the second place unused, which begins with its kind, 3. The first record has the sequence
-// 7, the second one 8, in bytes 8 to 15. Gates of slots 0 to 3 are sectors 48, 50, 52 and 54.
+// The magic has bytes 0 to 3; the station, at most 63, 4 and 5; the count, 1 to 15, 6 and 7; zeros stand behind the
+// used places. A count of one leaves the second place unused, which begins with its kind, 3. The first record has the
+// sequence 7, the second one 8, in bytes 8 to 15. Gates of slots 0 to 3 are sectors 48, 50, 52 and 54.
 #[test]
 fn damaged_slots_are_found(rt: HostRuntime) -> Result<(), Fail> {
     let table: [Row<'_>; 13] = [
@@ -38,10 +38,10 @@ fn the_last_number_is_found(rt: HostRuntime) -> Result<(), Fail> {
     Ok(())
 }
 
-// The first place is a deposit: kind 1 in byte 32, zeros in 33 to 39, account 1 in 40 to 43, zeros in 44 to 47. Other kinds
-// have other zeros: kind 2 in 40 to 47, kind 4 in 40 to 55, and the amount is in 48 to 55. The second place is a transfer:
-// kind 3 in byte 64, account 1 in 68 to 71, account 2 in 72 to 75, amount 4 in 80 to 87. A place breaks a rule with an
-// amount of zero, with an account that isn't there, or with more than its account has.
+// The first place is a deposit: kind 1 in byte 32, zeros in 33 to 39, account 1 in 40 to 43, zeros in 44 to 47. Other
+// kinds have other zeros: kind 2 in 40 to 47, kind 4 in 40 to 55, and the amount is in 48 to 55. The second place is a
+// transfer: kind 3 in byte 64, account 1 in 68 to 71, account 2 in 72 to 75, amount 4 in 80 to 87. A place breaks a
+// rule with an amount of zero, with an account that isn't there, or with more than its account has.
 #[test]
 fn damaged_places_are_found(rt: HostRuntime) -> Result<(), Fail> {
     let table: [Row<'_>; 11] = [

@@ -15,8 +15,8 @@ fn at(byte: u16) -> Place {
     }
 }
 
-// The magic has bytes 0 to 3, the version 4 and 5, the number of slots 8 to 15; zeros stand in 6 and 7 and from 16 on, and
-// the first of several wrong bytes is found. Five slots need more sectors than there are.
+// The magic has bytes 0 to 3, the version 4 and 5, the number of slots 8 to 15; zeros stand in 6 and 7 and from 16 on,
+// and the first of several wrong bytes is found. Five slots need more sectors than there are.
 #[test]
 fn damaged_superblocks_are_found(rt: HostRuntime) -> Result<(), Fail> {
     let table: [(&[Change], OpenRefusal, u16); 7] = [

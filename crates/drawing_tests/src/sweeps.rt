@@ -6,18 +6,18 @@ use std::alloc::Global;
 use std::process::Abort;
 use std::test::Fail;
 
-// The sector and byte where the damage is found once that byte is inverted, or none if the device is sound. Numbers are found
-// at their first byte.
+// The sector and byte where the damage is found once that byte is inverted, or none if the device is sound. Numbers are
+// found at their first byte.
 //
 // - Sector 0: the version has bytes 4 and 5, the number of slots 8 to 15.
-// - Sector 29, the live bank's head: the epoch, in bytes 8 to 15, becomes greater. The base, in 16 to 23, is no more that of
-//   slot 0, whose body in sector 47 has its sequence in bytes 8 to 15.
-// - Sector 46, its marks: the first byte seals accounts 1 to 8, so the entry in slot 0, in byte 32 of sector 47, is refused.
-//   Other marks are of accounts without entries, and zeros stand from byte 128 on.
-// - Sector 49, a body: the first place begins in byte 32. Its account has bytes 40 to 43, its amount 48 to 55; of that the
-//   highest byte alone is more than the limit. The second place begins in 64. Its accounts have bytes 68 to 71 and 72 to 75,
-//   its amount 80 to 87. A lowest byte of 1 or 2 becomes 254 or 253, an account too: it may be brought to, but has nothing.
-//   Account 1 has 10, less than any other amount. References are in 56 to 63 and in 88 to 95.
+// - Sector 29, the live bank's head: the epoch, in bytes 8 to 15, becomes greater. The base, in 16 to 23, is no more
+//   that of slot 0, whose body in sector 47 has its sequence in bytes 8 to 15.
+// - Sector 46, its marks: the first byte seals accounts 1 to 8, so the entry in slot 0, in byte 32 of sector 47, is
+//   refused. Other marks are of accounts without entries, and zeros stand from byte 128 on.
+// - Sector 49, a body: the first place begins in byte 32. Its account has bytes 40 to 43, its amount 48 to 55; of that
+//   the highest byte alone is more than the limit. The second place begins in 64. Its accounts have bytes 68 to 71 and
+//   72 to 75, its amount 80 to 87. A lowest byte of 1 or 2 becomes 254 or 253, an account too: it may be brought to,
+//   but has nothing. Account 1 has 10, less than any other amount. References are in 56 to 63 and in 88 to 95.
 fn damage_of(sector: u64, byte: usize) -> Option<(u64, usize)> {
     match (sector, byte) {
         (0, 4..=5) => Some((0, 4)),

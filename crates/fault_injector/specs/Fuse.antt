@@ -43,7 +43,8 @@ pub record HasCounted {D : Type 0} (old new : FuseState D) (call : Op) : Type 0 
   -- it waits for the same call
   pub op : new.op ≡ old.op
   pub at : new.at ≡ old.at
-  -- it is blown afterwards exactly where it was, or where it failed this call: a fault of the inner device doesn't blow it
+  -- it is blown afterwards exactly where it was, or where it failed this call: a fault of the inner device doesn't blow
+  -- it
   pub blown : (new.blown ≡ true) ↔ Fails old call
   -- calls of its kind are counted, and no others
   pub counted : Counts old.op call → new.calls ≡ one_more old.calls

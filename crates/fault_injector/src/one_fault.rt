@@ -9,8 +9,8 @@ use crate::op::Op;
 use sector_device::{Device, DeviceFault, Sector};
 use std::marker::Model;
 
-/// A device that fails once: the k-th call of a kind, counted from 0 since it was made, fails without reaching the inner
-/// device, and every other call is passed on. It is honest exactly if the inner device is.
+/// A device that fails once: the k-th call of a kind, counted from 0 since it was made, fails without reaching the
+/// inner device, and every other call is passed on. It is honest exactly if the inner device is.
 #[derive(Debug, Drop)]
 pub struct OneFault<D: Device> {
     inner: D,

@@ -125,8 +125,8 @@ const AMOUNTS: [u64; 7] = [
     1_000_000_000_000_000_001,
 ];
 
-// The accounts of an entry of this kind, or nearly: of a deposit none to take from, of a withdrawal and a seal none to give
-// to.
+// The accounts of an entry of this kind, or nearly: of a deposit none to take from, of a withdrawal and a seal none to
+// give to.
 fn some_sides(random: &mut Pcg32, kind: u64) -> (u64, u64) {
     let from = one_of(random, &ACCOUNTS);
     let to = one_of(random, &ACCOUNTS);
@@ -308,8 +308,8 @@ fn make_several(random: &mut Pcg32, image: &mut [Sector]) {
     }
 }
 
-// With this many slots a bank, on the sectors that 4 of them need, after three turns with a deposit and a transfer of some
-// of it: with 1 slot behind two checkpoints, with 4 without any.
+// With this many slots a bank, on the sectors that 4 of them need, after three turns with a deposit and a transfer of
+// some of it: with 1 slot behind two checkpoints, with 4 without any.
 fn after_three_turns(rt: &impl Abort, alloc: Global, slots: u64) -> Result<MemoryDevice, Fail> {
     let mut device = MemoryDevice::new(alloc, sectors_needed(4))?;
     assert!(rt; 1 <= slots && slots <= 4);

@@ -19,9 +19,10 @@ const LINES: [[u8; 2]; 4] = [[0, 0], [1, 0], [1, 1], [0, 1]];
 pub const SNAPSHOT: u64 = 16 + 1;
 
 // The calls of a whole course, by the order of calls that the format states. The opening syncs once, and reads the
-// superblock, both banks' gates, the head, two slots' gates and the snapshot, which has 17 sectors. Each turn writes and
-// syncs a body, and then a gate. A checkpoint reads the other bank's gate, writes its head, its snapshot and two slots'
-// gates, syncs, and writes and syncs its gate. The second one finds that gate open, and writes and syncs it closed first.
+// superblock, both banks' gates, the head, two slots' gates and the snapshot, which has 17 sectors. Each turn writes
+// and syncs a body, and then a gate. A checkpoint reads the other bank's gate, writes its head, its snapshot and two
+// slots' gates, syncs, and writes and syncs its gate. The second one finds that gate open, and writes and syncs it
+// closed first.
 pub const READS: u64 = 6 + SNAPSHOT + 1 + 1;
 
 pub const WRITES: u64 = 5 * 2 + (4 + SNAPSHOT) + (5 + SNAPSHOT);

@@ -79,7 +79,8 @@ impl Told {
     }
 }
 
-// A station's deposit has an answer, or comes back unanswered; not so where the station was told that the device failed.
+// A station's deposit has an answer, or comes back unanswered; not so where the station was told that the device
+// failed.
 fn is_accounted_for(rt: &impl Abort, station: &StationDay) {
     let (answered, unanswered) = (station.answers.len(), station.unanswered.len());
     assert!(rt; answered.saturating_add(unanswered) == 1);
@@ -210,9 +211,9 @@ fn outcomes<R: Abort + Wait + Threads + Sync>(
 
 const STOPS: Fails = Fails::From(Op::Any, 0);
 
-// Each pending sector is left in four ways, and of more than four the two lowest and the two highest are: so 256 outcomes
-// are the most. The checkpoint's head is write 2 and call 28. Four sectors are pending from write 6 and call 32 on, up to
-// its sync, which is call 47. Before that there are 119 outcomes of a stop, and behind it 15.
+// Each pending sector is left in four ways, and of more than four the two lowest and the two highest are: so 256
+// outcomes are the most. The checkpoint's head is write 2 and call 28. Four sectors are pending from write 6 and call
+// 32 on, up to its sync, which is call 47. Before that there are 119 outcomes of a stop, and behind it 15.
 const MOST: u32 = 256;
 
 #[test]

@@ -126,8 +126,8 @@ fn two_faults(rt: &impl Abort, alloc: Global, first: u64, second: u64) -> Result
 // first fault on to the end.
 const PAIRS: u64 = 9442;
 
-// The faults of all pairs with this first place, and how many pairs there are. From some later place on the second fault
-// isn't met.
+// The faults of all pairs with this first place, and how many pairs there are. From some later place on the second
+// fault isn't met.
 fn all_pairs(rt: &impl Abort, alloc: Global, first: u64) -> Result<(Faults, u64), Fail> {
     let mut pairs = 0u64;
     let mut all = Faults::none();
@@ -142,8 +142,8 @@ fn all_pairs(rt: &impl Abort, alloc: Global, first: u64) -> Result<(Faults, u64)
     Ok((all, pairs))
 }
 
-// The calls that the first fault doesn't let through aren't counted by the device behind, so its own fault, at a place not
-// before the first one's, is the second.
+// The calls that the first fault doesn't let through aren't counted by the device behind, so its own fault, at a place
+// not before the first one's, is the second.
 #[test]
 fn a_device_that_fails_twice_loses_nothing(rt: HostRuntime) -> Result<(), Fail> {
     let mut pairs = 0u64;

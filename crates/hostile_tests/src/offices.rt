@@ -125,8 +125,8 @@ fn walk<R: Abort + Wait>(
     }
 }
 
-// Where a course meets the fault. After one in a turn a lawful state is found, and after one in the opening another office
-// is opened on the device that came back.
+// Where a course meets the fault. After one in a turn a lawful state is found, and after one in the opening another
+// office is opened on the device that came back.
 fn meets_one_fault<R: Abort + Wait>(rt: &R, alloc: Global, device: Device) -> Met {
     let device = match walk(rt, alloc, device) {
         Ok((clerk, walked)) => {

@@ -1,5 +1,5 @@
-//! Two images of which each byte is replaced, beside the plain program of the format. The tests are cut by sectors, since
-//! each value of each byte of a sector that isn't zero is 131,072 images.
+//! Two images of which each byte is replaced, beside the plain program of the format. The tests are cut by sectors,
+//! since each value of each byte of a sector that isn't zero is 131,072 images.
 use crate::images::{
     after_one_deposit, behind_a_checkpoint, found, has_sector, holds, image_of, put, settled,
 };
@@ -10,11 +10,11 @@ use std::process::Abort;
 use std::test::Fail;
 use test_scenes::{FIRST, second};
 
-// How many images are refused with a byte as 00, 01, a5 and ff, by the words of the format. A byte that has to be zero is
-// refused with three of them, and so is one that has to be 01 or a5; one that has to be another with all four.
+// How many images are refused with a byte as 00, 01, a5 and ff, by the words of the format. A byte that has to be zero
+// is refused with three of them, and so is one that has to be 01 or a5; one that has to be another with all four.
 
-// The magic 4; the version 00 03; zeros in 2 and 496 bytes; and of the number of slots seven zeros, and last a 04, which
-// may be 01, or else a 01, which may be that alone.
+// The magic 4; the version 00 03; zeros in 2 and 496 bytes; and of the number of slots seven zeros, and last a 04,
+// which may be 01, or else a 01, which may be that alone.
 const SUPERBLOCK_REFUSED: u32 = 4 * 4 + (3 + 4) + 3 * 2 + (3 * 7 + 3) + 3 * 496;
 
 // The magic, zeros in 4 and 488 bytes, and of the base each byte, since the first record has another sequence then.
@@ -36,8 +36,8 @@ const MARKS_REFUSED: u32 = 3 * 384;
 const SEALED: u32 = 3;
 
 // The magic; a station, 00 and then at most 3f; the count 00 01; each byte of the sequence; 16 zeros; and the places
-// behind the first. In that one the kind 01, 3 zeros, no account to take from, an account from 00 00 00 01 to 00 00 04 00,
-// 4 zeros, and an amount whose highest byte is 00 or 01. Its reference may be anything.
+// behind the first. In that one the kind 01, 3 zeros, no account to take from, an account from 00 00 00 01 to 00 00 04
+// 00, 4 zeros, and an amount whose highest byte is 00 or 01. Its reference may be anything.
 const BODY_REFUSED: u32 = 4 * 4 + (3 + 2) + (3 + 3) + 3 * 8 + 3 * 16 + PLACE_REFUSED + 3 * 32 * 14;
 
 const PLACE_REFUSED: u32 = 3 + 3 * 3 + 3 * 4 + (3 * 2 + 2 + 1) + 3 * 4 + 2;
@@ -53,7 +53,8 @@ const OPENED: u32 = 1;
 // How many images of each sector are refused, from this sector on up to that of the next row.
 type Row = (u64, u32);
 
-// With 4 slots a bank, after one deposit: bank 0 is live, and slot 0 has its record. Without its gate that slot is closed.
+// With 4 slots a bank, after one deposit: bank 0 is live, and slot 0 has its record. Without its gate that slot is
+// closed.
 fn refused_after_one_deposit() -> [Row; 14] {
     let other = second(4);
     [
@@ -118,9 +119,9 @@ fn values_at(sector: &Sector, place: usize) -> Values {
     }
 }
 
-// Puts a value at one place, and compares what recovery finds with what the plain program tells: the device, and whether
-// it is refused. The device comes back as it was: with one of the four values all of it is looked at, with another the
-// sector that was replaced.
+// Puts a value at one place, and compares what recovery finds with what the plain program tells: the device, and
+// whether it is refused. The device comes back as it was: with one of the four values all of it is looked at, with
+// another the sector that was replaced.
 fn replace_by(
     rt: &impl Abort,
     alloc: Global,

@@ -20,8 +20,8 @@ enum By {
 // that is pending, or for the two lowest and the two highest.
 const OUTCOMES: u32 = 8965;
 
-// What a run met, by the replies behind those that were acknowledged: the first of them tells that the device failed, and
-// each other one that the clerk is faulted.
+// What a run met, by the replies behind those that were acknowledged: the first of them tells that the device failed,
+// and each other one that the clerk is faulted.
 fn met_in(rt: &impl Abort, replies: &[Reply], acknowledged: usize) -> Met {
     let mut met = Met::Nothing;
     for reply in replies.iter().skip(acknowledged) {

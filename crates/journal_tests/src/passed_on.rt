@@ -91,8 +91,8 @@ fn one_fault_hands_on(
     Ok(())
 }
 
-// A held device hands on each call, and its flags tell whether the held one has begun: that of number 0 has, which has its
-// leave before it.
+// A held device hands on each call, and its flags tell whether the held one has begun: that of number 0 has, which has
+// its leave before it.
 fn held_hands_on(rt: &impl Abort, alloc: Global, broken: u64, at: u64) -> Result<(), Fail> {
     let flags = Arc::new(alloc, HeldFlags::new())?;
     flags.go.store(true, Ordering::SeqCst);
@@ -154,8 +154,8 @@ fn noting_hands_on(
     Ok(())
 }
 
-// Whichever call the device within fails at. A sync that fails, of number 2, is the last one that a device that stops hands
-// on.
+// Whichever call the device within fails at. A sync that fails, of number 2, is the last one that a device that stops
+// hands on.
 #[test]
 fn each_call_that_is_handed_on_reaches_the_device_once_and_in_order(
     rt: HostRuntime,
@@ -193,7 +193,8 @@ fn is_raised(flag: &AtomicBool) -> bool {
     false
 }
 
-// Tells that it runs, waits until the sync has begun, and gives it its leave. The answer is whether it had begun by then.
+// Tells that it runs, waits until the sync has begun, and gives it its leave. The answer is whether it had begun by
+// then.
 fn give_leave(runs: &AtomicBool, flags: &HeldFlags) -> bool {
     runs.store(true, Ordering::SeqCst);
     let begun = is_raised(&flags.begun);

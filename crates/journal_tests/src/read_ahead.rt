@@ -141,8 +141,8 @@ fn expect<R: Abort + AllocGlobal>(
 // The run for a read of sector 100.
 const RUN: Asked = Asked::Run(92, 208);
 
-// A run begins at the eighth sector before the one that is read, and has as many as there are, of 256 at most. A write to a
-// sector that is held empties the buffer, and so does a call that fails.
+// A run begins at the eighth sector before the one that is read, and has as many as there are, of 256 at most. A write
+// to a sector that is held empties the buffer, and so does a call that fails.
 #[test]
 fn a_buffer_asks_once_for_what_it_does_not_hold(rt: HostRuntime) -> Result<(), Fail> {
     use Asked::{Read, Run, Write};

@@ -48,7 +48,8 @@ stepped state entry account balance sound accepted there is =
     omega (arith, within (balance + into account entry) (2 ^ 64 - 1) small, moved, is)
 
 -- the entry at a place, behind those before it
-module _ (state : LedgerState) (entries : List Entry) (index : ℕ) (d : Entry) (account : ℕ) (lt : index < length entries) (sound : IsLedger state) (accepted : AreAccepted state entries) (there : IsAccount account) where
+module _ (state : LedgerState) (entries : List Entry) (index : ℕ) (d : Entry) (account : ℕ) (lt : index < length entries) (sound : IsLedger state) (accepted : AreAccepted state entries)
+    (there : IsAccount account) where
   abbrev before : List Entry
   before = take index entries
 
@@ -75,7 +76,8 @@ module _ (state : LedgerState) (entries : List Entry) (index : ℕ) (d : Entry) 
       ∙ ap (λ (es : List Entry). balance_of (posted_in_order state es) account) (sym (take_more entries index d lt))
 
 -- what the turns of a longer list accepted
-pub accepted_front : (ledger : LedgerState) (turns : List Turn) (more : List (List Entry)) → AreAccepted ledger (entries_of (batches_of turns ++ more)) → AreAccepted ledger (entries_of (batches_of turns))
+pub accepted_front : (ledger : LedgerState) (turns : List Turn) (more : List (List Entry)) → AreAccepted ledger (entries_of (batches_of turns ++ more))
+    → AreAccepted ledger (entries_of (batches_of turns))
 accepted_front ledger turns more accepted =
     AreAccepted-front ledger (entries_of (batches_of turns)) (entries_of more)
     (subst (AreAccepted ledger) (flat_map-append (λ (batch : List Entry). batch) (batches_of turns) more) accepted)

@@ -16,7 +16,8 @@ seam : (xs : List Turn) (y : Turn) (ys : List Turn) → slice_get (xs ++ y ∷ y
 seam [] y ys = refl
 seam (x ∷ xs) y ys = seam xs y ys
 
-module _ (station : ℕ) (turns history : List Turn) (listed index : ℕ) (turn : Turn) (within : index < length history) (is : turn ≡ get_or history index turn) (far : Listed station turns history listed index) where
+module _ (station : ℕ) (turns history : List Turn) (listed index : ℕ) (turn : Turn) (within : index < length history) (is : turn ≡ get_or history index turn)
+    (far : Listed station turns history listed index) where
   -- the rest begins with this turn
   rest : drop index history ≡ turn ∷ drop (index + 1) history
   rest =
@@ -58,7 +59,8 @@ all station turns history listed index past far whole =
     ∙ append-nil (take listed turns)
     ∙ take_all listed turns (omega (arith, whole)))
 
-pub fewer : (station : ℕ) (turns history : List Turn) (listed index : ℕ) → length history ≤ index → Listed station turns history listed index → listed ≤ length turns → turns ≡ turns_of station history → listed ≡ length turns
+pub fewer : (station : ℕ) (turns history : List Turn) (listed index : ℕ) → length history ≤ index → Listed station turns history listed index → listed ≤ length turns
+    → turns ≡ turns_of station history → listed ≡ length turns
 fewer station turns history listed index past far most same =
     let whole : turns ≡ take listed turns =
     same ∙ far ∙ ap (λ (ts : List Turn). take listed turns ++ turns_of station ts) (drop_all index history past) ∙ append-nil (take listed turns) in

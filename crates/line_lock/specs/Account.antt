@@ -29,10 +29,10 @@ pub record HeldThen {D : Type 0} (clerk : ClerkState D) (told : ToldBalance) : T
   pub there : IsAccount told.account
   pub amount : told.amount ≡ held_after clerk told.turns told.account
 
--- The clerk bears out what a seat holds. Its turns are those of its station in the history, in order, each once. What it was
--- told is so: that it wasn't its turn; that the history holds so many turns; the last balance, as the account then stood;
--- that a fault of the device was met; and that the device failed in its turn: what the clerk accepts of that turn's entries
--- is in flight.
+-- The clerk bears out what a seat holds. Its turns are those of its station in the history, in order, each once. What
+-- it was told is so: that it wasn't its turn; that the history holds so many turns; the last balance, as the account
+-- then stood; that a fault of the device was met; and that the device failed in its turn: what the clerk accepts of
+-- that turn's entries is in flight.
 pub record IsBorneOut {D : Type 0} (clerk : ClerkState D) (seat : SeatState) : Type 0 where
   pub turns : seat.turns ≡ turns_of seat.station clerk.history
   pub denied : IfSome seat.denied (WasDenied clerk.opening.line clerk.history seat.station)

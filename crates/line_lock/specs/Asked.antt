@@ -31,9 +31,9 @@ noted seat account turns (Ok amount) = record seat { told = Some (record { accou
 noted seat account turns (Err Faulted) = record seat { faulted = true }
 noted seat account turns (Err NoAccount) = seat
 
--- An office that was opened on that device with that line was asked for an account's balance by a seat, and a clerk of it
--- answered: its turns are a legal history, which ends in its ledger, and while it works they are as many as the seat lists,
--- or more. The seat notes the answer, with how many they are.
+-- An office that was opened on that device with that line was asked for an account's balance by a seat, and a clerk of
+-- it answered: its turns are a legal history, which ends in its ledger, and while it works they are as many as the seat
+-- lists, or more. The seat notes the answer, with how many they are.
 pub record WasToldBalance {D : Type 0} (state : D → DeviceState) (device : DeviceState) (from : Configuration) (old new : SeatState) (account : ℕ) (answer : Result ℕ BalanceRefusal) : Type 0 where
   pub clerk : ClerkState D
   pub opened : WasOpenedOn state device from clerk
@@ -49,9 +49,11 @@ searched seat (Err find.Faulted) = record seat { faulted = true }
 searched seat (Err find.Changed) = seat
 searched seat (Err find.Device) = seat
 
--- An office that was opened on that device with that line was asked by a seat for a reference, from the record of a number
--- on, and a clerk of it answered, whose turns are a legal history. After it the device is another one at most by looks.
-pub record WasSearched {D : Type 0} (state : D → DeviceState) (device : DeviceState) (from : Configuration) (old new : SeatState) (reference first : ℕ) (answer : Result Found FindRefusal) : Type 0 where
+-- An office that was opened on that device with that line was asked by a seat for a reference, from the record of a
+-- number on, and a clerk of it answered, whose turns are a legal history. After it the device is another one at most by
+-- looks.
+pub record WasSearched {D : Type 0} (state : D
+    → DeviceState) (device : DeviceState) (from : Configuration) (old new : SeatState) (reference first : ℕ) (answer : Result Found FindRefusal) : Type 0 where
   pub clerk : ClerkState D
   pub opened : WasOpenedOn state device from clerk
   pub legal : KeepsHistory clerk

@@ -22,8 +22,8 @@ use Rattle.line_lock.specs.declared.lent.OfficeRefusal.TheVariants.{Opening}
 abbrev pub new_seats : ℕ → List SeatState
 new_seats count = map new_seat (range_with_len 0 count)
 
--- The seats account for the clerk's whole history: each of so many stations has one, the clerk bears out what it holds, each
--- turn is in the list of one, and a turn in which the device failed is counted at one.
+-- The seats account for the clerk's whole history: each of so many stations has one, the clerk bears out what it holds,
+-- each turn is in the list of one, and a turn in which the device failed is counted at one.
 pub record AccountFor {D : Type 0} (count : ℕ) (seats : List SeatState) (clerk : ClerkState D) : Type 0 where
   pub one_seat : (station : ℕ) → station < count → seats_of station seats ≡ 1
   pub borne_out : All (IsBorneOut clerk) seats
@@ -31,8 +31,8 @@ pub record AccountFor {D : Type 0} (count : ℕ) (seats : List SeatState) (clerk
   pub there : All (λ turn. turn.station < count) clerk.history
   pub failed : sum_by (λ seat. seat.failed) seats ≡ failed_turns clerk
 
--- The clerk of an office that was opened on that device with that line, over its whole life, and the audit of its opening
--- line and all its moves.
+-- The clerk of an office that was opened on that device with that line, over its whole life, and the audit of its
+-- opening line and all its moves.
 pub record IsClosed {D : Type 0} (state : D → DeviceState) (device : DeviceState) (from : Configuration) (clerk : ClerkState D) (audit : Audit) : Type 0 where
   pub stations : stations clerk.line ≡ stations from
   pub opened : WasOpenedOn state device from clerk

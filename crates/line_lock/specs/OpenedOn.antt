@@ -20,9 +20,9 @@ pub record SayTheSame (one other : DeviceState) : Type 0 where
   pub honest : one.honest ↔ other.honest
   pub faults : one.faults ≡ other.faults
 
--- What the type says that names an office is its ledger's name and number of parts, a device and a line. This blank and this
--- name are of an office that is opened on the device `opened` with the line `start`: the blank is of the name's ledger, which
--- has a part for each station, and the name says what the device and the line are.
+-- What the type says that names an office is its ledger's name and number of parts, a device and a line. This blank and
+-- this name are of an office that is opened on the device `opened` with the line `start`: the blank is of the name's
+-- ledger, which has a part for each station, and the name says what the device and the line are.
 pub record Names (ledger count : ℕ) (said : DeviceState) (from : Configuration) (blank : Blank) (opened : DeviceState) (start : Configuration) : Type 0 where
   pub name : blank.name ≡ ledger
   pub parts : blank.parts ≡ count
@@ -55,8 +55,8 @@ pub record WasLeftByClerk {D : Type 0} (state : D → DeviceState) (device : Dev
   pub legal : KeepsHistory clerk
   pub acknowledged : device.honest → LeavesAcknowledged state clerk
 
--- The turns are a legal history from the opening on that device with that line: from that line on, and from a state that on
--- an honest device is what its image recovers to.
+-- The turns are a legal history from the opening on that device with that line: from that line on, and from a state
+-- that on an honest device is what its image recovers to.
 pub record IsHistoryOf (device : DeviceState) (from : Configuration) (turns : List Turn) : Type 0 where
   pub found : State
   pub recovers : device.honest → RecoversTo found device.reads

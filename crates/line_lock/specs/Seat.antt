@@ -47,8 +47,8 @@ pub record IsDeniedAfter (device : DeviceState) (from : Configuration) (station 
   pub many : length turns ≡ before
   pub no_privilege : ¬ HasPrivilege (line_after from turns) station
 
--- A clerk refused the station a turn with these entries for that reason, where it stood behind some turns: they are a legal
--- history from the opening on that device with that line.
+-- A clerk refused the station a turn with these entries for that reason, where it stood behind some turns: they are a
+-- legal history from the opening on that device with that line.
 pub record WasRefused (device : DeviceState) (from : Configuration) (station : ℕ) (entries : List Entry) (refusal : TurnRefusal) : Type 0 where
   pub turns : List Turn
   pub history : IsHistoryOf device from turns

@@ -64,8 +64,8 @@ pub enum OfficeRefusal<F: Display> {
 /// closing, and what the work answered.
 ///
 /// # Errors
-/// The device comes back. [`OfficeRefusal::Opening`]: as it was left by the opening; else as a clerk that took turns on it
-/// left it.
+/// The device comes back. [`OfficeRefusal::Opening`]: as it was left by the opening; else as a clerk that took turns on
+/// it left it.
 pub fn with_office<D: Device, W: OfficeWork<D>>(
     alloc: Global,
     device: D,

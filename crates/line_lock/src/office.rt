@@ -38,8 +38,8 @@ pub struct Office<D: Device, L: Count + OpenedOn> {
 
 impl<D: Device, L: Count + OpenedOn> Office<D, L> {
     /// Opens the ledger of a device for a line of stations, and hands out a seat for each, station 0 first. All memory
-    /// is reserved before any device call. A refusal hands the device back and drops the blank. `L` names the device and
-    /// the line, so that closing the office can tell what it was opened on.
+    /// is reserved before any device call. A refusal hands the device back and drops the blank. `L` names the device
+    /// and the line, so that closing the office can tell what it was opened on.
     ///
     /// # Errors
     /// The device comes back with an [`OpenRefusal`], the first that holds; `Memory` comes before any device call. The
@@ -102,8 +102,8 @@ impl<D: Device, L: Count + OpenedOn> Office<D, L> {
         Ok(seat.turns[seat.turns.len() - 1])
     }
 
-    /// As `turn`, but for an office whose history is meant to hold so many turns and no more: under the lock it is looked
-    /// at first whether it holds them.
+    /// As `turn`, but for an office whose history is meant to hold so many turns and no more: under the lock it is
+    /// looked at first whether it holds them.
     ///
     /// # Errors
     /// `Memory` for the seat's list, `Reached` if so many turns were taken, and then as of `turn`.
@@ -129,8 +129,8 @@ impl<D: Device, L: Count + OpenedOn> Office<D, L> {
         }
     }
 
-    /// As [`turn_within`](Office::turn_within), but the turn isn't handed out: it stays where it is kept, the last of the
-    /// seat's list.
+    /// As [`turn_within`](Office::turn_within), but the turn isn't handed out: it stays where it is kept, the last of
+    /// the seat's list.
     ///
     /// # Errors
     /// The same.
@@ -156,8 +156,8 @@ impl<D: Device, L: Count + OpenedOn> Office<D, L> {
         self.locked.lock(rt).turn_within(seat, entries, limit)
     }
 
-    /// What an account holds; it may wait for the lock. The history that the balance comes from has at least as many turns
-    /// as the seat lists. The seat notes the answer, for closing the office.
+    /// What an account holds; it may wait for the lock. The history that the balance comes from has at least as many
+    /// turns as the seat lists. The seat notes the answer, for closing the office.
     ///
     /// # Errors
     /// [`BalanceRefusal`], the first that holds.
@@ -175,8 +175,8 @@ impl<D: Device, L: Count + OpenedOn> Office<D, L> {
     }
 
     /// Looks for an entry with that reference in the records of the live bank, as [`Clerk::find`] does; it may wait for
-    /// the lock. A call takes the lock for one step, of [`turn_clerk::SEARCH_STEP`] records at most: between the calls of a
-    /// long search others may take turns. The seat notes if it is told of a fault, for closing the office.
+    /// the lock. A call takes the lock for one step, of [`turn_clerk::SEARCH_STEP`] records at most: between the calls
+    /// of a long search others may take turns. The seat notes if it is told of a fault, for closing the office.
     ///
     /// # Errors
     /// [`FindRefusal`], the first that holds.
@@ -194,10 +194,10 @@ impl<D: Device, L: Count + OpenedOn> Office<D, L> {
         self.locked.lock(rt).find(seat, reference, from)
     }
 
-    /// Closes the office, if the list has the seat of each station and the clerk bears out what each one holds: its list is
-    /// that of the station's turns, in order, each once; if it was told that it isn't its turn, it wasn't; the last balance
-    /// that it was told is what the account then held; and where it was told of a fault, there was one. Seats may come in
-    /// any order. It waits for nobody, and a faulted office is closed too.
+    /// Closes the office, if the list has the seat of each station and the clerk bears out what each one holds: its
+    /// list is that of the station's turns, in order, each once; if it was told that it isn't its turn, it wasn't; the
+    /// last balance that it was told is what the account then held; and where it was told of a fault, there was one.
+    /// Seats may come in any order. It waits for nobody, and a faulted office is closed too.
     ///
     /// # Errors
     /// The office and the seats come back: a seat is missing, or is another office's.

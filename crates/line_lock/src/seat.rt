@@ -79,15 +79,16 @@ impl<L: Count> Seat<L> {
         self.turns.as_slice()
     }
 
-    /// How many turns the office's history held when the seat was last answered [`turn_clerk::TurnRefusal::NotPrivileged`].
+    /// How many turns the office's history held when the seat was last answered
+    /// [`turn_clerk::TurnRefusal::NotPrivileged`].
     pub fn denied(&self) -> Option<u64>
         ensures { result ≡ self.now.denied }
     {
         self.denied
     }
 
-    /// The greatest limit that the seat was answered [`crate::WithinRefusal::Reached`] for: the office's history held as
-    /// many turns then; 0 if it never was.
+    /// The greatest limit that the seat was answered [`crate::WithinRefusal::Reached`] for: the office's history held
+    /// as many turns then; 0 if it never was.
     pub fn reached(&self) -> u64
         ensures { result ≡ self.now.reached }
     {

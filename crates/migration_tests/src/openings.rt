@@ -75,8 +75,8 @@ impl Scene {
         })
     }
 
-    /// An image with three records, whose rows name sectors of the live bank as if that were the first one. Before them the
-    /// superblock is read, both gates and both heads, and in layout 3 the snapshot.
+    /// An image with three records, whose rows name sectors of the live bank as if that were the first one. Before them
+    /// the superblock is read, both gates and both heads, and in layout 3 the snapshot.
     pub fn of_bank(
         rt: &impl Abort,
         alloc: Global,
@@ -130,8 +130,8 @@ impl Scene {
         Ok(calls)
     }
 
-    /// Each row is refused as it says, behind one sync and the reads that it names; and whichever of these calls fails is
-    /// the last one, and told as the device's fault.
+    /// Each row is refused as it says, behind one sync and the reads that it names; and whichever of these calls fails
+    /// is the last one, and told as the device's fault.
     pub fn expect(&self, rt: &impl Abort, alloc: Global, rows: &[Row]) -> Result<(), Fail> {
         for (changes, refusal, reads) in rows {
             let image = self.changed(rt, alloc, changes)?;

@@ -30,8 +30,8 @@ fn first_live(rt: &impl Abort, alloc: Global, layout: Banks) -> Result<Scene, Fa
     Scene::whole(alloc, opens, layout.with_records(rt, alloc, Live::First)?)
 }
 
-// What is wrong with the superblock: its mark, its version, a byte that isn't zero, no slots, one slot too many, and far
-// too many. Nothing behind it is read. A device without a sector isn't read at all.
+// What is wrong with the superblock: its mark, its version, a byte that isn't zero, no slots, one slot too many, and
+// far too many. Nothing behind it is read. A device without a sector isn't read at all.
 #[test]
 fn a_superblock_is_refused_before_all_else(rt: HostRuntime) -> Result<(), Fail> {
     use OpenRefusal::{Size, Unformatted, Version};
@@ -132,8 +132,8 @@ fn a_row_of_layout_1_is_refused_in_order(rt: HostRuntime) -> Result<(), Fail> {
     scene.expect_sound(&rt, alloc, &[0, 2, 1, 4, 3, 6, 5, 8, 1, 3, 5])
 }
 
-// The sectors are those of the first bank: its balances are sector 3, slot k has its body in sector 4 + 2k, and its gate
-// behind it. The balances are read once all records are, and then each record once more.
+// The sectors are those of the first bank: its balances are sector 3, slot k has its body in sector 4 + 2k, and its
+// gate behind it. The balances are read once all records are, and then each record once more.
 #[test]
 fn a_bank_of_layout_2_is_refused_in_order(rt: HostRuntime) -> Result<(), Fail> {
     use Cause::{Bank, Entry, Header, Sequence, Tail, Verdict};
@@ -176,9 +176,9 @@ fn a_bank_of_layout_2_is_refused_in_order(rt: HostRuntime) -> Result<(), Fail> {
     Ok(())
 }
 
-// The sectors are those of the first bank: its balances are sectors 3 to 18 and its marks sector 19, which are read first;
-// slot k has its body in sector 20 + 2k, and its gate behind it. What is wrong with the snapshot or with an entry is told
-// once all slots were read. Neither of the two balances is over the limit alone.
+// The sectors are those of the first bank: its balances are sectors 3 to 18 and its marks sector 19, which are read
+// first; slot k has its body in sector 20 + 2k, and its gate behind it. What is wrong with the snapshot or with an
+// entry is told once all slots were read. Neither of the two balances is over the limit alone.
 #[test]
 fn a_bank_of_layout_3_is_refused_in_order(rt: HostRuntime) -> Result<(), Fail> {
     use Cause::{Bank, Entry, Header, Sequence, Tail, Verdict};

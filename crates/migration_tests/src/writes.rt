@@ -9,8 +9,9 @@ use std::alloc::Global;
 use std::process::Abort;
 use std::test::Fail;
 
-/// Of a device with two slots in each bank, as the formats say: the first bank's head, its snapshot in sixteen sectors and
-/// its marks, the gate of each of its slots and its own, the second bank's gate, and last the superblock; then one sync.
+/// Of a device with two slots in each bank, as the formats say: the first bank's head, its snapshot in sixteen sectors
+/// and its marks, the gate of each of its slots and its own, the second bank's gate, and last the superblock; then one
+/// sync.
 const CALLS: [Call; 24] = [
     Call::Write(2),
     Call::Write(3),

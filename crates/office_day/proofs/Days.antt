@@ -38,9 +38,9 @@ pub record Parts : Type 0 where
   pub left : List Left
   pub days : List StationDay
 
--- How a day went in an office that was opened on that device with that line, and has this clerk: what each station holds is
--- handed in, it runs from a new seat and a fresh desk, nobody sends it home, the clerk bears out what its seat then holds, and
--- its requests are reconciled.
+-- How a day went in an office that was opened on that device with that line, and has this clerk: what each station
+-- holds is handed in, it runs from a new seat and a fresh desk, nobody sends it home, the clerk bears out what its seat
+-- then holds, and its requests are reconciled.
 pub record Went {D : Type 0} (device : DeviceState) (from : Configuration) (clerk : ClerkState D) (moves : ℕ) (parts : Parts) : Type 0 where
   pub handed : AllZip HasHandedIn parts.held parts.feeds
   pub together : AllZip AreTogether parts.feeds parts.desks

@@ -20,7 +20,8 @@ there_is : (P Q : ℕ → Type 0) (told : Option ℕ) → IsSomeAnd told P → I
 there_is P Q (Some n) _ holds = (n, holds)
 there_is P Q None x holds = elim x [ ]
 
-pub has_ended : {D : Type 0} (clerk : ClerkState D) {device : DeviceState} {from : Configuration} {moves : ℕ} {closes : Type 0} (station : ℕ) (old new : SeatState) (before after : DeskState) (end : End)
+pub has_ended : {D : Type 0} (clerk : ClerkState D) {device : DeviceState} {from : Configuration} {moves : ℕ} {closes : Type 0} (station : ℕ) (old new : SeatState)
+    (before after : DeskState) (end : End)
     → old ≡ new_seat station → (ran : HasRun device from old new before after end moves closes) → IsBorneOut clerk new
     → HasEnded clerk moves station closes end ran.worked.given_up
 has_ended clerk station old new before after end sat ran out =
@@ -38,7 +39,8 @@ has_ended clerk station old new before after end sat ran out =
     }
 
 -- that a station may be sent home may be left out
-pub ended_anyhow : {D : Type 0} (clerk : ClerkState D) (moves station : ℕ) (closes : Type 0) (end : End) (given_up : List Ask) → HasEnded clerk moves station closes end given_up → HasEnded clerk moves station (Unit {0}) end given_up
+pub ended_anyhow : {D : Type 0} (clerk : ClerkState D) (moves station : ℕ) (closes : Type 0) (end : End) (given_up : List Ask) → HasEnded clerk moves station closes end given_up
+    → HasEnded clerk moves station (Unit {0}) end given_up
 ended_anyhow clerk moves station closes end given_up ended = record {
   reached = ended.reached;
   tries = ended.tries;

@@ -38,8 +38,10 @@ have_served {X = X} {device = device} {from = from} seats desks old new moves cl
           let new_part = sym (get_or-map left_of new i there part after) in
           let was = slice_index_or old i there in
           let is = slice_index_or new i there in
-          subst (λ (s : SeatState). HasRun device from s (slice_index_or (map seat_of new) i seat) (slice_index_or desks i desk) (slice_index_or (map left_of new) i part).desk (slice_index_or (map left_of new) i part).end moves closes) old_seat
-          (subst (λ (s : SeatState). HasRun device from was.seat s (slice_index_or desks i desk) (slice_index_or (map left_of new) i part).desk (slice_index_or (map left_of new) i part).end moves closes) new_seat
+          subst (λ (s : SeatState). HasRun device from s (slice_index_or (map seat_of new) i seat) (slice_index_or desks i desk) (slice_index_or (map left_of new) i part).desk
+          (slice_index_or (map left_of new) i part).end moves closes) old_seat
+          (subst (λ (s : SeatState). HasRun device from was.seat s (slice_index_or desks i desk) (slice_index_or (map left_of new) i part).desk
+          (slice_index_or (map left_of new) i part).end moves closes) new_seat
           (subst (λ (d : DeskState). HasRun device from was.seat is.seat d (slice_index_or (map left_of new) i part).desk (slice_index_or (map left_of new) i part).end moves closes) old_desk
           (subst (λ (p : Left). HasRun device from was.seat is.seat was.desk p.desk p.end moves closes) new_part (ran.each i there before))));
     }
@@ -55,7 +57,8 @@ pub lent_back : {A : Type 0} (n : ℕ) (new old : List A) → length new ≡ n �
 lent_back n new old long = ap (λ m. take m (new ++ drop (length new) old)) (sym long) ∙ take-append_seam new (drop (length new) old)
 
 -- each feed is still that of the desk that its station left
-pub stay_together : {device : DeviceState} {from : Configuration} (feeds : List FeedState) (seats : List SeatState) (desks : List DeskState) (after : List SeatState) (left : List Left) (moves : ℕ) (closes : Type 0)
+pub stay_together : {device : DeviceState} {from : Configuration} (feeds : List FeedState) (seats : List SeatState) (desks : List DeskState) (after : List SeatState) (left : List Left)
+    (moves : ℕ) (closes : Type 0)
     → AllZip AreTogether feeds desks → length desks ≡ length seats → HaveServed device from seats desks after left moves closes → AllZip stands_with feeds left
 stay_together feeds seats desks after left moves closes together alike served =
     let as_many : length desks ≡ length feeds = AllZip-long AreTogether feeds desks together in

@@ -39,7 +39,8 @@ use Rattle.office_day.proofs.Pairing.{stands_with}
 use Rattle.office_day.proofs.Limits.{IsBelow, all_below, short}
 
 -- In an office whose clerk bears out what its seats hold, a station's own turns are those of the history.
-module _ {device : DeviceState} {from : Configuration} {moves : ℕ} {closes : Type 0} (count : ℕ) {D : Type 0} (clerk : ClerkState D) {desks : List DeskState} {after : List SeatState} {left : List Left}
+module _ {device : DeviceState} {from : Configuration} {moves : ℕ} {closes : Type 0} (count : ℕ) {D : Type 0} (clerk : ClerkState D) {desks : List DeskState} {after : List SeatState}
+    {left : List Left}
     (served : HaveServed device from (new_seats count) desks after left moves closes) (out : All (IsBorneOut clerk) after) where
   in_seats : (i : ℕ) → i < count → i < length (new_seats count)
   in_seats i low = subst (λ n. i < n) (sym (length-new_seats count)) low
@@ -48,7 +49,8 @@ module _ {device : DeviceState} {from : Configuration} {moves : ℕ} {closes : T
   in_after i low = subst (λ n. i < n) (sym served.seats_as_many) (in_seats i low)
 
   abbrev worked : (i : ℕ) (desk : DeskState) (part : Left) (low : i < count) → let seat = new_seat 0 in
-      HasWorked (slice_index_or (new_seats count) i seat) (slice_index_or after i seat) (slice_index_or desks i desk) (slice_index_or left i part).desk moves ((slice_index_or left i part).end ≡ Refused Device)
+      HasWorked (slice_index_or (new_seats count) i seat) (slice_index_or after i seat) (slice_index_or desks i desk) (slice_index_or left i part).desk moves
+      ((slice_index_or left i part).end ≡ Refused Device)
   worked i desk part low = (served.each i (new_seat 0) desk part (in_seats i low)).worked
 
   own_turns : (i : ℕ) (desk : DeskState) (part : Left) (low : i < count) → (worked i desk part low).turns ≡ turns_of i clerk.history
@@ -73,7 +75,8 @@ module _ {device : DeviceState} {from : Configuration} {moves : ℕ} {closes : T
       let part = first left some in
       own_within part part.desk s low))
 
-  pub own_served : (audit : Audit) (i : ℕ) (desk : DeskState) (part : Left) (low : i < count) → LeftAfter moves closes i [] (span_of clerk audit) (slice_index_or desks i desk) (slice_index_or left i part)
+  pub own_served : (audit : Audit) (i : ℕ) (desk : DeskState) (part : Left) (low : i < count)
+      → LeftAfter moves closes i [] (span_of clerk audit) (slice_index_or desks i desk) (slice_index_or left i part)
   own_served audit i desk part low =
       let did = worked i desk part low in
       let seat = new_seat 0 in
@@ -81,7 +84,8 @@ module _ {device : DeviceState} {from : Configuration} {moves : ℕ} {closes : T
       record {
         given_up = did.given_up;
         served = subst (λ (l : List Turn). HasServed (slice_index_or desks i desk) (slice_index_or left i part).desk l did.given_up) turns did.served;
-        ended = has_ended clerk i (slice_index_or (new_seats count) i seat) (slice_index_or after i seat) (slice_index_or desks i desk) (slice_index_or left i part).desk (slice_index_or left i part).end
+        ended = has_ended clerk i (slice_index_or (new_seats count) i seat) (slice_index_or after i seat) (slice_index_or desks i desk) (slice_index_or left i part).desk
+            (slice_index_or left i part).end
             (new_seat_at count i seat low) (served.each i seat desk part (in_seats i low)) (out i seat (in_after i low));
       }
 
@@ -120,7 +124,8 @@ module _ {D : Type 0} (state : D → DeviceState) (moves : ℕ) where
         record {
           given_up = last.given_up;
           served = subst (λ (l : List Turn). HasServed (slice_index_or from.desks i desk) (slice_index_or parts i part).desk l last.given_up) (turns-more i earlier.spans span)
-              (served-joined (slice_index_or from.desks i desk) (slice_index_or mid.desks i desk) (slice_index_or parts i part).desk (turns_in i earlier.spans) (turns_in i (span ∷ [])) last.given_up far last.served);
+              (served-joined (slice_index_or from.desks i desk) (slice_index_or mid.desks i desk) (slice_index_or parts i part).desk (turns_in i earlier.spans) (turns_in i (span ∷ []))
+              last.given_up far last.served);
           ended = last.ended;
         };
   }
@@ -171,7 +176,8 @@ module _ {D : Type 0} (state : D → DeviceState) (moves : ℕ) where
       ap length desks ∙ length-map parts (λ (part : Left). part.desk) ∙ left.as_many ∙ many ∙ sym closed.closed.stations ∙ ap stations (sym (line ∙ closed.closed.last))
 
 -- what a station's client was told, from what its feed and its desk have in the end
-was_served : {D : Type 0} (moves : ℕ) (closes : Type 0) (station : ℕ) (earlier : List (Span D)) (last : Span D) (before : DeskState) (feed : FeedState) (part : Left) (day : StationDay) → IsFresh before
+was_served : {D : Type 0} (moves : ℕ) (closes : Type 0) (station : ℕ) (earlier : List (Span D)) (last : Span D) (before : DeskState) (feed : FeedState) (part : Left) (day : StationDay)
+    → IsFresh before
     → LeftAfter moves closes station earlier last before part → IsReconciled feed part day → WasServed moves station earlier last feed.collected day
 was_served moves closes station earlier last before feed part day fresh left done =
     let served = left.served in

@@ -31,8 +31,8 @@ pub record IsAccountedFor (entries : List Entry) (turns : List Turn) (day : Stat
   pub answered : entries_of (asks_of day.answers.items) ≡ entries_of_turns turns ++ entries_of given_up
   pub outcomes : outcomes_in day.answers.items ≡ outcomes_of_turns turns ++ undecided given_up
 
--- A station had its day: all that it held is accounted for by the turns that the clerk's history has of it, each of which it
--- took while the history had fewer than `moves`; and so it ended, and nobody sent it home.
+-- A station had its day: all that it held is accounted for by the turns that the clerk's history has of it, each of
+-- which it took while the history had fewer than `moves`; and so it ended, and nobody sent it home.
 pub record HadDay {D : Type 0} (clerk : ClerkState D) (moves station : ℕ) (entries : List Entry) (day : StationDay) : Type 0 where
   pub account : IsAccountedFor entries (turns_of station clerk.history) day
   pub within : All (λ turn. turn.index < moves) (turns_of station clerk.history)
@@ -67,7 +67,8 @@ pub record AreReconciled (feeds : List FeedState) (left : List Left) (days : Lis
       → IsReconciled (slice_index_or feeds i feed) (slice_index_or left i part) (slice_index_or days i day)
 
 -- The stations at these seats and desks have run, and left what they then had.
-pub record HaveServed (device : DeviceState) (from : Configuration) (seats : List SeatState) (desks : List DeskState) (after : List SeatState) (left : List Left) (moves : ℕ) (closes : Type 0) : Type 0 where
+pub record HaveServed (device : DeviceState) (from : Configuration) (seats : List SeatState) (desks : List DeskState) (after : List SeatState) (left : List Left) (moves : ℕ)
+    (closes : Type 0) : Type 0 where
   pub seats_as_many : length after ≡ length seats
   pub left_as_many : length left ≡ length seats
   pub each : (i : ℕ) (seat : SeatState) (desk : DeskState) (part : Left) → i < length seats

@@ -15,10 +15,10 @@ use Rattle.station_desk.specs.Messages.{entries_of}
 abbrev pub WasOnceDenied : Configuration → List Turn → ℕ → Type 0
 WasOnceDenied opening history station = (before : ℕ) × WasDenied opening history station before
 
--- A station ended so, and gave these requests up: as Reached only where the history has so many turns; as Tries only where
--- it was once denied its turn, and as Refused neither for that nor as no station of the line; as Closed only where it may be
--- sent home. Requests were given up only where it ended by a failed device, and of these what the ledger accepts is the
--- clerk's batch in flight.
+-- A station ended so, and gave these requests up: as Reached only where the history has so many turns; as Tries only
+-- where it was once denied its turn, and as Refused neither for that nor as no station of the line; as Closed only
+-- where it may be sent home. Requests were given up only where it ended by a failed device, and of these what the
+-- ledger accepts is the clerk's batch in flight.
 pub record HasEnded {D : Type 0} (clerk : ClerkState D) (moves station : ℕ) (closes : Type 0) (end : End) (given_up : List Ask) : Type 0 where
   pub reached : end ≡ Reached → moves ≤ length clerk.history
   pub tries : end ≡ Tries → WasOnceDenied clerk.opening.line clerk.history station

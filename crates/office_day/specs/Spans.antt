@@ -33,8 +33,8 @@ span_of clerk audit = record { clerk = clerk; audit = audit }
 abbrev pub turns_in : {D : Type 0} → ℕ → List (Span D) → List Turn
 turns_in station spans = flat_map (λ span. turns_of station span.clerk.history) spans
 
--- The span was opened on that device with that line, and closed: what is promised of a closed office holds of it, and it
--- has at most so many turns.
+-- The span was opened on that device with that line, and closed: what is promised of a closed office holds of it, and
+-- it has at most so many turns.
 pub record IsSpan {D : Type 0} (state : D → DeviceState) (moves : ℕ) (device : DeviceState) (from : Configuration) (span : Span D) : Type 0 where
   pub closed : IsClosed state device from span.clerk span.audit
   pub within : length span.clerk.history ≤ moves
@@ -47,14 +47,15 @@ module _ {D : Type 0} (state : D → DeviceState) (moves : ℕ) where
   AreSpans device from (span ∷ spans) after to =
       IsSpan state moves (state device) from span × AreSpans span.clerk.journal.device span.clerk.line spans after to
 
--- Each desk gave, behind its earlier answers and in order, what became of the entries of its station's turns in these spans.
+-- Each desk gave, behind its earlier answers and in order, what became of the entries of its station's turns in these
+-- spans.
 pub record HaveGiven {D : Type 0} (spans : List (Span D)) (before after : List DeskState) : Type 0 where
   pub as_many : length after ≡ length before
   pub each : (i : ℕ) (desk : DeskState) → i < length before
       → HasServed (slice_index_or before i desk) (slice_index_or after i desk) (turns_in i spans) []
 
--- What a station left of an office that was open for these spans and a last one: its desk gave, in order, what became of the
--- entries of its turns in all of them, and then that those given up are undecided; and so it ended.
+-- What a station left of an office that was open for these spans and a last one: its desk gave, in order, what became
+-- of the entries of its turns in all of them, and then that those given up are undecided; and so it ended.
 pub record LeftAfter {D : Type 0} (moves : ℕ) (closes : Type 0) (station : ℕ) (earlier : List (Span D)) (last : Span D) (before : DeskState) (left : Left) : Type 0 where
   pub given_up : List Ask
   pub served : HasServed before left.desk (turns_in station (earlier ++ last ∷ [])) given_up
@@ -75,8 +76,8 @@ pub record Adjournment (D : Type 0) : Type 0 where
 abbrev pub adjourned_to : {D : Type 0} → D → Configuration → List DeskState → Adjournment D
 adjourned_to device line desks = record { device = device; line = line; desks = desks }
 
--- From there on an office was open for these spans, each of which left the next one its device, line and desks, and came to
--- this.
+-- From there on an office was open for these spans, each of which left the next one its device, line and desks, and
+-- came to this.
 pub record HasComeTo {D : Type 0} (state : D → DeviceState) (moves : ℕ) (from to : Adjournment D) : Type 0 where
   pub spans : List (Span D)
   pub joined : AreSpans state moves from.device from.line spans to.device to.line
@@ -89,18 +90,18 @@ pub record HasLived {D : Type 0} (state : D → DeviceState) (moves : ℕ) (clos
   pub closed : IsSpan state moves (state before.device) before.line last
   pub left : HaveLeft moves closes earlier.spans last from.desks parts
 
--- From there on an office was open for some spans, and the next one wasn't opened, or wasn't closed: the device is as the
--- refused opening left it, or comes from a clerk that took turns on it.
+-- From there on an office was open for some spans, and the next one wasn't opened, or wasn't closed: the device is as
+-- the refused opening left it, or comes from a clerk that took turns on it.
 pub record WasBrokenOff {D F : Type 0} (state : D → DeviceState) (moves : ℕ) (from : Adjournment D) (after : D) (refusal : OfficeRefusal F) : Type 0 where
   pub before : Adjournment D
   pub earlier : HasComeTo state moves from before
   pub opening : IfOpening refusal (IsRefused state before.device after)
   pub left : UnlessOpening refusal (WasLeftByClerk state (state before.device) before.line after)
 
--- What became of all that a station's client asked of an office that was open for these spans and a last one: each request
--- stands, in order and under its ticket, in one of the answers that it collected, in one that it didn't, or is unanswered; the
--- answers are, in order, what became of the entries of the station's turns, and then Undecided for requests that were given
--- up; and so the station ended, which a client may send home.
+-- What became of all that a station's client asked of an office that was open for these spans and a last one: each
+-- request stands, in order and under its ticket, in one of the answers that it collected, in one that it didn't, or is
+-- unanswered; the answers are, in order, what became of the entries of the station's turns, and then Undecided for
+-- requests that were given up; and so the station ended, which a client may send home.
 pub record WasServed {D : Type 0} (moves station : ℕ) (earlier : List (Span D)) (last : Span D) (collected : List Answer) (day : StationDay) : Type 0 where
   pub given_up : List Ask
   pub tickets : AreNumberedFrom 0 (asks_of collected ++ asks_of day.answers.items ++ day.unanswered.items)
@@ -125,8 +126,8 @@ pub record WasKeptOpen {D : Type 0} (state : D → DeviceState) (moves : ℕ) (d
   pub closed : IsSpan state moves (state between) stood last
   pub served : HaveBeenServed (stations line) moves earlier last collected days
 
--- The device comes from an office that was kept open on that one with that line, and isn't told of: behind some spans the
--- next wasn't opened, and the device is as that left it, or a clerk took turns on it.
+-- The device comes from an office that was kept open on that one with that line, and isn't told of: behind some spans
+-- the next wasn't opened, and the device is as that left it, or a clerk took turns on it.
 pub record WasAbandoned {D F : Type 0} (state : D → DeviceState) (moves : ℕ) (device : D) (line : Configuration) (after : D) (refusal : OfficeRefusal F) : Type 0 where
   pub earlier : List (Span D)
   pub between : D

@@ -49,13 +49,13 @@ impl Gate for NobodyLooks {
 }
 
 /// Opens an office on the device, with this line, and hands each station what it holds, the lowest station first. The
-/// stations take turns, each in a thread of its own, until `moves` turns are taken; one that isn't privileged tries again,
-/// at most `tries` times in a row. Then the office is closed. The call may wait.
+/// stations take turns, each in a thread of its own, until `moves` turns are taken; one that isn't privileged tries
+/// again, at most `tries` times in a row. Then the office is closed. The call may wait.
 ///
 /// # Errors
 /// The device comes back. [`DayRefusal::Opening`]: it can't be opened, for another reason than out of memory; nobody
-/// took a turn. [`DayRefusal::Memory`]: turns may have been taken; the device is as a clerk that took turns on it left it,
-/// with their batches. [`DayRefusal::Closing`]: the same; an office whose seats are its own never answers it.
+/// took a turn. [`DayRefusal::Memory`]: turns may have been taken; the device is as a clerk that took turns on it left
+/// it, with their batches. [`DayRefusal::Closing`]: the same; an office whose seats are its own never answers it.
 pub fn run_day<D: Device + Send, R: Threads + Wait + Sync>(
     rt: &R,
     alloc: Global,

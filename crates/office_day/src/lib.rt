@@ -24,5 +24,5 @@ pub use refusals::DayRefusal;
 pub use seated::Left;
 pub use spans::{Adjourned, Life, run_spans};
 pub use station_desk::{
-    Answer, Ask, Desk, End, Entry, EntryRefusal, Errand, Feed, Gate, Outcome, TurnRefusal,
+    Answer, Ask, Desk, End, EndName, Entry, EntryRefusal, Errand, Feed, Gate, Outcome, TurnRefusal,
 };

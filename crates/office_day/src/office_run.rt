@@ -17,13 +17,13 @@ use std::thread::Threads;
 /// What an office run leaves: its closing, and what each station left, that of station 0 first.
 pub type OfficeRun<D> = (Closing<D>, Vec<Left>);
 
-/// Opens an office on the device, with this line, seats its stations at these desks, that of station 0 first, and lets them
-/// take turns, each in a thread of its own, until `moves` turns are taken; one that isn't privileged tries again, at most
-/// `tries` times in a row. Then the office is closed. The gate is told what the stations do. The call may wait.
+/// Opens an office on the device, with this line, seats its stations at these desks, that of station 0 first, and lets
+/// them take turns, each in a thread of its own, until `moves` turns are taken; one that isn't privileged tries again,
+/// at most `tries` times in a row. Then the office is closed. The gate is told what the stations do. The call may wait.
 ///
 /// # Errors
-/// The device comes back. [`OfficeRefusal::Opening`]: as it was left by the opening; else as a clerk that took turns on it
-/// left it. The desks are lost.
+/// The device comes back. [`OfficeRefusal::Opening`]: as it was left by the opening; else as a clerk that took turns on
+/// it left it. The desks are lost.
 pub fn run_office<D: Device + Send, G: Gate + Sync, R: Threads + Wait + Sync>(
     rt: &R,
     alloc: Global,

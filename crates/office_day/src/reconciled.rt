@@ -35,8 +35,8 @@ fn reconciled(alloc: Global, feed: Feed, left: Left) -> Result<StationDay, Alloc
     }
 }
 
-/// What became of the requests of each feed, with what the station at the same place left: of those whose answers were not
-/// collected.
+/// What became of the requests of each feed, with what the station at the same place left: of those whose answers were
+/// not collected.
 ///
 /// # Errors
 /// Out of memory.

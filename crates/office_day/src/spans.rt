@@ -36,14 +36,14 @@ pub struct Life<D: Device> {
     pub left: Vec<Left>,
 }
 
-/// Opens an office on the device, with this line and these desks, lets its stations take turns, each in a thread of its own,
-/// and closes it. Where all `moves` turns were taken, it is opened again on the same device, line and desks, and so on, until
-/// a station ends otherwise: it was sent home, or refused. So its history takes the memory of one span, however long it is
-/// open. The gate tells the stations what to do. The call may wait.
+/// Opens an office on the device, with this line and these desks, lets its stations take turns, each in a thread of its
+/// own, and closes it. Where all `moves` turns were taken, it is opened again on the same device, line and desks, and
+/// so on, until a station ends otherwise: it was sent home, or refused. So its history takes the memory of one span,
+/// however long it is open. The gate tells the stations what to do. The call may wait.
 ///
 /// # Errors
-/// The device comes back, and the desks are lost. [`OfficeRefusal::Opening`]: a span can't be opened; else the device is as a
-/// clerk that took turns on it left it.
+/// The device comes back, and the desks are lost. [`OfficeRefusal::Opening`]: a span can't be opened; else the device
+/// is as a clerk that took turns on it left it.
 pub fn run_spans<D: Device + Send, G: Gate + Sync, R: Threads + Wait + Sync>(
     rt: &R,
     alloc: Global,

@@ -3,7 +3,8 @@ use Rattle.std.specs.Prelude.{◌≡◌, ℕ, false, Option, if◌then◌else◌
 use Rattle.script_grammar.specs.declared.cutting.Cut.{Cut}
 use Rattle.script_grammar.specs.declared.cutting.Cut.TheVariants.{Line, TooLong}
 
--- the first 258 bytes since the last line feed, and the line that the last call ended, if it ended one that isn't too long
+-- the first 258 bytes since the last line feed, and the line that the last call ended, if it ended one that isn't too
+-- long
 pub record Cutting : Type 0 where
   pub since : List ℕ
   pub ended : Option (List ℕ)

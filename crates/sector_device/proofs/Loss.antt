@@ -68,7 +68,8 @@ write_torn old new at from before sector lt kept reads_are calls_are =
     let made : List Call = Wrote at before ∷ calls_of old in
     let old_moment : length old.calls.items ≡ length (calls_of old) = sym (length-reverse old.calls.items) in
     let new_moment : length new.calls.items ≡ length (calls_of old) + 1 = sym (length-reverse new.calls.items) ∙ ap length calls_are ∙ omega arith in
-    let same : (since : ℕ) (image : Image) → LeftSince reads calls since image ≡ LeftSince (with_sector was at from) made since image = λ since image i. LeftSince (reads_are i) (calls_are i) since image in
+    let same : (since : ℕ) (image : Image)
+    → LeftSince reads calls since image ≡ LeftSince (with_sector was at from) made since image = λ since image i. LeftSince (reads_are i) (calls_are i) since image in
     let same_now : (image : Image) → MayLeave reads calls image ≡ MayLeave (with_sector was at from) made image = λ image i. MayLeave (reads_are i) (calls_are i) image in
     record {
       time = record {

@@ -35,7 +35,8 @@ one_falls c m h p crowded =
     Change-falls m.station (cells_of c) (cells_of (next c m)) (Change-moved c m.station m.rule h p) (omega arith)
 
 -- a run that leaves two privileges or more each time
-run_falls : (moves : List Move) (c : Configuration) → IsConfiguration c → IsRun c moves → ((k : ℕ) → k ≤ length moves → IsCrowded (configuration_at c moves k)) → energy (cells_of (after c moves)) + length moves ≤ energy (cells_of c)
+run_falls : (moves : List Move) (c : Configuration) → IsConfiguration c → IsRun c moves → ((k : ℕ) → k ≤ length moves → IsCrowded (configuration_at c moves k))
+    → energy (cells_of (after c moves)) + length moves ≤ energy (cells_of c)
 run_falls [] c h run crowded = omega arith
 run_falls (m ∷ moves) c h run crowded =
     let p = run.0.privilege in
@@ -99,7 +100,8 @@ energy_within c h two =
     omega arith
 
 -- no run has so many moves and a crowd each time
-pub crowded_ends : (c : Configuration) (moves : List Move) (m : ℕ) → IsConfiguration c → IsRun c moves → let n = stations c - 1 in let k = length (privileges_of c) in m ≡ (k - 1) * (2 * n - k) + 1 → m ≤ length moves → ((i : ℕ) → i ≤ m → IsCrowded (configuration_at c moves i)) → ⊥
+pub crowded_ends : (c : Configuration) (moves : List Move) (m : ℕ) → IsConfiguration c → IsRun c moves
+    → let n = stations c - 1 in let k = length (privileges_of c) in m ≡ (k - 1) * (2 * n - k) + 1 → m ≤ length moves → ((i : ℕ) → i ≤ m → IsCrowded (configuration_at c moves i)) → ⊥
 crowded_ends c moves m h run bound long crowded =
     let front = take m moves in
     let front_long : length front ≡ m = length-take-le m moves long in
@@ -161,7 +163,8 @@ within_square c h two =
     (omega arith, bound_most n k (k - 1) (n - k) (omega arith) (omega arith))
 
 -- a bound that is enough from a start that isn't legitimate is enough
-reaches : (c : Configuration) (moves : List Move) (most : ℕ) → IsConfiguration c → IsRun c moves → most ≤ length moves → let n = stations c - 1 in let k = length (privileges_of c) in (IsCrowded c → (k - 1) * (2 * n - k) + 1 ≤ most) → ReachesLegitimate c moves most
+reaches : (c : Configuration) (moves : List Move) (most : ℕ) → IsConfiguration c → IsRun c moves → most ≤ length moves
+    → let n = stations c - 1 in let k = length (privileges_of c) in (IsCrowded c → (k - 1) * (2 * n - k) + 1 ≤ most) → ReachesLegitimate c moves most
 reaches c moves most h run long enough =
     elim (legitimate_or_crowded c moves 0 h run) [
       | inl is ↦ record { number = 0; within = omega arith; legitimate = is }

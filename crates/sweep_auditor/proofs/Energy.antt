@@ -300,7 +300,8 @@ Lowers-append e p r (Bare true ∷ front) later before h = bare_up e p _ (front 
 Lowers-append e p r (Bare false ∷ front) later before h = bare_low e p _ (front ++ later) (front ++ before) (Lowers-append e p r front later before h)
 
 -- the lowest mark stands below the part
-pub whole-falls : (e p r : ℕ) (later before : List Cell) → Lowers e p r later before → (front : List Cell) (below : ℕ) → 1 ≤ count front → whole below (front ++ later) + p + e + e ≤ whole below (front ++ before) + r + (e + e) * count front
+pub whole-falls : (e p r : ℕ) (later before : List Cell) → Lowers e p r later before → (front : List Cell) (below : ℕ) → 1 ≤ count front
+    → whole below (front ++ later) + p + e + e ≤ whole below (front ++ before) + r + (e + e) * count front
 whole-falls e p r later before h [] below marked = absurd (omega arith)
 whole-falls e p r later before h (Rise up ∷ front) below marked =
     let rest = Lowers-append e p r front later before h in

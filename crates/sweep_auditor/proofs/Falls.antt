@@ -2,8 +2,12 @@
 use Rattle.std.proofs.Common.{◌≡◌, ℕ, suc, ◌+◌, ◌*◌, ◌≤◌, Bool, true, false, List, [], ◌∷◌, ◌++◌, length, refl, ap, ◌∙◌, arith, inl, inr}
 use Rattle.std.proofs.Math.Nat.{mul-le-mul_left}
 use Rattle.std.proofs.lemmas.Bool.{cases_lt}
-use Rattle.sweep_auditor.proofs.Rows.{Cell, Rise, Fall, Bare, count, Onto, leaves_fall, leaves_none, onto_up, onto_low, onto_fall, Under, under_rise, falls_on, vanishes, AtTop, turns, ends, Change, bottom, raise, lower, top}
-use Rattle.sweep_auditor.proofs.Energy.{some, low, worth, whole, last, pairs, energy, some-most, some-least, low-most, worth-near, last-most, last-marked, last-bare, pairs-more, count-append, last-append, whole-bare, Lowers, whole-falls}
+use Rattle.sweep_auditor.proofs.Rows.{Cell, Rise, Fall, Bare, count, Onto, leaves_fall, leaves_none, onto_up, onto_low}
+use Rattle.sweep_auditor.proofs.Rows.{onto_fall, Under, under_rise, falls_on, vanishes, AtTop, turns, ends, Change}
+use Rattle.sweep_auditor.proofs.Rows.{bottom, raise, lower, top}
+use Rattle.sweep_auditor.proofs.Energy.{some, low, worth, whole, last, pairs, energy, some-most, some-least, low-most}
+use Rattle.sweep_auditor.proofs.Energy.{worth-near, last-most, last-marked, last-bare, pairs-more, count-append}
+use Rattle.sweep_auditor.proofs.Energy.{last-append, whole-bare, Lowers, whole-falls}
 
 -- ---- where the lowest mark stands below the two boundaries: what the change does to their worth
 
@@ -149,7 +153,8 @@ ended = record {
 
 -- ---- the energy then, by the number of marks that are lost
 
-pub keeps : (p : ℕ) (front later before : List Cell) → Lowers 0 p 0 later before → 1 ≤ count front → count later ≡ count before → ((a : ℕ) → last a later + 1 ≤ last a before + p) → energy (front ++ later) + 1 ≤ energy (front ++ before)
+pub keeps : (p : ℕ) (front later before : List Cell) → Lowers 0 p 0 later before → 1 ≤ count front → count later ≡ count before → ((a : ℕ) → last a later + 1 ≤ last a before + p)
+    → energy (front ++ later) + 1 ≤ energy (front ++ before)
 keeps p front later before h marked same lasts =
     let falls = whole-falls 0 p 0 later before h front 0 marked in
     let count_later = count-append front later in
@@ -160,7 +165,8 @@ keeps p front later before h marked same lasts =
     let lasting = lasts (last 0 front) in
     rw as_many (omega arith)
 
-pub loses_one : (r : ℕ) (front later before : List Cell) → Lowers 1 0 r later before → 1 ≤ count front → count before ≡ count later + 1 → r ≤ count later + count later → energy (front ++ later) + 1 ≤ energy (front ++ before)
+pub loses_one : (r : ℕ) (front later before : List Cell) → Lowers 1 0 r later before → 1 ≤ count front → count before ≡ count later + 1 → r ≤ count later + count later
+    → energy (front ++ later) + 1 ≤ energy (front ++ before)
 loses_one r front later before h marked fewer most =
     let falls = whole-falls 1 0 r later before h front 0 marked in
     let count_later = count-append front later in
@@ -169,7 +175,8 @@ loses_one r front later before h marked fewer most =
     let last_later = last-most 0 (front ++ later) (omega arith) in
     rw (one_more, count_later) (omega arith)
 
-pub loses_two : (r : ℕ) (front later before : List Cell) → Lowers 2 0 r later before → 1 ≤ count front → count before ≡ count later + 2 → r ≤ count later + count later + count later + count later → energy (front ++ later) + 1 ≤ energy (front ++ before)
+pub loses_two : (r : ℕ) (front later before : List Cell) → Lowers 2 0 r later before → 1 ≤ count front → count before ≡ count later + 2
+    → r ≤ count later + count later + count later + count later → energy (front ++ later) + 1 ≤ energy (front ++ before)
 loses_two r front later before h marked fewer most =
     let falls = whole-falls 2 0 r later before h front 0 marked in
     let count_later = count-append front later in
@@ -188,7 +195,8 @@ lowest front cells d bare long =
     let wholes = whole-bare front cells 0 d bare (omega arith) in
     rw (as_many, lasting, wholes) refl
 
-from_lowest : (front later before : List Cell) (d : ℕ) → count front ≡ 0 → length front ≡ d → pairs (count later) + last 0 later + whole d later + 1 ≤ pairs (count before) + last 0 before + whole d before → energy (front ++ later) + 1 ≤ energy (front ++ before)
+from_lowest : (front later before : List Cell) (d : ℕ) → count front ≡ 0 → length front ≡ d
+    → pairs (count later) + last 0 later + whole d later + 1 ≤ pairs (count before) + last 0 before + whole d before → energy (front ++ later) + 1 ≤ energy (front ++ before)
 from_lowest front later before d bare long h =
     let a = lowest front later d bare long in
     let b = lowest front before d bare long in
@@ -214,7 +222,8 @@ lowest_swallows back d two =
     let product = mul-le-mul_left {m = low back + low back} {n = low back + some back + (low back + some back)} d (omega arith) in
     omega arith
 
-lowest_fades_onto : (back : List Cell) (d : ℕ) → 2 ≤ count (Rise false ∷ Bare false ∷ back) → whole d (Rise false ∷ Bare false ∷ back) + 1 ≤ whole d (Rise true ∷ Fall ∷ back) + (count back + count back)
+lowest_fades_onto : (back : List Cell) (d : ℕ) → 2 ≤ count (Rise false ∷ Bare false ∷ back)
+    → whole d (Rise false ∷ Bare false ∷ back) + 1 ≤ whole d (Rise true ∷ Fall ∷ back) + (count back + count back)
 lowest_fades_onto back d two =
     let one = some-least back (omega arith) in
     let most = low-most back in
@@ -223,7 +232,8 @@ lowest_fades_onto back d two =
     omega arith
 
 -- it meets a rise
-lowest_meets_fall : (up : Bool) (back : List Cell) (d : ℕ) → 2 ≤ count (Bare true ∷ Fall ∷ back) → whole d (Bare true ∷ Fall ∷ back) ≤ whole d (Rise up ∷ Rise false ∷ back) + (count back + count back) + 1
+lowest_meets_fall : (up : Bool) (back : List Cell) (d : ℕ) → 2 ≤ count (Bare true ∷ Fall ∷ back)
+    → whole d (Bare true ∷ Fall ∷ back) ≤ whole d (Rise up ∷ Rise false ∷ back) + (count back + count back) + 1
 lowest_meets_fall up back d two =
     let one = some-least back (omega arith) in
     let at_most_one = some-most back in
@@ -248,7 +258,8 @@ next_lowest (Fall ∷ cells) below near two =
 next_lowest (Bare true ∷ cells) below near two = let rest = next_lowest cells (below + 1) false two in omega arith
 next_lowest (Bare false ∷ cells) below near two = let rest = next_lowest cells (below + 1) near two in omega arith
 
-lowest_meets_none : (up : Bool) (back : List Cell) (d : ℕ) → 2 ≤ count back → whole d (Bare true ∷ Bare true ∷ back) + 1 ≤ whole d (Rise up ∷ Rise true ∷ back) + (count back + count back + count back + count back)
+lowest_meets_none : (up : Bool) (back : List Cell) (d : ℕ) → 2 ≤ count back
+    → whole d (Bare true ∷ Bare true ∷ back) + 1 ≤ whole d (Rise up ∷ Rise true ∷ back) + (count back + count back + count back + count back)
 lowest_meets_none up back d two =
     let rest = next_lowest back (d + 1 + 1) false two in
     let one = some-least back (omega arith) in
@@ -283,7 +294,8 @@ top_above front k ends marked = loses_one _ front _ _ ended marked (omega arith)
 
 -- ---- and where it is one of the two
 
-raise_lowest : (front back : List Cell) (up : Bool) (m k : Cell) → Onto up m k → count front ≡ 0 → 2 ≤ count (Bare true ∷ k ∷ back) → energy (front ++ Bare true ∷ k ∷ back) + 1 ≤ energy (front ++ Rise up ∷ m ∷ back)
+raise_lowest : (front back : List Cell) (up : Bool) (m k : Cell) → Onto up m k → count front ≡ 0 → 2 ≤ count (Bare true ∷ k ∷ back)
+    → energy (front ++ Bare true ∷ k ∷ back) + 1 ≤ energy (front ++ Rise up ∷ m ∷ back)
 raise_lowest front back up m k (leaves_fall _) bare two =
     let d = length front in
     let less = lowest_meets_fall up back d two in
@@ -310,7 +322,8 @@ raise_lowest front back up m k onto_fall bare two =
     let loses = pairs-more (count back + 1) in
     from_lowest front _ _ d bare refl (omega arith)
 
-lower_lowest : (front back : List Cell) (m k : Cell) → Under (count front) m k → count front ≡ 0 → 2 ≤ count (k ∷ Bare false ∷ back) → energy (front ++ k ∷ Bare false ∷ back) + 1 ≤ energy (front ++ m ∷ Fall ∷ back)
+lower_lowest : (front back : List Cell) (m k : Cell) → Under (count front) m k → count front ≡ 0 → 2 ≤ count (k ∷ Bare false ∷ back)
+    → energy (front ++ k ∷ Bare false ∷ back) + 1 ≤ energy (front ++ m ∷ Fall ∷ back)
 lower_lowest front back m k under_rise bare two =
     let d = length front in
     let less = lowest_fades_onto back d two in

@@ -12,7 +12,8 @@ use Rattle.sweep_auditor.proofs.Bound.{stabilizes, stabilizes_from_any, stabiliz
 use Rattle.sweep_auditor.proofs.Sweep.{sweeps}
 
 -- it comes no later than any
-pub first_within : (c : Configuration) (moves : List Move) (most : ℕ) (first : Option ℕ) → IsFirstLegitimate c moves (length moves) first → most ≤ length moves → ReachesLegitimate c moves most → IsSomeAnd first (λ i. i ≤ most)
+pub first_within : (c : Configuration) (moves : List Move) (most : ℕ) (first : Option ℕ) → IsFirstLegitimate c moves (length moves) first → most ≤ length moves
+    → ReachesLegitimate c moves most → IsSomeAnd first (λ i. i ≤ most)
 first_within c moves most None h l found =
     let within = found.within in absurd (h found.number (omega arith) found.legitimate)
 first_within c moves most (Some i) h l found =
@@ -24,7 +25,8 @@ first_within c moves most (Some i) h l found =
 
 -- ---- what an audit knows at its end, where number i is the last
 
-module _ (c : Configuration) (moves : List Move) (i : ℕ) (first : Option ℕ) (is : IsConfiguration c) (run : IsRun c (take i moves)) (found : IsFirstLegitimate c moves i first) (end : length moves ≤ i) (within : i ≤ length moves) where
+module _ (c : Configuration) (moves : List Move) (i : ℕ) (first : Option ℕ) (is : IsConfiguration c) (run : IsRun c (take i moves)) (found : IsFirstLegitimate c moves i first)
+    (end : length moves ≤ i) (within : i ≤ length moves) where
   whole_run : IsRun c moves
   whole_run = let whole = take_all i moves end in rw whole at run
 
@@ -45,7 +47,8 @@ sweeps_if_found : (c : Configuration) (moves : List Move) (first : Option ℕ) �
 sweeps_if_found c moves None h is run = tt
 sweeps_if_found c moves (Some i) h is run = sweeps c moves i is run h.within h.legitimate
 
-pub first_sweeps : (c : Configuration) (moves : List Move) (i : ℕ) (first : Option ℕ) → IsConfiguration c → IsRun c (take i moves) → IsFirstLegitimate c moves i first → length moves ≤ i → i ≤ length moves → IfSome first (Sweeps c moves)
+pub first_sweeps : (c : Configuration) (moves : List Move) (i : ℕ) (first : Option ℕ) → IsConfiguration c → IsRun c (take i moves) → IsFirstLegitimate c moves i first
+    → length moves ≤ i → i ≤ length moves → IfSome first (Sweeps c moves)
 first_sweeps c moves i first is run found end within =
     sweeps_if_found c moves first (whole_found c moves i first is run found end within) is (whole_run c moves i first is run found end within)
 

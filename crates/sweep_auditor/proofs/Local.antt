@@ -1,5 +1,7 @@
 -- A move of the line changes its row at the station's own two boundaries.
-use Rattle.std.proofs.Common.{◌≡◌, ◌≢◌, ℕ, zero, suc, ◌+◌, ◌-◌, ◌<◌, ◌≤◌, Bool, true, false, cond, not, ◌&&◌, List, [], ◌∷◌, ◌++◌, refl, sym, ap, ◌∙◌, arith, inl, inr, get_or-set_same, get_or-set_other, zero-add, length-set, subst}
+use Rattle.std.proofs.Common.{◌≡◌, ◌≢◌, ℕ, zero, suc, ◌+◌, ◌-◌, ◌<◌, ◌≤◌, Bool, true, false, cond, not, ◌&&◌, List, []}
+use Rattle.std.proofs.Common.{◌∷◌, ◌++◌, refl, sym, ap, ◌∙◌, arith, inl, inr, get_or-set_same, get_or-set_other}
+use Rattle.std.proofs.Common.{zero-add, length-set, subst}
 use Rattle.std.specs.Bool.{beq}
 use Rattle.std.proofs.lemmas.Bool.{and_parts, cases_lt, eqb-true, false≢true, not-true}
 use Rattle.std.proofs.lemmas.List.FromFn.{length-map-range_with_len}
@@ -11,7 +13,10 @@ use Rattle.four_state.specs.Marks.{Mark, Rising, Falling, Still, marks_of}
 use Rattle.four_state.specs.PrivilegeLaws.{up_above}
 use Rattle.four_state.specs.declared.rules.Rule.{Rule}
 use Rattle.four_state.specs.declared.rules.Rule.TheVariants.{Bottom, Top, Raise, Lower}
-use Rattle.sweep_auditor.proofs.Rows.{Cell, Rise, Fall, Bare, cell_of, cell_at, cells_from, cells_of, count, count-cells_from, marks-cells_from, map_range-add, Onto, leaves_fall, leaves_none, onto_up, onto_low, onto_fall, Under, under_rise, falls_on, vanishes, AtTop, turns, ends, Change, bottom, raise, lower, top}
+use Rattle.sweep_auditor.proofs.Rows.{Cell, Rise, Fall, Bare, cell_of, cell_at, cells_from, cells_of, count}
+use Rattle.sweep_auditor.proofs.Rows.{count-cells_from, marks-cells_from, map_range-add, Onto, leaves_fall, leaves_none}
+use Rattle.sweep_auditor.proofs.Rows.{onto_up, onto_low, onto_fall, Under, under_rise, falls_on, vanishes, AtTop, turns}
+use Rattle.sweep_auditor.proofs.Rows.{ends, Change, bottom, raise, lower, top}
 use Rattle.sweep_auditor.proofs.Rewrite.{Step, Step-of}
 
 -- ---- a mark from the four bits beside its boundary
@@ -193,7 +198,8 @@ moved_elsewhere c s Lower = record {
 pub x_flipped_at : (c : Configuration) (s : ℕ) → s < stations c → x_at (record { x = x_flipped c s; up = c.up }) s ≡ not (x_at c s)
 x_flipped_at c s l = get_or-set_same c.x s (not (x_at c s)) false l
 
-pub raise_row : (c : Configuration) (b q : ℕ) → IsConfiguration c → stations c ≡ b + q + 3 → differ (x_at c (b + 1)) (x_at c b) ≡ true → cells_of (moved c (b + 1) Raise) ≡ cells_from c 0 b ++ Bare true ∷ cell (not (x_at c (b + 1))) (x_at c (b + 1 + 1)) true (up_at c (b + 1 + 1)) ∷ cells_from c (b + 1 + 1) q
+pub raise_row : (c : Configuration) (b q : ℕ) → IsConfiguration c → stations c ≡ b + q + 3 → differ (x_at c (b + 1)) (x_at c b) ≡ true
+    → cells_of (moved c (b + 1) Raise) ≡ cells_from c 0 b ++ Bare true ∷ cell (not (x_at c (b + 1))) (x_at c (b + 1 + 1)) true (up_at c (b + 1 + 1)) ∷ cells_from c (b + 1 + 1) q
 raise_row c b q h e p =
     let d = moved c (b + 1) Raise in
     let same = moved_elsewhere c (b + 1) Raise in
@@ -223,7 +229,8 @@ raise_change c b q h e p =
     (ap (λ k. k + 1) (sym (length-map-range_with_len (cell_at c) 0 b)))
     (cells_round c b q e ∙ ap (λ (m : Cell). front ++ m ∷ cell_at c (b + 1) ∷ back) was_below) (raise_row c b q h e p)
 
-pub lower_row : (c : Configuration) (b q : ℕ) → IsConfiguration c → stations c ≡ b + q + 3 → beq (x_at c (b + 1)) (x_at c (b + 1 + 1)) ≡ true → up_at c (b + 1 + 1) ≡ false → cells_of (moved c (b + 1) Lower) ≡ cells_from c 0 b ++ cell (x_at c b) (x_at c (b + 1)) (up_at c b) false ∷ Bare false ∷ cells_from c (b + 1 + 1) q
+pub lower_row : (c : Configuration) (b q : ℕ) → IsConfiguration c → stations c ≡ b + q + 3 → beq (x_at c (b + 1)) (x_at c (b + 1 + 1)) ≡ true → up_at c (b + 1 + 1) ≡ false
+    → cells_of (moved c (b + 1) Lower) ≡ cells_from c 0 b ++ cell (x_at c b) (x_at c (b + 1)) (up_at c b) false ∷ Bare false ∷ cells_from c (b + 1 + 1) q
 lower_row c b q h e p above =
     let d = moved c (b + 1) Lower in
     let same = moved_elsewhere c (b + 1) Lower in
@@ -239,7 +246,8 @@ lower_row c b q h e p above =
     later_round c d b q same e ∙ ap (λ (m : Cell). front ++ m ∷ cell_at d (b + 1) ∷ back) now_below
     ∙ ap (λ (m : Cell). front ++ cell (x_at c b) (x_at c (b + 1)) (up_at c b) false ∷ m ∷ back) now_here
 
-lower_change : (c : Configuration) (b q : ℕ) → IsConfiguration c → stations c ≡ b + q + 3 → beq (x_at c (b + 1)) (x_at c (b + 1 + 1)) ≡ true → up_at c (b + 1) ≡ true → up_at c (b + 1 + 1) ≡ false → Change (b + 1) (cells_of c) (cells_of (moved c (b + 1) Lower))
+lower_change : (c : Configuration) (b q : ℕ) → IsConfiguration c → stations c ≡ b + q + 3 → beq (x_at c (b + 1)) (x_at c (b + 1 + 1)) ≡ true → up_at c (b + 1) ≡ true
+    → up_at c (b + 1 + 1) ≡ false → Change (b + 1) (cells_of c) (cells_of (moved c (b + 1) Lower))
 lower_change c b q h e p up above =
     let front = cells_from c 0 b in
     let back = cells_from c (b + 1 + 1) q in

@@ -87,7 +87,8 @@ bare_cell n k s two l within =
     let above = le-ltb (suc s) k l in
     let stays : x_bit k (suc (suc s)) ≡ here = rw above refl in
     let next = ap (x_at (start n k)) e ∙ x_start n k (suc (suc s)) (omega arith) ∙ stays in
-    cell_is (start n k) (suc s) here here false false (x_start n k (suc s) (omega arith)) next (up_above n k (suc s) two l (omega arith)) (up_above n k (suc s + 1) two (omega arith) within) ∙ bare_by here
+    cell_is (start n k) (suc s) here here false false (x_start n k (suc s) (omega arith)) next (up_above n k (suc s) two l (omega arith))
+    (up_above n k (suc s + 1) two (omega arith) within) ∙ bare_by here
 
 rise_cells : (n k m s : ℕ) → k ≤ n → s + 1 + m + 1 ≤ k → cells_from (start n k) (suc s) m ≡ many m (Rise true)
 rise_cells n k zero s within l = refl

@@ -58,7 +58,8 @@ climbs (suc q) number front some lasts =
     rw counted (lasts_more _ _ _ _ (number + q) two (allows_raise front (many q (Bare false)) false false) here)
 
 -- a D comes down from the top
-sinks : (q number : ℕ) (front back : List Cell) → 1 ≤ count front → above true front ≡ true → Lasts (front ++ (Fall ∷ (many q (Bare false) ++ back))) number → Lasts (front ++ (many q (Bare true) ++ Fall ∷ back)) (number + q)
+sinks : (q number : ℕ) (front back : List Cell) → 1 ≤ count front → above true front ≡ true → Lasts (front ++ (Fall ∷ (many q (Bare false) ++ back))) number
+    → Lasts (front ++ (many q (Bare true) ++ Fall ∷ back)) (number + q)
 sinks zero number front back some up lasts = let same : number + 0 ≡ number = omega arith in rw same lasts
 sinks (suc q) number front back some up lasts =
     let next = front ++ Bare true ∷ [] in
@@ -72,7 +73,8 @@ sinks (suc q) number front back some up lasts =
     rw counted here
 
 -- a U goes up over boundaries at which the stations are up
-passes : (q number : ℕ) (front back : List Cell) (v : Bool) → 1 ≤ count back → Lasts (front ++ (many (suc q) (Bare true) ++ Rise true ∷ back)) number → Lasts (front ++ (Rise v ∷ (many (suc q) (Bare true) ++ back))) (number + suc q)
+passes : (q number : ℕ) (front back : List Cell) (v : Bool) → 1 ≤ count back → Lasts (front ++ (many (suc q) (Bare true) ++ Rise true ∷ back)) number
+    → Lasts (front ++ (Rise v ∷ (many (suc q) (Bare true) ++ back))) (number + suc q)
 passes zero number front back v some lasts =
     let counted : number + suc zero ≡ number + 1 = refl in
     let parts = count-append front (Rise v ∷ Bare true ∷ back) in

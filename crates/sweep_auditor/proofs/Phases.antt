@@ -58,7 +58,8 @@ PhaseStep-at n s p q p' q' a b (onward next below station some) =
     onward (omega arith) (omega arith) (station ∙ ap (station_of n) (sym here)) some
 PhaseStep-at n s p q p' q' a b (around next last station) = around (omega arith) (omega arith) station
 
-raise_steps : (n s : ℕ) (front back : List Mark) (m k : Mark) → Onto m k → s ≡ length front + 1 → length front + 2 + length back ≡ n → mark_count (front ++ Rising ∷ m ∷ back) ≡ 1 → PhaseStep n s (place 0 (front ++ Rising ∷ m ∷ back)) (place 0 (front ++ Still ∷ k ∷ back))
+raise_steps : (n s : ℕ) (front back : List Mark) (m k : Mark) → Onto m k → s ≡ length front + 1 → length front + 2 + length back ≡ n → mark_count (front ++ Rising ∷ m ∷ back) ≡ 1
+    → PhaseStep n s (place 0 (front ++ Rising ∷ m ∷ back)) (place 0 (front ++ Still ∷ k ∷ back))
 raise_steps n s front back m k onto_none e long one =
     let parts = mark_count-append front (Rising ∷ Still ∷ back) in
     let was = place-append front (Rising ∷ Still ∷ back) 0 (length front) (omega arith) (omega arith) in
@@ -101,7 +102,8 @@ lower_steps n s front back m k vanishes lowers =
     let left = mark_count-append front (Still ∷ Still ∷ back) in
     absurd (omega arith)
 
-top_steps : (n s : ℕ) (front : List Mark) (k : Mark) → AtTop k → s ≡ length front + 1 → length front + 1 ≡ n → mark_count (front ++ Rising ∷ []) ≡ 1 → mark_count (front ++ k ∷ []) ≡ 1 → PhaseStep n s (place 0 (front ++ Rising ∷ [])) (place 0 (front ++ k ∷ []))
+top_steps : (n s : ℕ) (front : List Mark) (k : Mark) → AtTop k → s ≡ length front + 1 → length front + 1 ≡ n → mark_count (front ++ Rising ∷ []) ≡ 1
+    → mark_count (front ++ k ∷ []) ≡ 1 → PhaseStep n s (place 0 (front ++ Rising ∷ [])) (place 0 (front ++ k ∷ []))
 top_steps n s front k turns e long one still =
     let f = length front in
     let parts = mark_count-append front (Rising ∷ []) in

@@ -1,5 +1,6 @@
 -- Moves that a row allows, and how long a line with that row can go on without a legitimate configuration.
-use Rattle.std.proofs.Common.{◌≡◌, ℕ, zero, suc, ◌+◌, ◌-◌, ◌<◌, ◌≤◌, Bool, true, false, not, ◌&&◌, List, [], ◌∷◌, ◌++◌, length, take, drop, get_or, refl, sym, ap, ◌∙◌, subst, arith, length-append, zero-add}
+use Rattle.std.proofs.Common.{◌≡◌, ℕ, zero, suc, ◌+◌, ◌-◌, ◌<◌, ◌≤◌, Bool, true, false, not, ◌&&◌, List, [], ◌∷◌, ◌++◌}
+use Rattle.std.proofs.Common.{length, take, drop, get_or, refl, sym, ap, ◌∙◌, subst, arith, length-append, zero-add}
 use Rattle.std.specs.Bool.{beq}
 use Rattle.std.proofs.lemmas.Bool.{and_parts, not-true, false≢true}
 use Rattle.std.proofs.lemmas.List.{take_at, append_cancel_left}
@@ -160,7 +161,8 @@ pub record Allows (c : Configuration) (s : ℕ) (rule : Rule) (later : List Cell
   pub privilege : IsPrivilege c s rule
   pub row : cells_of (moved c s rule) ≡ later
 
-pub allows_raise : (front back : List Cell) (v w : Bool) (c : Configuration) → IsConfiguration c → cells_of c ≡ front ++ Rise v ∷ Bare w ∷ back → Allows c (length front + 1) Raise (front ++ Bare true ∷ Rise w ∷ back)
+pub allows_raise : (front back : List Cell) (v w : Bool) (c : Configuration) → IsConfiguration c → cells_of c ≡ front ++ Rise v ∷ Bare w ∷ back
+    → Allows c (length front + 1) Raise (front ++ Bare true ∷ Rise w ∷ back)
 allows_raise front back v w c h e =
     let b = length front in
     let q = length back in
@@ -175,7 +177,8 @@ allows_raise front back v w c h e =
           ∙ ap (λ (l : List Cell). l ++ Bare true ∷ Rise w ∷ cells_from c (b + 1 + 1) q) r.front_is ∙ ap (λ (l : List Cell). front ++ Bare true ∷ Rise w ∷ l) r.back_is;
     }
 
-allows_lower : (front back : List Cell) (x y : Cell) (c : Configuration) → IsConfiguration c → cells_of c ≡ front ++ x ∷ Fall ∷ back → cell (x_at c (length front)) (x_at c (length front + 1)) (up_at c (length front)) false ≡ y → Allows c (length front + 1) Lower (front ++ y ∷ Bare false ∷ back)
+allows_lower : (front back : List Cell) (x y : Cell) (c : Configuration) → IsConfiguration c → cells_of c ≡ front ++ x ∷ Fall ∷ back
+    → cell (x_at c (length front)) (x_at c (length front + 1)) (up_at c (length front)) false ≡ y → Allows c (length front + 1) Lower (front ++ y ∷ Bare false ∷ back)
 allows_lower front back x y c h e now =
     let b = length front in
     let q = length back in
@@ -202,7 +205,8 @@ up_below c front h same up =
 bit_above : (c : Configuration) (b : ℕ) (x : Cell) → cell_at c b ≡ x → up_at c (b + 1) ≡ up_of x
 bit_above c b x e = sym (up_of-cell (x_at c b) (x_at c (b + 1)) (up_at c b) (up_at c (b + 1))) ∙ ap up_of e
 
-pub allows_sink : (front back : List Cell) (c : Configuration) → above true front ≡ true → IsConfiguration c → cells_of c ≡ front ++ Bare true ∷ Fall ∷ back → Allows c (length front + 1) Lower (front ++ Fall ∷ Bare false ∷ back)
+pub allows_sink : (front back : List Cell) (c : Configuration) → above true front ≡ true → IsConfiguration c → cells_of c ≡ front ++ Bare true ∷ Fall ∷ back
+    → Allows c (length front + 1) Lower (front ++ Fall ∷ Bare false ∷ back)
 allows_sink front back c up h e =
     let b = length front in
     let r = is_round c front (Bare true) Fall back h e in
@@ -210,7 +214,8 @@ allows_sink front back c up h e =
     let here = rw bit at r.here_is in
     allows_lower front back (Bare true) Fall c h e (lowered_bare (x_at c b) (x_at c (b + 1)) (up_at c b) here (up_below c front h r.front_is up))
 
-pub allows_fade : (front back : List Cell) (c : Configuration) → IsConfiguration c → cells_of c ≡ front ++ Rise true ∷ Fall ∷ back → Allows c (length front + 1) Lower (front ++ Rise false ∷ Bare false ∷ back)
+pub allows_fade : (front back : List Cell) (c : Configuration) → IsConfiguration c → cells_of c ≡ front ++ Rise true ∷ Fall ∷ back
+    → Allows c (length front + 1) Lower (front ++ Rise false ∷ Bare false ∷ back)
 allows_fade front back c h e =
     let b = length front in
     let r = is_round c front (Rise true) Fall back h e in
@@ -278,11 +283,13 @@ lasts_here row two c h e =
       crowded = λ k l. let first : 0 ≡ k = omega arith in subst (λ i. IsCrowded (configuration_at c [] i)) first (crowd_of c row h e two);
     }
 
-crowded_more : (c : Configuration) (m : Move) (moves : List Move) (number : ℕ) → IsCrowded c → ((k : ℕ) → k ≤ number → IsCrowded (configuration_at (next c m) moves k)) → (k : ℕ) → k ≤ number + 1 → IsCrowded (configuration_at c (m ∷ moves) k)
+crowded_more : (c : Configuration) (m : Move) (moves : List Move) (number : ℕ) → IsCrowded c → ((k : ℕ) → k ≤ number → IsCrowded (configuration_at (next c m) moves k)) → (k : ℕ)
+    → k ≤ number + 1 → IsCrowded (configuration_at c (m ∷ moves) k)
 crowded_more c m moves number here rest zero l = here
 crowded_more c m moves number here rest (suc k) l = rest k (omega arith)
 
-pub lasts_more : (row later : List Cell) (s : ℕ) (rule : Rule) (number : ℕ) → 2 ≤ count row → ((c : Configuration) → IsConfiguration c → cells_of c ≡ row → Allows c s rule later) → Lasts later number → Lasts row (number + 1)
+pub lasts_more : (row later : List Cell) (s : ℕ) (rule : Rule) (number : ℕ) → 2 ≤ count row → ((c : Configuration) → IsConfiguration c → cells_of c ≡ row → Allows c s rule later)
+    → Lasts later number → Lasts row (number + 1)
 lasts_more row later s rule number two allows lasts = λ c h e.
     let a = allows c h e in
     let m : Move = record { station = s; rule = rule } in

@@ -25,7 +25,9 @@ still_none c moves n none h k l =
     ]
 
 -- The first legitimate number stays, or the configuration with the next number is the first, or there is none still.
-pub first_more : (c : Configuration) (moves : List Move) (n : ℕ) (old new : Option ℕ) → IsFirstLegitimate c moves n old → IfSome old (λ i. new ≡ Some i) → (old ≡ None → IsLegitimate (configuration_at c moves (n + 1)) → new ≡ Some (n + 1)) → (old ≡ None → ¬ IsLegitimate (configuration_at c moves (n + 1)) → new ≡ None) → IsFirstLegitimate c moves (n + 1) new
+pub first_more : (c : Configuration) (moves : List Move) (n : ℕ) (old new : Option ℕ) → IsFirstLegitimate c moves n old → IfSome old (λ i. new ≡ Some i)
+    → (old ≡ None → IsLegitimate (configuration_at c moves (n + 1)) → new ≡ Some (n + 1)) → (old ≡ None → ¬ IsLegitimate (configuration_at c moves (n + 1)) → new ≡ None)
+    → IsFirstLegitimate c moves (n + 1) new
 first_more c moves n (Some i) new h found here not_here =
     subst (IsFirstLegitimate c moves (n + 1)) (sym found) (first_stays c moves n i h)
 first_more c moves n None new h found here not_here =
@@ -36,7 +38,8 @@ first_more c moves n None new h found here not_here =
 
 -- ---- each move of a run is a privilege at its place
 
-pub privilege_at : (moves : List Move) (c : Configuration) (i : ℕ) (d : Move) → IsRun c moves → i < length moves → IsPrivilege (configuration_at c moves i) (get_or moves i d).station (get_or moves i d).rule
+pub privilege_at : (moves : List Move) (c : Configuration) (i : ℕ) (d : Move) → IsRun c moves → i < length moves
+    → IsPrivilege (configuration_at c moves i) (get_or moves i d).station (get_or moves i d).rule
 privilege_at [] c i d run l = absurd (omega arith)
 privilege_at (m ∷ moves) c zero d run l = run.0.privilege
 privilege_at (m ∷ moves) c (suc i) d run l = privilege_at moves (next c m) i d run.1 (omega arith)

@@ -81,7 +81,8 @@ x_same c d n (suc i) marks first l =
 -- ---- the same bits up
 
 -- of a line with one mark, those below the mark are up
-up_is : (c : Configuration) (n i : ℕ) → IsConfiguration c → stations c ≡ n + 1 → mark_count (marks_from c 0 n) ≡ 1 → i ≤ n → ((mark_count (marks_from c 0 i) ≡ 0) × (up_at c i ≡ true)) ⊎ ((1 ≤ mark_count (marks_from c 0 i)) × (up_at c i ≡ false))
+up_is : (c : Configuration) (n i : ℕ) → IsConfiguration c → stations c ≡ n + 1 → mark_count (marks_from c 0 n) ≡ 1 → i ≤ n
+    → ((mark_count (marks_from c 0 i) ≡ 0) × (up_at c i ≡ true)) ⊎ ((1 ≤ mark_count (marks_from c 0 i)) × (up_at c i ≡ false))
 up_is c n i h e one l =
     let rest = n - i in
     let whole : i + rest ≡ n = omega arith in
@@ -132,7 +133,8 @@ same_phase false false p q n a b e = (refl, omega arith)
 same_phase true false p q n a b e = absurd (omega arith)
 same_phase false true p q n a b e = absurd (omega arith)
 
-pub same_configuration : (n : ℕ) (c d : Configuration) → IsConfiguration c → IsConfiguration d → stations c ≡ n + 1 → stations d ≡ n + 1 → IsLegitimate c → IsLegitimate d → phase_of n c ≡ phase_of n d → c ≡ d
+pub same_configuration : (n : ℕ) (c d : Configuration) → IsConfiguration c → IsConfiguration d → stations c ≡ n + 1 → stations d ≡ n + 1 → IsLegitimate c → IsLegitimate d
+    → phase_of n c ≡ phase_of n d → c ≡ d
 same_configuration n c d h k ec ed one_c one_d phase =
     let count_c = length-privileges_of c h in
     let count_d = length-privileges_of d k in
@@ -147,7 +149,8 @@ same_configuration n c d h k ec ed one_c one_d phase =
     let marks_n : marks_from c 0 n ≡ marks_from d 0 n = ap (marks_from c 0) (sym top_c) ∙ marks ∙ ap (marks_from d 0) top_d in
     let one : mark_count (marks_from c 0 n) ≡ 1 = ap (λ k. mark_count (marks_from c 0 k)) (sym top_c) ∙ sym count_c ∙ one_c in
     let each : (b : ℕ) → b < n → mark_at c b ≡ mark_at d b =
-    λ b l. sym (get_or-map-range_with_len (mark_at c) 0 n b b Still l (omega arith)) ∙ ap (λ (ms : List Mark). get_or ms b Still) marks_n ∙ get_or-map-range_with_len (mark_at d) 0 n b b Still l (omega arith) in
+    λ b l. sym (get_or-map-range_with_len (mark_at c) 0 n b b Still l (omega arith)) ∙ ap (λ (ms : List Mark). get_or ms b Still) marks_n
+    ∙ get_or-map-range_with_len (mark_at d) 0 n b b Still l (omega arith) in
     let long_up_c = h.as_long in
     let long_up_d = k.as_long in
     let xs : c.x ≡ d.x = ext_get_or false c.x d.x (ec ∙ sym ed) (λ i l. x_same c d n i each parts.0 (omega arith)) in

@@ -1,5 +1,7 @@
 -- After a legitimate configuration the stations sweep up and down, and each 4N moves it comes again.
-use Rattle.std.proofs.Common.{◌≡◌, ◌↔◌, ℕ, zero, suc, ◌+◌, ◌-◌, ◌*◌, ◌/◌, ◌%◌, ◌<◌, ◌≤◌, ◌⊎◌, Bool, true, false, cond, List, [], ◌∷◌, ◌++◌, length, map, take, drop, refl, sym, ap, ◌∙◌, subst, arith, inl, inr, length-drop, zero-add}
+use Rattle.std.proofs.Common.{◌≡◌, ◌↔◌, ℕ, zero, suc, ◌+◌, ◌-◌, ◌*◌, ◌/◌, ◌%◌, ◌<◌, ◌≤◌, ◌⊎◌, Bool, true, false, cond}
+use Rattle.std.proofs.Common.{List, [], ◌∷◌, ◌++◌, length, map, take, drop, refl, sym, ap, ◌∙◌, subst, arith, inl, inr}
+use Rattle.std.proofs.Common.{length-drop, zero-add}
 use Rattle.std.specs.List.{range_with_len}
 use Rattle.std.proofs.Math.Nat.{mul-add-mod_self_right, div-add-mod, suc-mul}
 use Rattle.std.proofs.lemmas.Nat.{mod-mul-add, mod_below}
@@ -41,13 +43,15 @@ sweeps_round n (suc k) a =
     ∙ ap (λ (ss : List ℕ). sweep_at n a ∷ ss) (ap (λ b. map (sweep_at n) (range_with_len b k)) place ∙ sweeps_round n k (a + 1))
 
 -- the stretch that follows a move
-goes_on : (n k : ℕ) (c d : Configuration) → (phase_of n d ≡ phase_of n c + 1) ⊎ ((phase_of n c + 1 ≡ 4 * n) × (phase_of n d ≡ 0)) → map (sweep_at n) (range_with_len (phase_of n d + 1) k) ≡ map (sweep_at n) (range_with_len (phase_of n c + 1 + 1) k)
+goes_on : (n k : ℕ) (c d : Configuration) → (phase_of n d ≡ phase_of n c + 1) ⊎ ((phase_of n c + 1 ≡ 4 * n) × (phase_of n d ≡ 0))
+    → map (sweep_at n) (range_with_len (phase_of n d + 1) k) ≡ map (sweep_at n) (range_with_len (phase_of n c + 1 + 1) k)
 goes_on n k c d (inl e) = ap (λ b. map (sweep_at n) (range_with_len (b + 1) k)) e
 goes_on n k c d (inr e) =
     let later : phase_of n c + 1 + 1 ≡ 4 * n + 1 = ap (λ b. b + 1) e.0 in
     ap (λ b. map (sweep_at n) (range_with_len (b + 1) k)) e.1 ∙ sym (ap (λ b. map (sweep_at n) (range_with_len b k)) later ∙ sweeps_round n k 1)
 
-stretch_from : (moves : List Move) (c : Configuration) (n : ℕ) → IsConfiguration c → stations c ≡ n + 1 → IsRun c moves → IsLegitimate c → map (λ (m : Move). m.station) moves ≡ map (sweep_at n) (range_with_len (phase_of n c + 1) (length moves))
+stretch_from : (moves : List Move) (c : Configuration) (n : ℕ) → IsConfiguration c → stations c ≡ n + 1 → IsRun c moves → IsLegitimate c
+    → map (λ (m : Move). m.station) moves ≡ map (sweep_at n) (range_with_len (phase_of n c + 1) (length moves))
 stretch_from [] c n h e run one = refl
 stretch_from (m ∷ moves) c n h e run one =
     let p = run.0.privilege in
@@ -64,7 +68,8 @@ record Rounds (n : ℕ) (c : Configuration) (moves : List Move) (j : ℕ) : Type
   count : ℕ
   reached : phase_of n c + j ≡ count * (4 * n) + phase_of n (configuration_at c moves j)
 
-one_more : (n j : ℕ) (c d : Configuration) (moves : List Move) (m : Move) → (phase_of n d ≡ phase_of n c + 1) ⊎ ((phase_of n c + 1 ≡ 4 * n) × (phase_of n d ≡ 0)) → d ≡ next c m → Rounds n d moves j → Rounds n c (m ∷ moves) (suc j)
+one_more : (n j : ℕ) (c d : Configuration) (moves : List Move) (m : Move) → (phase_of n d ≡ phase_of n c + 1) ⊎ ((phase_of n c + 1 ≡ 4 * n) × (phase_of n d ≡ 0)) → d ≡ next c m
+    → Rounds n d moves j → Rounds n c (m ∷ moves) (suc j)
 one_more n j c d moves m (inl e) same r =
     let reached = r.reached in
     record { count = r.count; reached = rw same at (let t : phase_of n c + suc j ≡ r.count * (4 * n) + phase_of n (configuration_at d moves j) = omega arith in t) }
@@ -145,7 +150,8 @@ record RunsLegitimate (moves : List Move) (c : Configuration) (n : ℕ) : Type 0
   run : IsRun c moves
   one : IsLegitimate c
 
-comes_round : (moves : List Move) (c : Configuration) (n a b : ℕ) → RunsLegitimate moves c n → a ≤ b → b ≤ length moves → (configuration_at c moves a ≡ configuration_at c moves b) ↔ ((b - a) % (4 * n) ≡ 0)
+comes_round : (moves : List Move) (c : Configuration) (n a b : ℕ) → RunsLegitimate moves c n → a ≤ b → b ≤ length moves
+    → (configuration_at c moves a ≡ configuration_at c moves b) ↔ ((b - a) % (4 * n) ≡ 0)
 comes_round moves c n a b runs order within =
     let h = runs.is in
     let e = runs.long in
@@ -163,8 +169,10 @@ comes_round moves c n a b runs order within =
     let last_below = phase_of-below n last last_is last_long last_one in
     let to_first = rounds moves c n a h e run one (omega arith) in
     let to_last = rounds moves c n b h e run one within in (
-      λ same. whole_rounds (4 * n) (phase_of n c) a b (phase_of n first) (phase_of n last) to_first.count to_last.count first_below last_below order to_first.reached to_last.reached (ap (phase_of n) same),
-      λ whole. same_configuration n first last first_is last_is first_long last_long first_one last_one (same_phases (4 * n) (phase_of n c) a b (phase_of n first) (phase_of n last) to_first.count to_last.count first_below last_below order to_first.reached to_last.reached whole),
+      λ same. whole_rounds (4 * n) (phase_of n c) a b (phase_of n first) (phase_of n last) to_first.count to_last.count first_below last_below order to_first.reached to_last.reached
+          (ap (phase_of n) same),
+      λ whole. same_configuration n first last first_is last_is first_long last_long first_one last_one
+          (same_phases (4 * n) (phase_of n c) a b (phase_of n first) (phase_of n last) to_first.count to_last.count first_below last_below order to_first.reached to_last.reached whole),
     )
 
 -- After a legitimate configuration all are, and the stations sweep.

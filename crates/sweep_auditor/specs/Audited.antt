@@ -8,7 +8,8 @@ use Rattle.sweep_auditor.specs.declared.moves.Audit.{Audit}
 use Rattle.sweep_auditor.specs.declared.moves.Move.{Move}
 
 -- The audit of a run of moves from a start: where they end, and which configuration is the first legitimate one. Where
--- they are many enough there is one, by three bounds; from it on all are legitimate, and the stations sweep up and down.
+-- they are many enough there is one, by three bounds; from it on all are legitimate, and the stations sweep up and
+-- down.
 pub record IsAuditOf (start : Configuration) (moves : List Move) (audit : Audit) : Type 0 where
   pub last : audit.last ≡ after start moves
   pub first : IsFirstLegitimate start moves (length moves) audit.first_legitimate

@@ -28,7 +28,8 @@ pub configuration_at-more : (c : Configuration) (moves : List Move) (i : ℕ) (d
 configuration_at-more c moves i d l = ap (after c) (take_more moves i d l) ∙ after-push (take i moves) (get_or moves i d) c
 
 -- a run goes on by a privilege
-pub IsRun-more : (c : Configuration) (moves : List Move) (i : ℕ) (d : Move) → i < length moves → IsRun c (take i moves) → IsPrivilege (configuration_at c moves i) (get_or moves i d).station (get_or moves i d).rule → IsRun c (take (i + 1) moves)
+pub IsRun-more : (c : Configuration) (moves : List Move) (i : ℕ) (d : Move) → i < length moves → IsRun c (take i moves)
+    → IsPrivilege (configuration_at c moves i) (get_or moves i d).station (get_or moves i d).rule → IsRun c (take (i + 1) moves)
 IsRun-more c moves i d l run p =
     let longer = take_more moves i d l in rw longer (IsRun-push (take i moves) (get_or moves i d) c run p)
 

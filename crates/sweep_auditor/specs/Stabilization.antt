@@ -20,7 +20,8 @@ pub record ReachesLegitimate (c : Configuration) (moves : List Move) (most : ℕ
 -- (k - 1)·(2·N - k) + 1 moves contains a legitimate configuration.
 abbrev pub Stabilizes : Type 0
 Stabilizes =
-    (c : Configuration) (moves : List Move) → IsConfiguration c → IsRun c moves → let n = top_of c in let k = length (privileges_of c) in (k - 1) * (2 * n - k) + 1 ≤ length moves → ReachesLegitimate c moves ((k - 1) * (2 * n - k) + 1)
+    (c : Configuration) (moves : List Move) → IsConfiguration c → IsRun c moves → let n = top_of c in let k = length (privileges_of c) in (k - 1) * (2 * n - k) + 1 ≤ length moves
+    → ReachesLegitimate c moves ((k - 1) * (2 * n - k) + 1)
 
 -- From any start, every run of N² - N + 1 moves does.
 abbrev pub StabilizesFromAny : Type 0

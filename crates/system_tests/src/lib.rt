@@ -1,4 +1,5 @@
-//! Tests that need several crates beside each other: failing devices, power losses, what is recovered then, and what is read.
+//! Tests that need several crates beside each other: failing devices, power losses, what is recovered then, and what is
+//! read.
 #![tactic(auto)]
 
 #[cfg(test)]

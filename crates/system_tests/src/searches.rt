@@ -18,8 +18,8 @@ fn with_reference(reference: u64) -> Entry {
     }
 }
 
-// A clerk on the device takes so many turns, the bottom station those with an even number and the top one the others; each
-// posts a deposit whose reference is the number.
+// A clerk on the device takes so many turns, the bottom station those with an even number and the top one the others;
+// each posts a deposit whose reference is the number.
 fn posted(
     rt: &impl Abort,
     alloc: Global,
@@ -34,8 +34,8 @@ fn posted(
     Ok(clerk.into_device())
 }
 
-// A clerk on a device that notes its calls, and how many it has noted by then: the clerk is opened twice, and the calls of
-// the first opening are counted.
+// A clerk on a device that notes its calls, and how many it has noted by then: the clerk is opened twice, and the calls
+// of the first opening are counted.
 fn noted(
     rt: &impl Abort,
     alloc: Global,

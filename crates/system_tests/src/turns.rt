@@ -7,8 +7,8 @@ use std::test::Fail;
 use test_scenes::{FIRST, deposit, formatted, line};
 use turn_clerk::{Clerk, Line, Turn, TurnRefusal};
 
-// The device failed in the first turn, with a deposit of 500: it is in flight, all else is as before, and whoever asks is
-// told that the clerk is faulted.
+// The device failed in the first turn, with a deposit of 500: it is in flight, all else is as before, and whoever asks
+// is told that the clerk is faulted.
 fn stands_still(rt: &impl Abort, clerk: &mut Clerk<Fuse<MemoryDevice>>, before: Line) {
     assert!(rt; clerk.is_faulted());
     assert!(rt; clerk.line() == before);

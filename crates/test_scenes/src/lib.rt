@@ -1,5 +1,6 @@
-//! What tests begin with: entries, a line from its digits, an empty journal in memory, where its sectors stand, the bytes of
-//! a bank's head, and a device that somebody else writes. It is for the crates of tests alone, and has no tests of its own.
+//! What tests begin with: entries, a line from its digits, an empty journal in memory, where its sectors stand, the
+//! bytes of a bank's head, and a device that somebody else writes. It is for the crates of tests alone, and has no
+//! tests of its own.
 #![tactic(auto)]
 
 mod devices;

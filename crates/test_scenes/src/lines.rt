@@ -4,8 +4,8 @@ ghost use Rattle.four_state.specs.Configuration.{stations};
 
 use four_state::{Line, LineRefusal};
 
-/// The line of as many stations as there are digits, each 0 or 1, from the bottom station to the top one: first the bits
-/// `x`, then the bits `up`.
+/// The line of as many stations as there are digits, each 0 or 1, from the bottom station to the top one: first the
+/// bits `x`, then the bits `up`.
 ///
 /// # Errors
 /// As [`Line::from_bits`] says: there are fewer than two digits.

@@ -3,8 +3,8 @@ ghost use Rattle.sector_device.specs.MemoryDevice.{memory_device_state};
 
 use sector_device::{Device, DeviceFault, MemoryDevice, Sector};
 
-/// A device of which somebody else wrote one sector once it was read: the first time it reads as it is, and from then on
-/// as these bytes. It isn't honest.
+/// A device of which somebody else wrote one sector once it was read: the first time it reads as it is, and from then
+/// on as these bytes. It isn't honest.
 #[derive(Drop)]
 pub struct Rewritten {
     inner: MemoryDevice,

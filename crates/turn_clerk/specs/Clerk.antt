@@ -104,11 +104,14 @@ LeavesWithOrWithoutFlight state clerk = (image : Image) → (state clerk.journal
 abbrev pub LeavesPrefix : {D : Type 0} → (D → DeviceState) → ClerkState D → ClerkState D → Type 0
 LeavesPrefix state old new = LeavesOnly (state old.journal.device) (state new.journal.device) (RecoversToPrefix (opening_state old) (accepted_batches new) (length (batches_of old.history)))
 
--- each image that a crash now leaves recovers to the ledger of a prefix of the accepted batches, with every acknowledged one
+-- each image that a crash now leaves recovers to the ledger of a prefix of the accepted batches, with every
+-- acknowledged one
 abbrev pub LeavesAcknowledged : {D : Type 0} → (D → DeviceState) → ClerkState D → Type 0
-LeavesAcknowledged state clerk = (image : Image) → (state clerk.journal.device).may_leave image → RecoversToPrefix (opening_state clerk) (accepted_batches clerk) (length (batches_of clerk.history)) image
+LeavesAcknowledged state clerk = (image : Image) → (state clerk.journal.device).may_leave image
+    → RecoversToPrefix (opening_state clerk) (accepted_batches clerk) (length (batches_of clerk.history)) image
 
--- each image that a crash left at any moment since the opening recovers to the ledger of a prefix of the accepted batches
+-- each image that a crash left at any moment since the opening recovers to the ledger of a prefix of the accepted
+-- batches
 abbrev pub LeftPrefixEver : {D : Type 0} → (D → DeviceState) → ClerkState D → Type 0
 LeftPrefixEver state clerk = LeavesOnly (state clerk.opening.journal.device) (state clerk.journal.device) (RecoversToPrefix (opening_state clerk) (accepted_batches clerk) 0)
 

@@ -24,7 +24,8 @@ Number-decides (Some a) None = (λ yes. absurd (cc), λ same. absurd (cc))
 Number-decides (Some a) (Some b) = Decides-like (a == b) (λ same i. Some (same i)) (λ same. cc) (Decides-eqb a b)
 
 -- turns are the same where their parts are
-module _ (a b : Turn) (index : a.index ≡ b.index) (station : a.station ≡ b.station) (rule : a.rule ≡ b.rule) (entries : a.entries ≡ b.entries) (verdicts : a.verdicts ≡ b.verdicts) (posted : a.posted ≡ b.posted) where
+module _ (a b : Turn) (index : a.index ≡ b.index) (station : a.station ≡ b.station) (rule : a.rule ≡ b.rule) (entries : a.entries ≡ b.entries) (verdicts : a.verdicts ≡ b.verdicts)
+    (posted : a.posted ≡ b.posted) where
   judged_prop : (i : 𝕀) → IsProp (length (verdicts i) ≡ length (entries i))
   judged_prop i = hlevel props
 

@@ -61,7 +61,8 @@ standing_after standing replies = record {
 -- A reply for each event, in order, each from where the clerk then stood.
 pub record AreReplies (standing : Standing) (events : List Event) (replies : List Reply) : Type 0 where
   pub count : length replies ≡ length events
-  pub each : (place : ℕ) (event : Event) (reply : Reply) → slice_get events place ≡ Some event → slice_get replies place ≡ Some reply → IsReply (standing_after standing (take place replies)) event reply
+  pub each : (place : ℕ) (event : Event) (reply : Reply) → slice_get events place ≡ Some event → slice_get replies place ≡ Some reply
+      → IsReply (standing_after standing (take place replies)) event reply
 
 -- What a run of events makes of a clerk.
 pub record HasRun {D : Type 0} (old : ClerkState D) (events : List Event) (replies : List Reply) (new : ClerkState D) : Type 0 where

@@ -21,8 +21,8 @@ pub enum TurnRefusal {
     /// There is no memory for the history to grow.
     #[error("out of memory")]
     Memory,
-    /// An entry is accepted, and it can't be journaled: no sequence number is left, or no slot is free and the live bank
-    /// has the last epoch.
+    /// An entry is accepted, and it can't be journaled: no sequence number is left, or no slot is free and the live
+    /// bank has the last epoch.
     #[error("there are no more sequence numbers or epochs")]
     Exhausted,
     /// The device failed while the accepted entries were journaled. Whether they stand is told by opening it again.

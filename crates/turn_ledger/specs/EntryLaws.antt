@@ -27,7 +27,8 @@ first_refusal-append_err ((false, refusal) ∷ checks) more e h = first_refusal-
 abbrev pub Passes : LedgerState → Entry → Type 0
 Passes state (Deposit to amount reference) = (0 < amount) × IsAccount to × (total_of state + amount ≤ TOTAL_LIMIT) × (mark_of state to ≡ false)
 Passes state (Withdraw from amount reference) = (0 < amount) × IsAccount from × (amount ≤ balance_of state from) × (mark_of state from ≡ false)
-Passes state (Transfer from to amount reference) = (0 < amount) × IsAccount from × IsAccount to × (from ≢ to) × (amount ≤ balance_of state from) × (mark_of state from ≡ false) × (mark_of state to ≡ false)
+Passes state (Transfer from to amount reference) = (0 < amount) × IsAccount from × IsAccount to × (from ≢ to) × (amount ≤ balance_of state from) × (mark_of state from ≡ false)
+    × (mark_of state to ≡ false)
 Passes state (Seal account reference) = IsAccount account × (mark_of state account ≡ false)
 
 -- a check that doesn't hold
@@ -142,7 +143,8 @@ pub posted-withdraw : (state : LedgerState) (entry : Entry) (from amount referen
 unfolding posted
 posted-withdraw state entry from amount reference same = ap (posted state) same
 
-pub posted-transfer : (state : LedgerState) (entry : Entry) (from to amount reference : ℕ) → entry ≡ Transfer from to amount reference → posted state entry ≡ credited (debited state from amount) to amount
+pub posted-transfer : (state : LedgerState) (entry : Entry) (from to amount reference : ℕ) → entry ≡ Transfer from to amount reference
+    → posted state entry ≡ credited (debited state from amount) to amount
 unfolding posted
 posted-transfer state entry from to amount reference same = ap (posted state) same
 

@@ -28,23 +28,27 @@ three to to' amount amount' reference reference' =
     Decides-and (to == to') ((amount == amount') && (reference == reference')) (Decides-eqb to to')
     (Decides-and (amount == amount') (reference == reference') (Decides-eqb amount amount') (Decides-eqb reference reference'))
 
-four : (from from' to to' amount amount' reference reference' : ℕ) → Decides ((from == from') && ((to == to') && ((amount == amount') && (reference == reference')))) ((from ≡ from') × ((to ≡ to') × ((amount ≡ amount') × (reference ≡ reference'))))
+four : (from from' to to' amount amount' reference reference' : ℕ)
+    → Decides ((from == from') && ((to == to') && ((amount == amount') && (reference == reference')))) ((from ≡ from') × ((to ≡ to') × ((amount ≡ amount') × (reference ≡ reference'))))
 four from from' to to' amount amount' reference reference' =
     Decides-and (from == from') ((to == to') && ((amount == amount') && (reference == reference'))) (Decides-eqb from from') (three to to' amount amount' reference reference')
 
 pub Entry-decides : (a b : Entry) → Decides (entry_eq.ghosts.eq a b) (a ≡ b)
 Entry-decides (Deposit to amount reference) (Deposit to' amount' reference') =
-    Decides-like (entry_eq.ghosts.eq (Deposit to amount reference) (Deposit to' amount' reference')) (λ p i. Deposit (p.0 i) (p.1.0 i) (p.1.1 i)) (λ same. (cc, (cc, cc))) (three to to' amount amount' reference reference')
+    Decides-like (entry_eq.ghosts.eq (Deposit to amount reference) (Deposit to' amount' reference')) (λ p i. Deposit (p.0 i) (p.1.0 i) (p.1.1 i)) (λ same. (cc, (cc, cc)))
+    (three to to' amount amount' reference reference')
 Entry-decides (Deposit to amount reference) (Withdraw from' amount' reference') = (λ yes. absurd (cc), λ same. absurd (cc))
 Entry-decides (Deposit to amount reference) (Transfer from' to' amount' reference') = (λ yes. absurd (cc), λ same. absurd (cc))
 Entry-decides (Withdraw from amount reference) (Deposit to' amount' reference') = (λ yes. absurd (cc), λ same. absurd (cc))
 Entry-decides (Withdraw from amount reference) (Withdraw from' amount' reference') =
-    Decides-like (entry_eq.ghosts.eq (Withdraw from amount reference) (Withdraw from' amount' reference')) (λ p i. Withdraw (p.0 i) (p.1.0 i) (p.1.1 i)) (λ same. (cc, (cc, cc))) (three from from' amount amount' reference reference')
+    Decides-like (entry_eq.ghosts.eq (Withdraw from amount reference) (Withdraw from' amount' reference')) (λ p i. Withdraw (p.0 i) (p.1.0 i) (p.1.1 i)) (λ same. (cc, (cc, cc)))
+    (three from from' amount amount' reference reference')
 Entry-decides (Withdraw from amount reference) (Transfer from' to' amount' reference') = (λ yes. absurd (cc), λ same. absurd (cc))
 Entry-decides (Transfer from to amount reference) (Deposit to' amount' reference') = (λ yes. absurd (cc), λ same. absurd (cc))
 Entry-decides (Transfer from to amount reference) (Withdraw from' amount' reference') = (λ yes. absurd (cc), λ same. absurd (cc))
 Entry-decides (Transfer from to amount reference) (Transfer from' to' amount' reference') =
-    Decides-like (entry_eq.ghosts.eq (Transfer from to amount reference) (Transfer from' to' amount' reference')) (λ p i. Transfer (p.0 i) (p.1.0 i) (p.1.1.0 i) (p.1.1.1 i)) (λ same. (cc, (cc, (cc, cc))))
+    Decides-like (entry_eq.ghosts.eq (Transfer from to amount reference) (Transfer from' to' amount' reference')) (λ p i. Transfer (p.0 i) (p.1.0 i) (p.1.1.0 i) (p.1.1.1 i))
+    (λ same. (cc, (cc, (cc, cc))))
     (four from from' to to' amount amount' reference reference')
 Entry-decides (Deposit to amount reference) (Seal account' reference') = (λ yes. absurd (cc), λ same. absurd (cc))
 Entry-decides (Withdraw from amount reference) (Seal account' reference') = (λ yes. absurd (cc), λ same. absurd (cc))

@@ -26,7 +26,8 @@ filled-take {X} filler places count h =
 -- items written over the first of the unused places
 pub IsFilled-over : {X : Type 0} (filler : X) (items : List X) → length items ≤ BATCH_LIMIT → IsFilled filler (items ++ drop (length items) (replicate BATCH_LIMIT filler)) (length items)
 IsFilled-over {X} filler items h = record {
-  all_places = length-append items _ ∙ ap (λ (n : ℕ). length items + n) (length-drop (length items) (replicate BATCH_LIMIT filler) ∙ ap (λ (n : ℕ). n - length items) (length-replicate BATCH_LIMIT filler)) ∙ omega arith;
+  all_places = length-append items _
+      ∙ ap (λ (n : ℕ). length items + n) (length-drop (length items) (replicate BATCH_LIMIT filler) ∙ ap (λ (n : ℕ). n - length items) (length-replicate BATCH_LIMIT filler)) ∙ omega arith;
   count_fits = h;
   unused = drop_at items _ (length items) refl ∙ drop-replicate (length items) BATCH_LIMIT filler;
 }

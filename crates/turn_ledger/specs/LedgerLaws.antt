@@ -25,7 +25,8 @@ if_same account other amount same = ap (λ b. if b then amount else 0) (eq-eqb a
 if_apart : (account other amount : ℕ) → account ≢ other → (if account == other then amount else 0) ≡ 0
 if_apart account other amount apart = ap (λ b. if b then amount else 0) (ne_eqb account other apart)
 
-pub balance_of-credited : (state : LedgerState) (to amount account : ℕ) → length state.balances ≡ ACCOUNTS → IsAccount to → IsAccount account → balance_of (credited state to amount) account ≡ balance_of state account + (if to == account then amount else 0)
+pub balance_of-credited : (state : LedgerState) (to amount account : ℕ) → length state.balances ≡ ACCOUNTS → IsAccount to → IsAccount account
+    → balance_of (credited state to amount) account ≡ balance_of state account + (if to == account then amount else 0)
 balance_of-credited state to amount account size h k =
     ⊎_elim
     (λ (same : to ≡ account).
@@ -36,7 +37,8 @@ balance_of-credited state to amount account size h k =
     ∙ omega (arith, if_apart to account amount apart))
     (cases_eq to account)
 
-pub balance_of-debited : (state : LedgerState) (from amount account : ℕ) → length state.balances ≡ ACCOUNTS → IsAccount from → IsAccount account → amount ≤ balance_of state from → balance_of (debited state from amount) account + (if from == account then amount else 0) ≡ balance_of state account
+pub balance_of-debited : (state : LedgerState) (from amount account : ℕ) → length state.balances ≡ ACCOUNTS → IsAccount from → IsAccount account → amount ≤ balance_of state from
+    → balance_of (debited state from amount) account + (if from == account then amount else 0) ≡ balance_of state account
 balance_of-debited state from amount account size h k enough =
     ⊎_elim
     (λ (same : from ≡ account).
@@ -47,7 +49,8 @@ balance_of-debited state from amount account size h k enough =
     (cases_eq from account)
 
 -- an entry with a yes brings and takes what it says
-pub balance_of-posted : (state : LedgerState) (entry : Entry) (account : ℕ) → IsLedger state → verdict state entry ≡ Ok tt → IsAccount account → balance_of (posted state entry) account + out_of account entry ≡ balance_of state account + into account entry
+pub balance_of-posted : (state : LedgerState) (entry : Entry) (account : ℕ) → IsLedger state → verdict state entry ≡ Ok tt → IsAccount account
+    → balance_of (posted state entry) account + out_of account entry ≡ balance_of state account + into account entry
 unfolding posted
 balance_of-posted state (Deposit to amount reference) account l ok k =
     let p = passes-from_yes state (Deposit to amount reference) ok in
@@ -87,7 +90,8 @@ AreAccepted-back state [] second a = a
 AreAccepted-back state (entry ∷ first) second a = AreAccepted-back (posted state entry) first second a.1
 
 -- for each account, what came in and what went out
-pub balance_of-posted_in_order : (state : LedgerState) (entries : List Entry) (account : ℕ) → IsLedger state → AreAccepted state entries → IsAccount account → balance_of (posted_in_order state entries) account + sum_by (out_of account) entries ≡ balance_of state account + sum_by (into account) entries
+pub balance_of-posted_in_order : (state : LedgerState) (entries : List Entry) (account : ℕ) → IsLedger state → AreAccepted state entries → IsAccount account
+    → balance_of (posted_in_order state entries) account + sum_by (out_of account) entries ≡ balance_of state account + sum_by (into account) entries
 balance_of-posted_in_order state [] account l a k = refl
 balance_of-posted_in_order state (entry ∷ entries) account l a k =
     omega (
@@ -99,7 +103,8 @@ balance_of-posted_in_order state (entry ∷ entries) account l a k =
     )
 
 -- the ledger after batches is the state after their entries were posted one after another
-balances_agree : (state : LedgerState) (entries : List Entry) (k : ℕ) (d : ℕ) → IsLedger state → AreAccepted state entries → k < length (posted_in_order state entries).balances → get_or (posted_in_order state entries).balances k d ≡ get_or (map (balance_after state entries) (range_with_len 1 (length state.balances))) k d
+balances_agree : (state : LedgerState) (entries : List Entry) (k : ℕ) (d : ℕ) → IsLedger state → AreAccepted state entries → k < length (posted_in_order state entries).balances
+    → get_or (posted_in_order state entries).balances k d ≡ get_or (map (balance_after state entries) (range_with_len 1 (length state.balances))) k d
 balances_agree state entries k d l a h =
     let within : k < length state.balances = subst (λ (n : ℕ). k < n) (length-posted_in_order state entries) h in
     let account : IsAccount (k + 1) = (omega arith, omega (arith, l.accounts)) in
@@ -110,7 +115,8 @@ balances_agree state entries k d l a h =
     ∙ omega (arith, sums)
     ∙ sym (get_or-map-range_with_len (balance_after state entries) 1 (length state.balances) k (k + 1) d within (omega arith))
 
-marks_agree : (state : LedgerState) (entries : List Entry) (k : ℕ) (d : Bool) → IsLedger state → AreAccepted state entries → k < length (posted_in_order state entries).sealed → get_or (posted_in_order state entries).sealed k d ≡ get_or (map (sealed_after state entries) (range_with_len 1 (length state.sealed))) k d
+marks_agree : (state : LedgerState) (entries : List Entry) (k : ℕ) (d : Bool) → IsLedger state → AreAccepted state entries → k < length (posted_in_order state entries).sealed
+    → get_or (posted_in_order state entries).sealed k d ≡ get_or (map (sealed_after state entries) (range_with_len 1 (length state.sealed))) k d
 marks_agree state entries k d l a h =
     let within : k < length state.sealed = subst (λ (n : ℕ). k < n) (length-sealed-posted_in_order state entries) h in
     let account : IsAccount (k + 1) = (omega arith, omega (arith, l.marks)) in
@@ -120,7 +126,8 @@ marks_agree state entries k d l a h =
     ∙ mark_of-posted_in_order state entries (k + 1) l a account
     ∙ sym (get_or-map-range_with_len (sealed_after state entries) 1 (length state.sealed) k (k + 1) d within (omega arith))
 
-pub posted_in_order-is-ledger_after : (state : LedgerState) (batches : List (List Entry)) → IsLedger state → AreAccepted state (entries_of batches) → posted_in_order state (entries_of batches) ≡ ledger_after state batches
+pub posted_in_order-is-ledger_after : (state : LedgerState) (batches : List (List Entry)) → IsLedger state → AreAccepted state (entries_of batches)
+    → posted_in_order state (entries_of batches) ≡ ledger_after state batches
 unfolding ledger_after
 posted_in_order-is-ledger_after state batches l a =
     same_state (posted_in_order state (entries_of batches)) _
@@ -136,7 +143,8 @@ pub IsLedger-ledger_after : (state : LedgerState) (batches : List (List Entry)) 
 IsLedger-ledger_after state batches l a = subst IsLedger (posted_in_order-is-ledger_after state batches l a) (IsLedger-posted_in_order state (entries_of batches) l a)
 
 -- a sealed account keeps its balance, and stays sealed
-pub kept_by-ledger_after : (state : LedgerState) (batches : List (List Entry)) (account : ℕ) → IsLedger state → AreAccepted state (entries_of batches) → IsAccount account → mark_of state account ≡ true → (balance_of (ledger_after state batches) account ≡ balance_of state account) × (mark_of (ledger_after state batches) account ≡ true)
+pub kept_by-ledger_after : (state : LedgerState) (batches : List (List Entry)) (account : ℕ) → IsLedger state → AreAccepted state (entries_of batches) → IsAccount account
+    → mark_of state account ≡ true → (balance_of (ledger_after state batches) account ≡ balance_of state account) × (mark_of (ledger_after state batches) account ≡ true)
 kept_by-ledger_after state batches account l a k marked =
     subst (λ (s : LedgerState). (balance_of s account ≡ balance_of state account) × (mark_of s account ≡ true))
     (posted_in_order-is-ledger_after state batches l a)
@@ -159,7 +167,8 @@ pub entries_of-append : (first second : List (List Entry)) → entries_of (first
 entries_of-append first second = flat_map-append (λ (batch : List Entry). batch) first second
 
 -- batches after batches, each entry of which is accepted, in order
-pub AreAccepted-batches : (state : LedgerState) (first second : List (List Entry)) → IsLedger state → AreAccepted state (entries_of first) → AreAccepted (ledger_after state first) (entries_of second) → AreAccepted state (entries_of (first ++ second))
+pub AreAccepted-batches : (state : LedgerState) (first second : List (List Entry)) → IsLedger state → AreAccepted state (entries_of first)
+    → AreAccepted (ledger_after state first) (entries_of second) → AreAccepted state (entries_of (first ++ second))
 AreAccepted-batches state first second l a b =
     subst (AreAccepted state) (sym (entries_of-append first second))
     (AreAccepted-append state (entries_of first) (entries_of second) a
@@ -169,14 +178,16 @@ pub AreAccepted-batches_front : (state : LedgerState) (first second : List (List
 AreAccepted-batches_front state first second a =
     AreAccepted-front state (entries_of first) (entries_of second) (subst (AreAccepted state) (entries_of-append first second) a)
 
-pub AreAccepted-batches_back : (state : LedgerState) (first second : List (List Entry)) → IsLedger state → AreAccepted state (entries_of (first ++ second)) → AreAccepted (ledger_after state first) (entries_of second)
+pub AreAccepted-batches_back : (state : LedgerState) (first second : List (List Entry)) → IsLedger state → AreAccepted state (entries_of (first ++ second))
+    → AreAccepted (ledger_after state first) (entries_of second)
 AreAccepted-batches_back state first second l a =
     subst (λ (s : LedgerState). AreAccepted s (entries_of second))
     (posted_in_order-is-ledger_after state first l (AreAccepted-batches_front state first second a))
     (AreAccepted-back state (entries_of first) (entries_of second) (subst (AreAccepted state) (entries_of-append first second) a))
 
 -- the ledger after more batches is that after the later ones, from that after the earlier ones
-pub ledger_after-append : (state : LedgerState) (first second : List (List Entry)) → IsLedger state → AreAccepted state (entries_of (first ++ second)) → ledger_after state (first ++ second) ≡ ledger_after (ledger_after state first) second
+pub ledger_after-append : (state : LedgerState) (first second : List (List Entry)) → IsLedger state → AreAccepted state (entries_of (first ++ second))
+    → ledger_after state (first ++ second) ≡ ledger_after (ledger_after state first) second
 ledger_after-append state first second l a =
     let front = AreAccepted-batches_front state first second a in
     let back = AreAccepted-batches_back state first second l a in
@@ -187,13 +198,15 @@ ledger_after-append state first second l a =
     ∙ posted_in_order-is-ledger_after (ledger_after state first) second (IsLedger-ledger_after state first l front) back
 
 -- one more batch is posted entry after entry
-pub ledger_after-push : (state : LedgerState) (batches : List (List Entry)) (batch : List Entry) → IsLedger state → AreAccepted state (entries_of batches) → AreAccepted (ledger_after state batches) batch → ledger_after state (batches ++ batch ∷ []) ≡ posted_in_order (ledger_after state batches) batch
+pub ledger_after-push : (state : LedgerState) (batches : List (List Entry)) (batch : List Entry) → IsLedger state → AreAccepted state (entries_of batches)
+    → AreAccepted (ledger_after state batches) batch → ledger_after state (batches ++ batch ∷ []) ≡ posted_in_order (ledger_after state batches) batch
 ledger_after-push state batches batch l a b =
     let one : AreAccepted (ledger_after state batches) (entries_of (batch ∷ [])) = subst (AreAccepted (ledger_after state batches)) (sym (entries_of-one batch)) b in
     ledger_after-append state batches (batch ∷ []) l (AreAccepted-batches state batches (batch ∷ []) l a one)
     ∙ sym (posted_in_order-is-ledger_after_one (ledger_after state batches) batch (IsLedger-ledger_after state batches l a) b)
 
-pub AreAccepted-push : (state : LedgerState) (batches : List (List Entry)) (batch : List Entry) → IsLedger state → AreAccepted state (entries_of batches) → AreAccepted (ledger_after state batches) batch → AreAccepted state (entries_of (batches ++ batch ∷ []))
+pub AreAccepted-push : (state : LedgerState) (batches : List (List Entry)) (batch : List Entry) → IsLedger state → AreAccepted state (entries_of batches)
+    → AreAccepted (ledger_after state batches) batch → AreAccepted state (entries_of (batches ++ batch ∷ []))
 AreAccepted-push state batches batch l a b =
     AreAccepted-batches state batches (batch ∷ []) l a (subst (AreAccepted (ledger_after state batches)) (sym (entries_of-one batch)) b)
 

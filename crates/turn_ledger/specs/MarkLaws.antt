@@ -28,7 +28,8 @@ length-sealed-posted_in_order state [] = refl
 length-sealed-posted_in_order state (entry ∷ entries) = length-sealed-posted_in_order (posted state entry) entries ∙ length-sealed-posted state entry
 
 -- an account is sealed after a posted entry where it was, or where the entry seals it
-mark_of-sealed_at : (state : LedgerState) (sealed account : ℕ) → length state.sealed ≡ ACCOUNTS → IsAccount sealed → IsAccount account → mark_of (sealed_at state sealed) account ≡ (mark_of state account || (sealed == account))
+mark_of-sealed_at : (state : LedgerState) (sealed account : ℕ) → length state.sealed ≡ ACCOUNTS → IsAccount sealed → IsAccount account
+    → mark_of (sealed_at state sealed) account ≡ (mark_of state account || (sealed == account))
 mark_of-sealed_at state sealed account size h k =
     ⊎_elim
     (λ (same : sealed ≡ account).
@@ -40,7 +41,8 @@ mark_of-sealed_at state sealed account size h k =
     ∙ sym (or-false (mark_of state account)) ∙ ap (λ (b : Bool). mark_of state account || b) (sym (ne_eqb sealed account apart)))
     (cases_eq sealed account)
 
-mark_of-posted : (state : LedgerState) (entry : Entry) (account : ℕ) → IsLedger state → verdict state entry ≡ Ok tt → IsAccount account → mark_of (posted state entry) account ≡ (mark_of state account || seals account entry)
+mark_of-posted : (state : LedgerState) (entry : Entry) (account : ℕ) → IsLedger state → verdict state entry ≡ Ok tt → IsAccount account
+    → mark_of (posted state entry) account ≡ (mark_of state account || seals account entry)
 unfolding posted
 mark_of-posted state (Deposit to amount reference) account l ok k = sym (or-false (mark_of state account))
 mark_of-posted state (Withdraw from amount reference) account l ok k = sym (or-false (mark_of state account))
@@ -48,7 +50,8 @@ mark_of-posted state (Transfer from to amount reference) account l ok k = sym (o
 mark_of-posted state (Seal sealed reference) account l ok k =
     mark_of-sealed_at state sealed account l.marks (passes-from_yes state (Seal sealed reference) ok).0 k
 
-pub mark_of-posted_in_order : (state : LedgerState) (entries : List Entry) (account : ℕ) → IsLedger state → AreAccepted state entries → IsAccount account → mark_of (posted_in_order state entries) account ≡ sealed_after state entries account
+pub mark_of-posted_in_order : (state : LedgerState) (entries : List Entry) (account : ℕ) → IsLedger state → AreAccepted state entries → IsAccount account
+    → mark_of (posted_in_order state entries) account ≡ sealed_after state entries account
 mark_of-posted_in_order state [] account l a k = sym (or-false (mark_of state account))
 mark_of-posted_in_order state (entry ∷ entries) account l a k =
     mark_of-posted_in_order (posted state entry) entries account (IsLedger-posted state entry l a.0) a.1 k
@@ -60,7 +63,8 @@ other_than_sealed : (state : LedgerState) (account other : ℕ) → mark_of stat
 other_than_sealed state account other marked clear same = absurd (cc (ap (mark_of state) same, marked, clear))
 
 -- an entry with a yes leaves what a sealed account holds
-kept_by-posted : (state : LedgerState) (entry : Entry) (account : ℕ) → verdict state entry ≡ Ok tt → IsAccount account → mark_of state account ≡ true → balance_of (posted state entry) account ≡ balance_of state account
+kept_by-posted : (state : LedgerState) (entry : Entry) (account : ℕ) → verdict state entry ≡ Ok tt → IsAccount account → mark_of state account ≡ true
+    → balance_of (posted state entry) account ≡ balance_of state account
 unfolding posted
 kept_by-posted state (Deposit to amount reference) account ok k marked =
     let p = passes-from_yes state (Deposit to amount reference) ok in
@@ -74,7 +78,8 @@ kept_by-posted state (Transfer from to amount reference) account ok k marked =
     ∙ balance_of-with_balance_other state from account _ p.1 k (other_than_sealed state account from marked p.5)
 kept_by-posted state (Seal sealed reference) account ok k marked = refl
 
-pub kept_by-posted_in_order : (state : LedgerState) (entries : List Entry) (account : ℕ) → IsLedger state → AreAccepted state entries → IsAccount account → mark_of state account ≡ true → (balance_of (posted_in_order state entries) account ≡ balance_of state account) × (mark_of (posted_in_order state entries) account ≡ true)
+pub kept_by-posted_in_order : (state : LedgerState) (entries : List Entry) (account : ℕ) → IsLedger state → AreAccepted state entries → IsAccount account
+    → mark_of state account ≡ true → (balance_of (posted_in_order state entries) account ≡ balance_of state account) × (mark_of (posted_in_order state entries) account ≡ true)
 kept_by-posted_in_order state [] account l a k marked = (refl, marked)
 kept_by-posted_in_order state (entry ∷ entries) account l a k marked =
     let still : mark_of (posted state entry) account ≡ true = mark_of-posted state entry account l a.0 k ∙ ap (λ (b : Bool). b || seals account entry) marked in

@@ -19,7 +19,8 @@ accepted_given : LedgerState → Entry → List Entry → Verdict → List Entry
 accepted_given state entry entries answer = with_yes (entry ∷ entries) (answer ∷ screened (if is_ok answer then posted state entry else state) entries)
 
 -- the accepted entries are accepted again, in order
-accepted_step : (state : LedgerState) (entry : Entry) (entries : List Entry) (answer : Verdict) → verdict state entry ≡ answer → AreAccepted (posted state entry) (accepted (posted state entry) entries) → AreAccepted state (accepted state entries) → AreAccepted state (accepted_given state entry entries answer)
+accepted_step : (state : LedgerState) (entry : Entry) (entries : List Entry) (answer : Verdict) → verdict state entry ≡ answer
+    → AreAccepted (posted state entry) (accepted (posted state entry) entries) → AreAccepted state (accepted state entries) → AreAccepted state (accepted_given state entry entries answer)
 unfolding accepted_given
 accepted_step state entry entries (Ok x) e after same = (e, after)
 accepted_step state entry entries (Err refusal) e after same = same
@@ -77,7 +78,8 @@ posted_in_order-accepted state entries l = posted_in_order-is-ledger_after_one s
 screened_step : (state : LedgerState) (entry : Entry) (first second : List Entry) (answer : Verdict)
     → screened (posted state entry) (first ++ second) ≡ screened (posted state entry) first ++ screened (posted_in_order (posted state entry) (accepted (posted state entry) first)) second
     → screened state (first ++ second) ≡ screened state first ++ screened (posted_in_order state (accepted state first)) second
-    → screened (if is_ok answer then posted state entry else state) (first ++ second) ≡ screened (if is_ok answer then posted state entry else state) first ++ screened (posted_in_order state (accepted_given state entry first answer)) second
+    → screened (if is_ok answer then posted state entry else state) (first ++ second) ≡ screened (if is_ok answer then posted state entry else state) first ++ screened
+    (posted_in_order state (accepted_given state entry first answer)) second
 unfolding accepted_given
 screened_step state entry first second (Ok x) after same = after
 screened_step state entry first second (Err refusal) after same = same
@@ -105,7 +107,8 @@ accepted-append state (entry ∷ first) second =
 
 -- the entries with a yes from a place on: with that at the place, where its verdict is a yes, and else
 -- without it
-with_yes_from_yes : (entries : List Entry) (verdicts : List Verdict) (i : ℕ) (d : Entry) → i < length entries → slice_get verdicts i ≡ Some (Ok tt) → with_yes (drop i entries) (drop i verdicts) ≡ get_or entries i d ∷ with_yes (drop (suc i) entries) (drop (suc i) verdicts)
+with_yes_from_yes : (entries : List Entry) (verdicts : List Verdict) (i : ℕ) (d : Entry) → i < length entries → slice_get verdicts i ≡ Some (Ok tt)
+    → with_yes (drop i entries) (drop i verdicts) ≡ get_or entries i d ∷ with_yes (drop (suc i) entries) (drop (suc i) verdicts)
 with_yes_from_yes [] verdicts i d h ok = absurd (omega arith)
 with_yes_from_yes (entry ∷ entries) [] zero d h ok = cc
 with_yes_from_yes (entry ∷ entries) [] (suc i) d h ok = cc
@@ -114,7 +117,8 @@ with_yes_from_yes (entry ∷ entries) (answer ∷ verdicts) zero d h ok =
     ap (λ (v : Verdict). with_yes (entry ∷ entries) (v ∷ verdicts)) same
 with_yes_from_yes (entry ∷ entries) (answer ∷ verdicts) (suc i) d h ok = with_yes_from_yes entries verdicts i d (omega arith) ok
 
-with_yes_from_no : (entries : List Entry) (verdicts : List Verdict) (i : ℕ) (refusal : EntryRefusal) → slice_get verdicts i ≡ Some (Err refusal) → with_yes (drop i entries) (drop i verdicts) ≡ with_yes (drop (suc i) entries) (drop (suc i) verdicts)
+with_yes_from_no : (entries : List Entry) (verdicts : List Verdict) (i : ℕ) (refusal : EntryRefusal) → slice_get verdicts i ≡ Some (Err refusal)
+    → with_yes (drop i entries) (drop i verdicts) ≡ with_yes (drop (suc i) entries) (drop (suc i) verdicts)
 with_yes_from_no [] verdicts zero refusal err = refl
 with_yes_from_no [] verdicts (suc i) refusal err = refl
 with_yes_from_no (entry ∷ entries) [] zero refusal err = cc
@@ -124,10 +128,12 @@ with_yes_from_no (entry ∷ entries) (answer ∷ verdicts) zero refusal err =
     ap (λ (v : Verdict). with_yes (entry ∷ entries) (v ∷ verdicts)) same
 with_yes_from_no (entry ∷ entries) (answer ∷ verdicts) (suc i) refusal err = with_yes_from_no entries verdicts i refusal err
 
-pub with_yes-drop_yes : (entries : List Entry) (verdicts : List Verdict) (i : ℕ) (d : Entry) → i < length entries → slice_get verdicts i ≡ Some (Ok tt) → with_yes (drop i entries) (drop i verdicts) ≡ get_or entries i d ∷ with_yes (drop (i + 1) entries) (drop (i + 1) verdicts)
+pub with_yes-drop_yes : (entries : List Entry) (verdicts : List Verdict) (i : ℕ) (d : Entry) → i < length entries → slice_get verdicts i ≡ Some (Ok tt)
+    → with_yes (drop i entries) (drop i verdicts) ≡ get_or entries i d ∷ with_yes (drop (i + 1) entries) (drop (i + 1) verdicts)
 with_yes-drop_yes entries verdicts i d h ok = rw add-one (with_yes_from_yes entries verdicts i d h ok)
 
-pub with_yes-drop_no : (entries : List Entry) (verdicts : List Verdict) (i : ℕ) (refusal : EntryRefusal) → slice_get verdicts i ≡ Some (Err refusal) → with_yes (drop i entries) (drop i verdicts) ≡ with_yes (drop (i + 1) entries) (drop (i + 1) verdicts)
+pub with_yes-drop_no : (entries : List Entry) (verdicts : List Verdict) (i : ℕ) (refusal : EntryRefusal) → slice_get verdicts i ≡ Some (Err refusal)
+    → with_yes (drop i entries) (drop i verdicts) ≡ with_yes (drop (i + 1) entries) (drop (i + 1) verdicts)
 with_yes-drop_no entries verdicts i refusal err = rw add-one (with_yes_from_no entries verdicts i refusal err)
 
 -- a batch that is gathered entry by entry

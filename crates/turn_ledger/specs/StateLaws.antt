@@ -14,10 +14,12 @@ same_state first second balances sealed i = state_of (balances i) (sealed i)
 pub length-with_balance : (state : LedgerState) (account balance : ℕ) → length (with_balance state account balance).balances ≡ length state.balances
 length-with_balance state account balance = length-set state.balances (account - 1) balance
 
-pub balance_of-with_balance_same : (state : LedgerState) (account balance : ℕ) → length state.balances ≡ ACCOUNTS → IsAccount account → balance_of (with_balance state account balance) account ≡ balance
+pub balance_of-with_balance_same : (state : LedgerState) (account balance : ℕ) → length state.balances ≡ ACCOUNTS → IsAccount account
+    → balance_of (with_balance state account balance) account ≡ balance
 balance_of-with_balance_same state account balance size h = get_or-set_same state.balances (account - 1) balance 0 (omega (arith, size, h.0, h.1))
 
-pub balance_of-with_balance_other : (state : LedgerState) (account other balance : ℕ) → IsAccount account → IsAccount other → other ≢ account → balance_of (with_balance state account balance) other ≡ balance_of state other
+pub balance_of-with_balance_other : (state : LedgerState) (account other balance : ℕ) → IsAccount account → IsAccount other → other ≢ account
+    → balance_of (with_balance state account balance) other ≡ balance_of state other
 balance_of-with_balance_other state account other balance h k ne =
     let apart : other - 1 ≢ account - 1 = λ same. ne (omega (arith, same, h.0, k.0)) in
     get_or-set_other state.balances (account - 1) (other - 1) balance 0 apart
@@ -26,13 +28,15 @@ balance_of-with_balance_other state account other balance h k ne =
 pub balance_of-le-total_of : (state : LedgerState) (account : ℕ) → length state.balances ≡ ACCOUNTS → IsAccount account → balance_of state account ≤ total_of state
 balance_of-le-total_of state account size h = get_or-le-sum_by (λ (n : ℕ). n) state.balances (account - 1) 0 (omega (arith, size, h.0, h.1))
 
-pub total_of-with_balance : (state : LedgerState) (account balance : ℕ) → length state.balances ≡ ACCOUNTS → IsAccount account → total_of (with_balance state account balance) + balance_of state account ≡ total_of state + balance
+pub total_of-with_balance : (state : LedgerState) (account balance : ℕ) → length state.balances ≡ ACCOUNTS → IsAccount account
+    → total_of (with_balance state account balance) + balance_of state account ≡ total_of state + balance
 total_of-with_balance state account balance size h = sum_by-set (λ (n : ℕ). n) state.balances (account - 1) balance 0 (omega (arith, size, h.0, h.1))
 
 pub total_of-credited : (state : LedgerState) (account amount : ℕ) → length state.balances ≡ ACCOUNTS → IsAccount account → total_of (credited state account amount) ≡ total_of state + amount
 total_of-credited state account amount size h = omega (arith, total_of-with_balance state account (balance_of state account + amount) size h)
 
-pub total_of-debited : (state : LedgerState) (account amount : ℕ) → length state.balances ≡ ACCOUNTS → IsAccount account → amount ≤ balance_of state account → total_of (debited state account amount) + amount ≡ total_of state
+pub total_of-debited : (state : LedgerState) (account amount : ℕ) → length state.balances ≡ ACCOUNTS → IsAccount account → amount ≤ balance_of state account
+    → total_of (debited state account amount) + amount ≡ total_of state
 total_of-debited state account amount size h enough = omega (arith, enough, total_of-with_balance state account (balance_of state account - amount) size h)
 
 pub IsLedger-credited : (state : LedgerState) (account amount : ℕ) → IsLedger state → IsAccount account → total_of state + amount ≤ TOTAL_LIMIT → IsLedger (credited state account amount)

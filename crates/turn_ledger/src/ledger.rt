@@ -152,8 +152,8 @@ impl Ledger {
         change_balances(self, entry);
     }
 
-    /// The verdicts of a list of at most [`BATCH_LIMIT`] entries, each judged after the accepted ones before it. Nothing is
-    /// posted.
+    /// The verdicts of a list of at most [`BATCH_LIMIT`] entries, each judged after the accepted ones before it.
+    /// Nothing is posted.
     pub fn screen(&self, entries: &[Entry]) -> Verdicts
         requires { length entries.now ≤ BATCH_LIMIT }
         ensures verdicts { result ≡ screened self.now entries.now }

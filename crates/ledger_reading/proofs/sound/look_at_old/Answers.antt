@@ -34,5 +34,6 @@ returns-in-Err-open-clause-refused g c honest no_memory other =
     let recovers : OldRecoversTo (old_state c.in-Ok.found) image = search rules in
     let still : (g.D.Device.state c.read_old-device.result.0).honest = c.read_old-device.ensures.call.stays_honest honest in
     let not_device : c.in-Err-open.refusal ≢ Device = λ is. other (c.from.ensures ∙ ap refusal_of is) in
-    let refuses : OldRefuses image c.in-Err-open.refusal = subst (λ (sectors : Image). OldRefuses sectors c.in-Err-open.refusal) (c.read_old-device.ensures.looks honest).reads (c.in-Err-open.ensures.refused still not_device) in
+    let refuses : OldRefuses image c.in-Err-open.refusal = subst (λ (sectors : Image). OldRefuses sectors c.in-Err-open.refusal) (c.read_old-device.ensures.looks honest).reads
+    (c.in-Err-open.ensures.refused still not_device) in
     absurd (c.one_old_reading.ensures.refused image recovers.slots recovers.bank recovers.contents c.in-Err-open.refusal recovers.reads refuses)

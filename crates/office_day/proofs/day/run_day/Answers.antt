@@ -61,7 +61,8 @@ went g c =
       handed = c.in-Ok.ensures.handed_in;
       together = c.in-Ok.ensures.together;
       fresh = c.in-Ok.ensures.fresh;
-      served = subst (λ (count : ℕ). HaveServed (g.D.Device.state c.args.device) c.args.line (new_seats count) c.in-Ok.desks.items ran.0 c.in-Ok-run.run'.1.items c.args.moves ⊥) (sym c.requires.held) ran.1;
+      served = subst (λ (count : ℕ). HaveServed (g.D.Device.state c.args.device) c.args.line (new_seats count) c.in-Ok.desks.items ran.0 c.in-Ok-run.run'.1.items c.args.moves ⊥)
+          (sym c.requires.held) ran.1;
       borne_out = ran.2.borne_out;
       reconciled = c.in-Ok-all_reconciled.ensures;
     }

@@ -60,7 +60,8 @@ pub returns : goal.returns
 unfolding IsRead Spells
 returns c =
     let same = ap (λ (l : List (List ℕ)). c.args.station.now ∷ l) c.in_ok-from.ensures.ok in
-    let right = taken _ _ _ _ c.in_ok-number.ensures.ok.0 ∙ taken _ _ _ _ c.in_ok-account.ensures.ok.0 ∙ taken _ _ _ _ c.in_ok-account-2.ensures.ok.0 ∙ taken _ _ _ _ c.in_ok-number-2.ensures.ok.0 ∙ none_wrong in (
+    let right = taken _ _ _ _ c.in_ok-number.ensures.ok.0 ∙ taken _ _ _ _ c.in_ok-account.ensures.ok.0 ∙ taken _ _ _ _ c.in_ok-account-2.ensures.ok.0
+    ∙ taken _ _ _ _ c.in_ok-number-2.ensures.ok.0 ∙ none_wrong in (
       told_as_places _ _ ∙ as_long places _ _ same refl ∙ right,
       (
         fills_named (codes "post") _ _ _ (fills_kind (codes "transfer") (Account ∷ Account ∷ Number ∷ []) _ _ _

@@ -16,7 +16,11 @@ told_as_places words = entry_behind_name (codes "seal") places words
 pub returns-in_err-sealed : goal.returns-in_err-sealed
 unfolding IsRequestRead
 returns-in_err-sealed c =
-    search (rules, told _ _ (told_as_places c.args.words ∙ entry_not_as_long places c.args.words (λ e. c.in_err-sealed.ensures.err.0 (omega (arith))) (λ e. c.in_err-sealed.ensures.err.1 (omega (arith)))))
+    search (
+      rules,
+      told _ _ (told_as_places c.args.words
+          ∙ entry_not_as_long places c.args.words (λ e. c.in_err-sealed.ensures.err.0 (omega (arith))) (λ e. c.in_err-sealed.ensures.err.1 (omega (arith)))),
+    )
 
 pub returns-in_err-account : goal.returns-in_err-account
 unfolding IsRequestRead

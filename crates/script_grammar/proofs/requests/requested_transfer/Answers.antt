@@ -31,7 +31,11 @@ unfolding IsRequestRead
 returns-in_err-third c =
     let more0 = ap (λ (l : List (List ℕ)). length l) c.in_ok-first.ensures.ok in
     let more1 = ap (λ (l : List (List ℕ)). length l) c.in_ok-second.ensures.ok in
-    search (rules, told _ _ (told_as_places c.args.words ∙ entry_not_as_long places c.args.words (λ e. c.in_err-third.ensures.err.0 (omega (arith, more0, more1))) (λ e. c.in_err-third.ensures.err.1 (omega (arith, more0, more1)))))
+    search (
+      rules,
+      told _ _ (told_as_places c.args.words
+          ∙ entry_not_as_long places c.args.words (λ e. c.in_err-third.ensures.err.0 (omega (arith, more0, more1))) (λ e. c.in_err-third.ensures.err.1 (omega (arith, more0, more1)))),
+    )
 
 pub returns-in_err-account : goal.returns-in_err-account
 unfolding IsRequestRead
@@ -39,7 +43,8 @@ returns-in_err-account c =
     let exact : List (List ℕ) = c.in_ok-first.first.now ∷ c.in_ok-second.second.now ∷ c.in_ok-third.third.now ∷ [] in
     search (
       rules,
-      told _ _ (told_as_places c.args.words ∙ entry_as_long places c.args.words exact c.in_ok-third.given (three_given _ _ _ _ _ _ _ c.in_ok-first.ensures.ok c.in_ok-second.ensures.ok c.in_ok-third.ensures.ok) refl
+      told _ _ (told_as_places c.args.words
+          ∙ entry_as_long places c.args.words exact c.in_ok-third.given (three_given _ _ _ _ _ _ _ c.in_ok-first.ensures.ok c.in_ok-second.ensures.ok c.in_ok-third.ensures.ok) refl
           ∙ wrong _ _ _ _ c.in_err-account.ensures.err.0),
     )
 
@@ -49,7 +54,9 @@ returns-in_err-account-2 c =
     let exact : List (List ℕ) = c.in_ok-first.first.now ∷ c.in_ok-second.second.now ∷ c.in_ok-third.third.now ∷ [] in
     search (
       rules,
-      told _ _ (told_as_places c.args.words ∙ entry_as_long places c.args.words exact c.in_ok-third.given (three_given _ _ _ _ _ _ _ c.in_ok-first.ensures.ok c.in_ok-second.ensures.ok c.in_ok-third.ensures.ok) refl ∙ taken _ _ _ _ c.in_ok-account.ensures.ok.0
+      told _ _ (told_as_places c.args.words
+          ∙ entry_as_long places c.args.words exact c.in_ok-third.given (three_given _ _ _ _ _ _ _ c.in_ok-first.ensures.ok c.in_ok-second.ensures.ok c.in_ok-third.ensures.ok) refl
+          ∙ taken _ _ _ _ c.in_ok-account.ensures.ok.0
           ∙ wrong _ _ _ _ c.in_err-account-2.ensures.err.0),
     )
 
@@ -59,7 +66,9 @@ returns-in_err-number c =
     let exact : List (List ℕ) = c.in_ok-first.first.now ∷ c.in_ok-second.second.now ∷ c.in_ok-third.third.now ∷ [] in
     search (
       rules,
-      told _ _ (told_as_places c.args.words ∙ entry_as_long places c.args.words exact c.in_ok-third.given (three_given _ _ _ _ _ _ _ c.in_ok-first.ensures.ok c.in_ok-second.ensures.ok c.in_ok-third.ensures.ok) refl ∙ taken _ _ _ _ c.in_ok-account.ensures.ok.0 ∙ taken _ _ _ _ c.in_ok-account-2.ensures.ok.0
+      told _ _ (told_as_places c.args.words
+          ∙ entry_as_long places c.args.words exact c.in_ok-third.given (three_given _ _ _ _ _ _ _ c.in_ok-first.ensures.ok c.in_ok-second.ensures.ok c.in_ok-third.ensures.ok) refl
+          ∙ taken _ _ _ _ c.in_ok-account.ensures.ok.0 ∙ taken _ _ _ _ c.in_ok-account-2.ensures.ok.0
           ∙ wrong _ _ _ _ c.in_err-number.ensures.err.0),
     )
 
@@ -69,8 +78,10 @@ returns-in_err-reference_of c =
     let exact : List (List ℕ) = c.in_ok-first.first.now ∷ c.in_ok-second.second.now ∷ c.in_ok-third.third.now ∷ [] in
     search (
       rules,
-      told_as_places c.args.words ∙ entry_as_long places c.args.words exact c.in_ok-third.given (three_given _ _ _ _ _ _ _ c.in_ok-first.ensures.ok c.in_ok-second.ensures.ok c.in_ok-third.ensures.ok) refl
-          ∙ taken _ _ _ _ c.in_ok-account.ensures.ok.0 ∙ taken _ _ _ _ c.in_ok-account-2.ensures.ok.0 ∙ taken _ _ _ _ c.in_ok-number.ensures.ok.0 ∙ reference_wrong c.in_ok-third.given _ c.in_err-reference_of.ensures.err,
+      told_as_places c.args.words
+          ∙ entry_as_long places c.args.words exact c.in_ok-third.given (three_given _ _ _ _ _ _ _ c.in_ok-first.ensures.ok c.in_ok-second.ensures.ok c.in_ok-third.ensures.ok) refl
+          ∙ taken _ _ _ _ c.in_ok-account.ensures.ok.0 ∙ taken _ _ _ _ c.in_ok-account-2.ensures.ok.0 ∙ taken _ _ _ _ c.in_ok-number.ensures.ok.0
+          ∙ reference_wrong c.in_ok-third.given _ c.in_err-reference_of.ensures.err,
     )
 
 pub returns : goal.returns
@@ -81,5 +92,6 @@ returns c =
     let is = c.in_ok-reference_of.ensures.ok in
     let right = taken _ _ _ _ c.in_ok-account.ensures.ok.0 ∙ taken _ _ _ _ c.in_ok-account-2.ensures.ok.0 ∙ taken _ _ _ _ c.in_ok-number.ensures.ok.0 ∙ reference_right c.in_ok-third.given _ _ is in
     let written = reference_written c.in_ok-third.given _ _ is in
-    let full = entry_fills places c.args.words exact _ c.in_ok-third.given c.args.line _ same refl is right (cc (c.in_ok-account.ensures.ok.1, c.in_ok-account-2.ensures.ok.1, c.in_ok-number.ensures.ok.1, written)) in
+    let full = entry_fills places c.args.words exact _ c.in_ok-third.given c.args.line _ same refl is right
+    (cc (c.in_ok-account.ensures.ok.1, c.in_ok-account-2.ensures.ok.1, c.in_ok-number.ensures.ok.1, written)) in
     (told_as_places c.args.words ∙ entry_as_long places c.args.words exact c.in_ok-third.given same refl ∙ right, entry_named (codes "transfer") _ _ _ _ _ full)

@@ -47,7 +47,8 @@ loop-index-preserved c =
       line = c.make_move.ensures.line;
       here = now;
       run = IsRun-more start moves i no_move test c.loop-index.invariant.run (rw here at c.make_move.ensures.a_move.privilege);
-      first = first_more start moves i c.loop-index.first_legitimate c.noted-first_legitimate-in-loop-index.result c.loop-index.invariant.first more.found (rw now at more.here) (rw now at more.not_here);
+      first = first_more start moves i c.loop-index.first_legitimate c.noted-first_legitimate-in-loop-index.result c.loop-index.invariant.first more.found (rw now at more.here)
+          (rw now at more.not_here);
     }
 
 -- the start is a line

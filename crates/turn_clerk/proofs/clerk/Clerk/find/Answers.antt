@@ -30,7 +30,8 @@ returns-in_err-find_in-clause-never_changed g c honest changed =
     let told : find_refusal_of c.in_err-find_in.field-0.0 ≡ Changed = search rules in
     let was = c.in_err-find_in.was ∙ ap Err (is_changed c.in_err-find_in.field-0.0 told) in
     let works = ap (λ (k : ClerkState g.row.D.Denot). k.journal.faulted) c.self.view_is ∙ sym c.is_faulted.ensures ∙ c.if-is_faulted.false in
-    never_changed state (view_of c.self.inside) c.self.invariant.0 (subst (λ (k : ClerkState g.row.D.Denot). (state k.journal.device).honest) (sym c.self.view_is) honest) works c.args.reference c.args.from
+    never_changed state (view_of c.self.inside) c.self.invariant.0 (subst (λ (k : ClerkState g.row.D.Denot). (state k.journal.device).honest) (sym c.self.view_is) honest) works
+    c.args.reference c.args.from
     _ (λ contents is. c.find_in.ensures.changed contents is was)
 
 pub returns-clause-found : goal.returns-clause-found
