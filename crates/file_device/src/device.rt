@@ -15,8 +15,8 @@ use std::os::unix::fs::FileExt;
 
 /// A device on a file. Nothing is promised of what the file holds.
 ///
-/// Reads go through a buffer of 128 KiB. A write is one positioned write of 512 bytes, a sync waits until the system says
-/// that the file's data is on the disk, and after a failed sync every call fails. No call takes memory.
+/// Reads go through a buffer of 128 KiB. A write is one positioned write of 512 bytes, a sync waits until the system
+/// says that the file's data is on the disk, and after a failed sync every call fails. No call takes memory.
 pub type FileDevice = DeviceOn<File>;
 
 /// The same on whatever files these are.
@@ -24,12 +24,12 @@ pub type DeviceOn<F> = FailStop<ReadAhead<SectorFile<F>>>;
 
 impl<F: DeviceFile + Drop> DeviceOn<F> {
     /// Opens the file, makes it if it isn't there, and locks it for as long as the device has it. If it has fewer
-    /// sectors than these, zero sectors are written at its end until it has them; one that is longer stays as it is. Then
-    /// it is synced, and the folder that it lies in, unless that may not be read and the file was there. A file that this
-    /// opening made and then can't grow is removed.
+    /// sectors than these, zero sectors are written at its end until it has them; one that is longer stays as it is.
+    /// Then it is synced, and the folder that it lies in, unless that may not be read and the file was there. A file
+    /// that this opening made and then can't grow is removed.
     ///
-    /// A disk, which is a block device, has to have that many sectors, and is neither grown nor cut. It is refused if it
-    /// is in use, and unless it begins as a ledger does, or its first 256 sectors are zeros.
+    /// A disk, which is a block device, has to have that many sectors, and is neither grown nor cut. It is refused if
+    /// it is in use, and unless it begins as a ledger does, or its first 256 sectors are zeros.
     ///
     /// The lock keeps out those alone who ask for it too: nobody else may write the file while the device is in use.
     pub fn open<R: Files<File = F>>(

@@ -48,8 +48,8 @@ pub(crate) fn idle_disk_sectors<R: Files>(
     Ok(disk_sectors(disk.length)?)
 }
 
-/// That a disk that is locked has as many sectors as are wanted, and holds a ledger or nothing or may be written over. It is
-/// synced then, and never grown or cut. `front` is room for its first sectors.
+/// That a disk that is locked has as many sectors as are wanted, and holds a ledger or nothing or may be written over.
+/// It is synced then, and never grown or cut. `front` is room for its first sectors.
 pub(crate) fn make_sure_of_disk<F: DeviceFile>(
     file: &F,
     sectors: u64,

@@ -8,8 +8,8 @@ use std::os::unix::fs::FileExt;
 /// The size of a sector, as a length of a file.
 const SECTOR_LENGTH: u64 = SECTOR as u64;
 
-/// Grows a file of `from` sectors until it has `to` of them. After an error it has the length from before, if the system
-/// can give it that.
+/// Grows a file of `from` sectors until it has `to` of them. After an error it has the length from before, if the
+/// system can give it that.
 pub(crate) fn grow<F: OpenFile + FileExt>(
     file: &F,
     from: u64,

@@ -1,9 +1,9 @@
 //! Sectors in a file.
 //!
-//! `FileDevice` is a device on a file of the system, or on a block device, here called a disk. No contract speaks of what
-//! these hold. What is promised is that every call is safe and ends, that failures are counted, and that after a failed
-//! sync every later call fails. `ReadAhead` is the buffer that its reads go through: over any device it gives what that
-//! device gives.
+//! `FileDevice` is a device on a file of the system, or on a block device, here called a disk. No contract speaks of
+//! what these hold. What is promised is that every call is safe and ends, that failures are counted, and that after a
+//! failed sync every later call fails. `ReadAhead` is the buffer that its reads go through: over any device it gives
+//! what that device gives.
 //!
 //! The test `a_file_is_made_and_grown_and_never_cut` in `src/files.rt` of the crate `file_tests` is an example.
 #![tactic(auto)]
@@ -17,6 +17,7 @@ mod fail_stop;
 mod growth;
 mod locked_file;
 mod looking;
+mod made_file;
 mod opening;
 mod read_ahead;
 mod read_only;
@@ -32,6 +33,7 @@ pub use disk_tables::DeviceNumber;
 pub use fail_stop::FailStop;
 pub use locked_file::{LockedFile, Wanted};
 pub use looking::{Locking, ReadOnlyFile, ReadOnlyOn};
+pub use made_file::{FileNumber, MadeFile};
 pub use opening::Making;
 pub use read_ahead::ReadAhead;
 pub use read_only::ReadOnly;

@@ -1,5 +1,5 @@
 //! Files and disks that are open and locked, and not yet devices.
-ghost use Rattle.std.specs.Prelude.{◌≡◌, ◌*◌, ◌<◌, ◌≤◌, ◌^◌, false, true, max, length, vec_len, IfOk, OnOk};
+ghost use Rattle.std.specs.Prelude.{◌≡◌, ◌≢◌, ◌*◌, ◌<◌, ◌≤◌, ◌^◌, false, true, max, length, vec_len, None, Ok, IfOk, OnOk};
 ghost use Rattle.file_device.specs.ReadBuffer.{IsEmpty};
 ghost use Rattle.file_device.specs.LockedFile.{LockedState};
 
@@ -8,6 +8,7 @@ use crate::device::{DeviceOn, device_over};
 use crate::device_file::DeviceFile;
 use crate::disk::{idle_disk_sectors, make_sure_of_disk};
 use crate::growth::grow;
+use crate::made_file::{FileNumber, MadeFile};
 use crate::opening::{
     Making, Opened, SECTOR_LENGTH, cause, check_length, open_locked, whole_sectors,
 };
@@ -15,10 +16,10 @@ use crate::refusal::{DeviceRefusal, FileFault};
 use crate::sector_file::SectorFile;
 use sector_device::{SECTOR, Sector};
 use std::alloc::Global;
-use std::fs;
-use std::fs::{Files, Metadata};
+use std::fs::Files;
+use std::io;
 use std::marker::Model;
-use std::os::unix::fs::{FileExt, MetadataExt};
+use std::os::unix::fs::FileExt;
 
 /// How many sectors a file grows by in one write, and are read in one call of what isn't a device yet: 128 KiB.
 const PIECE: usize = 256;
@@ -32,9 +33,9 @@ pub struct Wanted {
     pub overwrite: bool,
 }
 
-/// A file or a disk that is open and locked, and not a device yet. It was made if that was asked for, and else nothing of
-/// it has changed; nothing is written to it before [`into_device`](LockedFile::into_device). The memory that a device takes
-/// is there already.
+/// A file or a disk that is open and locked, and not a device yet. It was made if that was asked for, and else nothing
+/// of it has changed; nothing is written to it before [`into_device`](LockedFile::into_device). The memory that a
+/// device takes is there already.
 #[derive(Drop)]
 pub struct LockedFile<'a, F: DeviceFile> {
     path: &'a str,
@@ -58,8 +59,8 @@ impl<'a, F: DeviceFile> Model for LockedFile<'a, F> {
 }
 
 impl<'a, F: DeviceFile + Drop> LockedFile<'a, F> {
-    /// Opens and locks what is at the path, which is made as an empty file if that is asked for and nothing is there. A disk
-    /// is refused if it is in use.
+    /// Opens and locks what is at the path, which is made as an empty file if that is asked for and nothing is there. A
+    /// disk is refused if it is in use.
     pub fn open<R: Files<File = F>>(
         rt: &R,
         alloc: Global,
@@ -105,6 +106,17 @@ impl<'a, F: DeviceFile + Drop> LockedFile<'a, F> {
         self.is_disk
     }
 
+    /// The file, if this opening made it, so that it can be taken back.
+    ///
+    /// # Errors
+    /// The system doesn't say which file it is.
+    pub fn made(&self) -> Result<Option<MadeFile<'a>>, DeviceRefusal>
+        ensures not_made { self.now.is_new ≡ false → result ≡ Ok None }
+        ensures made { self.now.is_new ≡ true → IfOk result (λ made. made ≢ None) }
+    {
+        Ok(made_file(self.path, &self.opened)?)
+    }
+
     /// Its first sector, and zeros if it has none.
     ///
     /// # Errors
@@ -136,9 +148,9 @@ impl<'a, F: DeviceFile + Drop> LockedFile<'a, F> {
         Ok(true)
     }
 
-    /// Makes a device of it, with at least so many sectors. Zero sectors are written at the end of a file until it has them;
-    /// one that is longer stays as it is. Then it is synced, and the folder that it lies in, unless that may not be read. If
-    /// the file was made by this opening and this fails, it is removed.
+    /// Makes a device of it, with at least so many sectors. Zero sectors are written at the end of a file until it has
+    /// them; one that is longer stays as it is. Then it is synced, and the folder that it lies in, unless that may not
+    /// be read. If the file was made by this opening and this fails, it is removed.
     ///
     /// A disk has to have that many sectors, and is neither grown nor cut.
     pub fn into_device<R: Files<File = F>>(
@@ -166,7 +178,7 @@ impl<'a, F: DeviceFile + Drop> LockedFile<'a, F> {
         if is_disk {
             make_sure_of_disk(&opened.file, sectors, wanted, zeros.as_mut_slice())?;
         } else if let Err(fault) = lengthen(&opened, sectors, wanted.sectors, zeros.as_slice()) {
-            remove_made(rt, path, &opened);
+            take_back(rt, path, &opened);
             return Err(DeviceRefusal::File(fault.for_writing()));
         }
         let Opened { file, .. } = opened;
@@ -202,19 +214,24 @@ fn lengthen<F: DeviceFile + Drop>(
     Ok(())
 }
 
-// Removes a file that was made by this opening, if its name is still its own. What becomes of this isn't told.
-fn remove_made<F: DeviceFile + Drop, R: Files<File = F>>(rt: &R, path: &str, opened: &Opened<F>) {
+// The file that this opening made, if it made one.
+fn made_file<'a, F: DeviceFile>(
+    path: &'a str,
+    opened: &Opened<F>,
+) -> io::Result<Option<MadeFile<'a>>>
+    ensures not_made { opened.now.is_new ≡ false → result ≡ Ok None }
+    ensures made { opened.now.is_new ≡ true → IfOk result (λ made. made ≢ None) }
+{
     if !opened.is_new {
-        return;
+        return Ok(None);
     }
-    let (Ok(named), Ok(made)) = (fs::symlink_metadata(rt, path), opened.file.metadata()) else {
-        return;
-    };
-    if is_same_file(&named, &made) {
-        let _ = fs::remove_file(rt, path);
-    }
+    let number = FileNumber::of(&opened.file.metadata()?);
+    Ok(Some(MadeFile { path, number }))
 }
 
-fn is_same_file(one: &Metadata, other: &Metadata) -> bool {
-    one.dev() == other.dev() && one.ino() == other.ino()
+// Removes a file that was made by this opening. What becomes of this isn't told.
+fn take_back<F: DeviceFile, R: Files<File = F>>(rt: &R, path: &str, opened: &Opened<F>) {
+    if let Ok(Some(made)) = made_file(path, opened) {
+        made.remove(rt);
+    }
 }

@@ -78,8 +78,8 @@ fn existing() -> OpenOptions {
     how
 }
 
-// The file, and the folder that has its name. A folder that may not be read can't be synced: there a file is opened, and
-// none is made.
+// The file, and the folder that has its name. A folder that may not be read can't be synced: there a file is opened,
+// and none is made.
 fn open_in_folder<R: Files>(
     rt: &R,
     path: &str,

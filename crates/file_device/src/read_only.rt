@@ -8,9 +8,9 @@ ghost use Rattle.file_device.specs.ReadOnly.{ReadOnlyState, IsSettled, read_only
 use sector_device::{Device, DeviceFault, Sector};
 use std::marker::Model;
 
-/// A device that is only read: no call but a read reaches the device within. A write fails and is counted. A sync answers
-/// `Ok` at once, and makes nothing durable: if the inner device is honest, nothing of it was pending when it was handed
-/// in, and reads leave that so. It is honest exactly if the inner device is. No call takes memory.
+/// A device that is only read: no call but a read reaches the device within. A write fails and is counted. A sync
+/// answers `Ok` at once, and makes nothing durable: if the inner device is honest, nothing of it was pending when it
+/// was handed in, and reads leave that so. It is honest exactly if the inner device is. No call takes memory.
 #[derive(Debug, Drop)]
 pub struct ReadOnly<D: Device> {
     inner: D,

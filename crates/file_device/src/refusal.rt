@@ -14,8 +14,8 @@ pub enum FileRefusal {
     #[error("out of memory")]
     Memory,
     /// The file, or the folder that it lies in, can't be opened, read, grown or synced, it is neither a regular file
-    /// nor a disk, its length isn't a multiple of 512, another holds it, or the system has no locks for it. It may have been
-    /// grown, if it couldn't be synced after that. Or it is a disk with a fault of its own.
+    /// nor a disk, its length isn't a multiple of 512, another holds it, or the system has no locks for it. It may have
+    /// been grown, if it couldn't be synced after that. Or it is a disk with a fault of its own.
     #[error("the file can't be used as a device")]
     File,
 }
@@ -55,23 +55,23 @@ pub enum FileFault {
     Failed,
 }
 
-/// Why a disk, which is a block device, didn't become a device. Nothing was written to it.
+/// Why a disk, which is a block device, didn't become a device. Nothing was written to it. Texts go on behind its path.
 #[derive(Clone, Copy, Debug, PartialEq, Eq, Error)]
 pub enum DiskFault {
     /// It may not be read and written: by this user, or by anybody.
-    #[error("the disk may not be read and written")]
+    #[error("is a disk that may not be read and written")]
     Denied,
     /// Another program has it, or it is mounted, swapped to or a part of another device.
-    #[error("the disk is in use")]
+    #[error("is a disk that is in use")]
     InUse,
     /// It has fewer sectors than were asked for.
-    #[error("the disk has too few sectors")]
+    #[error("is a disk with too few sectors")]
     TooSmall,
     /// It doesn't begin as a ledger does, nor with zeros.
-    #[error("the disk holds no ledger")]
+    #[error("is a disk that holds no ledger; --overwrite takes it all the same")]
     NoLedger,
     /// A disk was to be written over, and this is none.
-    #[error("it is no disk")]
+    #[error("is no disk, and --overwrite is for disks alone")]
     NoDisk,
 }
 
@@ -82,7 +82,7 @@ pub enum DeviceRefusal {
     #[error("{0}")]
     File(FileFault),
     /// It is a disk, or should be one.
-    #[error("{0}")]
+    #[error("it {0}")]
     Disk(DiskFault),
 }
 

@@ -191,11 +191,20 @@ fn a_number_is_printed_as_the_system_does(rt: HostRuntime) -> Result<(), Fail> {
 #[test]
 fn faults_of_disks_have_texts(rt: HostRuntime) -> Result<(), Fail> {
     let table = [
-        (DiskFault::Denied, "the disk may not be read and written"),
-        (DiskFault::InUse, "the disk is in use"),
-        (DiskFault::TooSmall, "the disk has too few sectors"),
-        (DiskFault::NoLedger, "the disk holds no ledger"),
-        (DiskFault::NoDisk, "it is no disk"),
+        (
+            DiskFault::Denied,
+            "it is a disk that may not be read and written",
+        ),
+        (DiskFault::InUse, "it is a disk that is in use"),
+        (DiskFault::TooSmall, "it is a disk with too few sectors"),
+        (
+            DiskFault::NoLedger,
+            "it is a disk that holds no ledger; --overwrite takes it all the same",
+        ),
+        (
+            DiskFault::NoDisk,
+            "it is no disk, and --overwrite is for disks alone",
+        ),
     ];
     for (fault, text) in table {
         let refusal = DeviceRefusal::Disk(fault);

@@ -253,8 +253,8 @@ fn a_folder_that_may_not_be_read_keeps_no_old_file_closed(rt: HostRuntime) -> Re
     comes_to_pass(&rt, rt.alloc(), &of_a_new_file)
 }
 
-// A piece takes three writes of 50,000 bytes, and the last one a single one: so with the three lengths the growth has ten
-// steps, of which the first is the sixth step of all.
+// A piece takes three writes of 50,000 bytes, and the last one a single one: so with the three lengths the growth has
+// ten steps, of which the first is the sixth step of all.
 #[test]
 fn zeros_that_are_written_in_part_are_finished(rt: HostRuntime) -> Result<(), Fail> {
     for fails in 5..16 {

@@ -1,5 +1,7 @@
 -- The boundaries between neighbors as words, and how many of them are marked.
-use Rattle.std.proofs.Common.{◌≡◌, ℕ, zero, suc, ◌+◌, ◌-◌, ◌/◌, ◌%◌, ◌^◌, ◌<◌, ◌≤◌, min, Bool, true, false, cond, not, ◌&&◌, map, length, bit_and, bit_xor, count_ones, inl, inr, refl, sym, ap, ap₂, ◌∙◌, arith, w64, add-one}
+use Rattle.std.proofs.Common.{◌≡◌, ℕ, zero, suc, ◌+◌, ◌-◌, ◌/◌, ◌%◌, ◌^◌, ◌<◌, ◌≤◌, min, Bool, true, false, cond, not}
+use Rattle.std.proofs.Common.{◌&&◌, map, length, bit_and, bit_xor, count_ones, inl, inr, refl, sym, ap, ap₂, ◌∙◌, arith}
+use Rattle.std.proofs.Common.{w64, add-one}
 use Rattle.std.specs.Int.{bit_at, bit_not}
 use Rattle.std.specs.List.{count_by, range_with_len}
 use Rattle.std.proofs.Math.ListN.{get_or-eq_default}
@@ -64,7 +66,8 @@ differing c s =
 pub rising_word : (c : Configuration) (n : ℕ) → bit_and (bit_xor (word_of c.x) (word_of c.x / 2)) (2 ^ n - 1) ≡ word_by (rises c) n
 rising_word c n = masked (bit_xor (word_of c.x) (word_of c.x / 2)) n (rises c) (λ s l. differing c s)
 
-pub falling_word : (c : Configuration) (n : ℕ) → IsLine c → n ≤ 64 → bit_and (bit_and (bit_and (bit_not w64 (bit_xor (word_of c.x) (word_of c.x / 2))) (word_of c.up)) (bit_not w64 (word_of c.up / 2))) (2 ^ n - 1) ≡ word_by (falls c) n
+pub falling_word : (c : Configuration) (n : ℕ) → IsLine c → n ≤ 64
+    → bit_and (bit_and (bit_and (bit_not w64 (bit_xor (word_of c.x) (word_of c.x / 2))) (word_of c.up)) (bit_not w64 (word_of c.up / 2))) (2 ^ n - 1) ≡ word_by (falls c) n
 falling_word c n h few =
     let x = word_of c.x in
     let up = word_of c.up in

@@ -1,5 +1,7 @@
 -- One bit of a word changed, against the list of its bits.
-use Rattle.std.proofs.Common.{◌≡◌, ℕ, ◌+◌, ◌*◌, ◌%◌, ◌^◌, ◌<◌, ◌≤◌, Bool, true, false, not, List, length, get_or, set, bit_and, bit_or, bit_xor, inl, inr, refl, sym, ap, ◌∙◌, arith, w64, get_or-set_same, get_or-set_other, length-set}
+use Rattle.std.proofs.Common.{◌≡◌, ℕ, ◌+◌, ◌*◌, ◌%◌, ◌^◌, ◌<◌, ◌≤◌, Bool, true, false, not, List, length, get_or, set}
+use Rattle.std.proofs.Common.{bit_and, bit_or, bit_xor, inl, inr, refl, sym, ap, ◌∙◌, arith, w64, get_or-set_same}
+use Rattle.std.proofs.Common.{get_or-set_other, length-set}
 use Rattle.std.specs.Int.{bit_at, bit_not}
 use Rattle.std.proofs.lemmas.Bool.{cases_eq}
 use Rattle.std.proofs.lemmas.Nat.{one_shl, and_le_l}

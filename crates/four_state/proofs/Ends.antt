@@ -22,7 +22,8 @@ ends_line x up e two most =
       at_most_64 = most;
     }
 
-pub says-ends : (x up : List Bool) (x_word up_word : ℕ) → length up ≡ length x → 2 ≤ length x → length x ≤ 64 → x_word ≡ word_of x → up_word ≡ word_of (ends_set x up) → Says (length x) (x_word ∷ up_word ∷ []) (record { x = x; up = ends_set x up })
+pub says-ends : (x up : List Bool) (x_word up_word : ℕ) → length up ≡ length x → 2 ≤ length x → length x ≤ 64 → x_word ≡ word_of x → up_word ≡ word_of (ends_set x up)
+    → Says (length x) (x_word ∷ up_word ∷ []) (record { x = x; up = ends_set x up })
 says-ends x up x_word up_word e two most is_x is_up =
     record {
       number = refl;

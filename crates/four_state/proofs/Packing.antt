@@ -1,5 +1,7 @@
 -- A word grows by one bit at its top.
-use Rattle.std.proofs.Common.{◌≡◌, ℕ, ◌+◌, ◌*◌, ◌%◌, ◌^◌, ◌<◌, ◌≤◌, Bool, true, false, List, [], ◌∷◌, ◌++◌, length, get_or, take, bit_or, refl, sym, ap, ◌∙◌, arith, take-suc, length-take-le, pow-suc, add-one}
+use Rattle.std.proofs.Common.{◌≡◌, ℕ, ◌+◌, ◌*◌, ◌%◌, ◌^◌, ◌<◌, ◌≤◌, Bool, true, false, List, [], ◌∷◌, ◌++◌, length}
+use Rattle.std.proofs.Common.{get_or, take, bit_or, refl, sym, ap, ◌∙◌, arith, take-suc, length-take-le, pow-suc}
+use Rattle.std.proofs.Common.{add-one}
 use Rattle.std.specs.Int.{from_bool}
 use Rattle.std.specs.Int.Bits.{or_shifted_r}
 use Rattle.std.proofs.lemmas.Nat.{shl_whole}

@@ -40,7 +40,8 @@ keeps n words c h =
     }
 
 -- after a bit x is flipped
-pub says-flipped : (n : ℕ) (words : List ℕ) (c : Configuration) (s : ℕ) → Says n words c → s < stations c → Says n (set words 0 (bit_xor (get_or words 0 0) (bit_of s))) (record { x = x_flipped c s; up = c.up })
+pub says-flipped : (n : ℕ) (words : List ℕ) (c : Configuration) (s : ℕ) → Says n words c → s < stations c
+    → Says n (set words 0 (bit_xor (get_or words 0 0) (bit_of s))) (record { x = x_flipped c s; up = c.up })
 says-flipped n words c s h l =
     record {
       number = h.number ∙ sym (length-set c.x s (not (x_at c s)));
@@ -49,7 +50,8 @@ says-flipped n words c s h l =
     }
 
 -- after a bit up of a middle station is written
-pub says-up : (n : ℕ) (words : List ℕ) (c : Configuration) (s : ℕ) (bit : Bool) (word : ℕ) → Says n words c → 0 < s → s + 1 < stations c → word ≡ word_of (set c.up s bit) → Says n (set words 1 word) (record { x = c.x; up = set c.up s bit })
+pub says-up : (n : ℕ) (words : List ℕ) (c : Configuration) (s : ℕ) (bit : Bool) (word : ℕ) → Says n words c → 0 < s → s + 1 < stations c → word ≡ word_of (set c.up s bit)
+    → Says n (set words 1 word) (record { x = c.x; up = set c.up s bit })
 says-up n words c s bit word h above below e =
     record {
       number = h.number;

@@ -99,13 +99,15 @@ one-mark false false v = refl
 pub one-mark_at : (c : Configuration) (b : ℕ) → one (is_privilege (mark_at c b)) ≡ one (rises c b) + one (falls c b)
 one-mark_at c b = one-mark (rises c b) (up_at c b) (up_at c (b + 1))
 
-joined : {total here above mark : ℕ} (rises_below falls_here rises_here marks : ℕ) → total ≡ here + above → here ≡ rises_below + falls_here → above ≡ rises_here + marks → mark ≡ rises_here + falls_here → total ≡ rises_below + (mark + marks)
+joined : {total here above mark : ℕ} (rises_below falls_here rises_here marks : ℕ) → total ≡ here + above → here ≡ rises_below + falls_here → above ≡ rises_here + marks
+    → mark ≡ rises_here + falls_here → total ≡ rises_below + (mark + marks)
 joined rises_below falls_here rises_here marks a b c d = omega arith
 
 privileges_above : (c : Configuration) (n b : ℕ) → b + n + 2 ≡ stations c → privileges_from c (b + 1) (suc n) ≡ one (rises c b) + mark_count (marks_from c (b + 1) n)
 privileges_above c zero b e = privileges_from-suc c (b + 1) 0 ∙ ap (λ k. k + 0) (privileges_at-top c b (omega arith))
 privileges_above c (suc n) b e =
-    joined (one (rises c b)) (one (falls c (b + 1))) (one (rises c (b + 1))) (mark_count (marks_from c (b + 1 + 1) n)) (privileges_from-suc c (b + 1) (suc n)) (privileges_at-middle c b (omega arith)) (privileges_above c n (b + 1) (omega arith)) (one-mark_at c (b + 1))
+    joined (one (rises c b)) (one (falls c (b + 1))) (one (rises c (b + 1))) (mark_count (marks_from c (b + 1 + 1) n)) (privileges_from-suc c (b + 1) (suc n))
+    (privileges_at-middle c b (omega arith)) (privileges_above c n (b + 1) (omega arith)) (one-mark_at c (b + 1))
 
 -- As many privileges are present as there are marks.
 pub length-privileges_of : (c : Configuration) → IsConfiguration c → length (privileges_of c) ≡ mark_count (marks_of c)
@@ -116,7 +118,8 @@ length-privileges_of c h =
     let all : suc (suc n) ≡ stations c = omega arith in
     let rest : suc n ≡ stations c - 1 = omega arith in
     let whole : privileges_from c 0 (suc (suc n)) ≡ mark_count (marks_from c 0 (suc n)) =
-    joined 0 (one (falls c 0)) (one (rises c 0)) (mark_count (marks_from c 1 n)) (privileges_from-suc c 0 (suc n)) (privileges_at-bottom c h ∙ sym (zero-add (one (falls c 0)))) (privileges_above c n 0 (omega arith)) (one-mark_at c 0) ∙ zero-add (mark_count (marks_from c 0 (suc n))) in
+    joined 0 (one (falls c 0)) (one (rises c 0)) (mark_count (marks_from c 1 n)) (privileges_from-suc c 0 (suc n)) (privileges_at-bottom c h
+    ∙ sym (zero-add (one (falls c 0)))) (privileges_above c n 0 (omega arith)) (one-mark_at c 0) ∙ zero-add (mark_count (marks_from c 0 (suc n))) in
     counted ∙ sym (ap (privileges_from c 0) all) ∙ whole ∙ ap (λ k. mark_count (marks_from c 0 k)) rest
 
 -- ---- the marks so far

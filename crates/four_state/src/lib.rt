@@ -14,6 +14,6 @@ mod lines;
 mod refusals;
 mod rules;
 
-pub use lines::Line;
+pub use lines::{FEWEST_STATIONS, Line, MOST_STATIONS};
 pub use refusals::LineRefusal;
 pub use rules::Rule;

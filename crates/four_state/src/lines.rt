@@ -15,6 +15,11 @@ use crate::rules::Rule;
 use std::fmt;
 use std::marker::Model;
 
+/// The fewest and the most stations of a line.
+pub const FEWEST_STATIONS: u64 = 2;
+
+pub const MOST_STATIONS: u64 = 64;
+
 // The places of the two words.
 const X: usize = 0;
 
@@ -64,7 +69,7 @@ impl Line {
             ≡ record { x = x.now; up = slice_set (slice_set up.now 0 true) (n - 1) false }) }
         ensures line { IfOk result IsLine }
     {
-        if n < 2 || 64 < n {
+        if !(FEWEST_STATIONS..=MOST_STATIONS).contains(&n) {
             return Err(LineRefusal::Stations);
         }
         if x.len() as u64 != n || up.len() as u64 != n {

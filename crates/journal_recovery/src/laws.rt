@@ -29,9 +29,9 @@ pub fn one_recovery()
     one_reading();
 }
 
-/// In what an image recovers to each account is sealed that the live bank's snapshot marks, with the balance that it has
-/// there; and behind the marks stand zeros. Where another byte stands there, or the balances are over the limit together,
-/// the bank is what is damaged.
+/// In what an image recovers to each account is sealed that the live bank's snapshot marks, with the balance that it
+/// has there; and behind the marks stand zeros. Where another byte stands there, or the balances are over the limit
+/// together, the bank is what is damaged.
 pub fn seals_are_recovered()
     ensures no_spare { (image : Image) (slots : ℕ) (live : LiveBank) (contents : BankContents)
         (s : State) → ReadsAs image slots live contents → RecoversTo s image
@@ -50,8 +50,8 @@ pub fn seals_are_recovered()
 }
 
 /// The same of layouts 1 and 2: an image recovers to at most one state, if it does no refusal holds of it, and of any
-/// image at most one refusal holds. So what `read_old` answers on an honest device is determined by what reads give, want
-/// of memory and device faults apart.
+/// image at most one refusal holds. So what `read_old` answers on an honest device is determined by what reads give,
+/// want of memory and device faults apart.
 pub fn one_old_recovery()
     ensures state { (image : Image) (s t : State) → OldRecoversTo s image → OldRecoversTo t image
         → s ≡ t }

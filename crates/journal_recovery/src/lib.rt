@@ -1,7 +1,8 @@
 //! What a device holds, as a ledger: the journal is opened, and its records are posted in order to the balances of its
 //! snapshot.
 //!
-//! The test `an_acknowledged_deposit_outlives_a_power_loss` in `src/recovery.rt` of the crate `journal_tests` is an example.
+//! The test `an_acknowledged_deposit_outlives_a_power_loss` in `src/recovery.rt` of the crate `journal_tests` is an
+//! example.
 #![tactic(auto)]
 
 mod entries;
@@ -21,6 +22,6 @@ pub use migration::{MigrateRefusal, migrate, snapshot_of};
 pub use old::{Old, read_old};
 pub use postings::may_hold_postings;
 pub use recovery::{Recovered, recover};
-pub use refusals::{Cause, OpenRefusal};
+pub use refusals::{Cause, OpenName, OpenRefusal};
 pub use sector_device::{Device, DeviceFault};
 pub use turn_ledger::Ledger;

@@ -1,6 +1,7 @@
 ghost use Rattle.std.specs.Prelude.{◌≡◌};
 
 use gate_journal::{JournalCause, JournalRefusal};
+use std::fmt;
 use thiserror::Error;
 
 /// Why a device was not opened as a ledger. Out of memory is answered before any device call; of the others the first
@@ -11,45 +12,70 @@ pub enum OpenRefusal {
     #[error("out of memory")]
     Memory,
     /// The first sector doesn't begin with `TLDG`, or it is of this layout and no superblock.
-    #[error("the device is not formatted")]
+    #[error("it holds no ledger")]
     Unformatted,
     /// The journal has another layout than 3: this one.
-    #[error("the device has version {0}")]
+    #[error("its ledger has version {0}, which isn't known")]
     Version(u16),
     /// The superblock tells of no slots or of more than 1,000,000, or the device has too few sectors for them.
-    #[error("the number of slots is wrong for the device")]
+    #[error("its number of slots is out of range, or it is too short for them")]
     Size,
     /// A slot, counted from 0 in the live bank, or a bank, is damaged: the first that is, for this cause.
     #[error("damage at {slot}: {cause}")]
     Damaged { slot: u64, cause: Cause },
     /// A call of the device failed; nothing is known of the journal.
-    #[error("the device failed")]
+    #[error("it can't be read")]
     Device,
 }
 
-/// What is wrong with a slot, or, for `Bank`, with a bank, whose number then stands in the place of the slot's. Places are
-/// counted from 0.
+/// What is wrong with a slot, or, for `Bank`, with a bank, whose number then stands in the place of the slot's. Places
+/// are counted from 0.
 #[derive(Clone, Copy, Debug, PartialEq, Eq, Error)]
 pub enum Cause {
     /// The gate is open and the body's bytes are no record.
-    #[error("the slot's body is no record")]
+    #[error("the body of an open slot is no record")]
     Header,
     /// The body is a record, of another sequence number than the slot's own.
-    #[error("the slot's record has another sequence")]
+    #[error("the record of a slot has another sequence number")]
     Sequence,
     /// The gate is open, and that of a slot before it isn't.
-    #[error("the slot is open behind a closed one")]
+    #[error("a slot is open behind a closed one")]
     Tail,
-    /// No bank's gate is open, the head of an open one isn't sound, both are open with the same epoch, or the live one's
-    /// balances are over the limit together, or behind its marks stands a byte that isn't zero.
-    #[error("no bank is live, or the one of this number isn't sound")]
+    /// No bank's gate is open, the head of an open one isn't sound, both are open with the same epoch, or the live
+    /// one's balances are over the limit together, or behind its marks stands a byte that isn't zero.
+    #[error("a bank isn't sound, or none is live")]
     Bank,
     /// The bytes at this place of the record are those of no entry.
-    #[error("place {0} is no entry")]
+    #[error("place {0} of a record is no entry")]
     Entry(u8),
     /// The entry at this place of the record isn't accepted on the ledger before it.
-    #[error("the entry at place {0} breaks a rule of the ledger")]
+    #[error("the entry at place {0} of a record breaks a rule of the ledger")]
     Verdict(u8),
+}
+
+/// The name of a refused opening, as the output of a script has it: its variant's, with its numbers behind it.
+#[derive(Clone, Copy, Debug)]
+pub struct OpenName(pub OpenRefusal);
+
+impl fmt::Display for OpenName {
+    fn fmt<W: fmt::Write>(&self, f: &mut fmt::Formatter<W>) -> fmt::Result {
+        match self.0 {
+            OpenRefusal::Version(version) => write!(f, "Version {version}"),
+            OpenRefusal::Damaged { slot, cause } => {
+                write!(f, "Damaged {slot} ")?;
+                write_cause(cause, f)
+            }
+            refusal => write!(f, "{refusal:?}"),
+        }
+    }
+}
+
+fn write_cause<W: fmt::Write>(cause: Cause, f: &mut fmt::Formatter<W>) -> fmt::Result {
+    match cause {
+        Cause::Entry(place) => write!(f, "Entry {place}"),
+        Cause::Verdict(place) => write!(f, "Verdict {place}"),
+        cause => write!(f, "{cause:?}"),
+    }
 }
 
 impl From<JournalCause> for Cause {

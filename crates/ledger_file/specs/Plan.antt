@@ -12,8 +12,8 @@ pub record TellsSlots (first : List ℕ) (slots : ℕ) : Type 0 where
   pub some : 1 ≤ slots
   pub most : slots ≤ 1000000
 
--- The file begins as a ledger does, and isn't a whole one, for this reason: it is of another version, its superblock isn't
--- sound, or it has fewer sectors than the 39 + 4·slots that its superblock needs.
+-- The file begins as a ledger does, and isn't a whole one, for this reason: it is of another version, its superblock
+-- isn't sound, or it has fewer sectors than the 39 + 4·slots that its superblock needs.
 abbrev pub IsPart : List ℕ → ℕ → PartFault → Type 0
 IsPart first sectors (OtherVersion version) = IsOfVersion first version × (version ≢ in_use.version)
 IsPart first sectors Unsound = IsOfVersion first in_use.version × ((slots : ℕ) → TellsSlots first slots → ⊥)

@@ -1,9 +1,9 @@
-//! Files that hold ledgers: how they are opened, grown and formatted so that no part of a ledger, and nothing of another
-//! program, is written over by mistake.
+//! Files that hold ledgers: how they are opened, grown and formatted so that no part of a ledger, and nothing of
+//! another program, is written over by mistake.
 //!
-//! A file is opened and locked first, and looked at. What becomes of it is decided by its first sector, its length and what
-//! was asked for ([`sectors_planned`], [`check_formatting`]), before anything of it changes. No contract speaks of what a
-//! real file holds.
+//! A file is opened and locked first, and looked at. What becomes of it is decided by its first sector, its length and
+//! what was asked for ([`sectors_planned`], [`check_formatting`]), before anything of it changes. No contract speaks of
+//! what a real file holds.
 //!
 //! `checks/files.sh` has examples.
 #![tactic(auto)]
@@ -12,8 +12,11 @@ mod opening;
 mod plan;
 mod refusal;
 
-pub use file_device::{DeviceRefusal, DiskFault, FileDevice, FileFault};
+pub use file_device::{DeviceRefusal, DiskFault, FileDevice, FileFault, Making};
 pub use gate_journal::FormatRefusal;
-pub use opening::{Formatting, format_ledger, open_for_script, open_ledger};
+pub use journal_recovery::MigrateRefusal;
+pub use opening::{
+    Formatting, MOST_SECTORS, copy_ledger, format_ledger, open_for_script, open_ledger,
+};
 pub use plan::{HeldFault, PartFault, check_formatting, sectors_planned};
-pub use refusal::LedgerRefusal;
+pub use refusal::{CopyRefusal, LedgerRefusal};

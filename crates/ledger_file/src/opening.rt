@@ -1,14 +1,20 @@
 //! Opening a file as a ledger, and making one.
-ghost use Rattle.std.specs.Prelude.{◌≡◌, ◌+◌, ◌*◌, ◌<◌, ◌≤◌, ◌^◌, ◌↔◌, max, false, IsOk, IsTrue, IfOk};
+ghost use Rattle.std.specs.Prelude.{◌≡◌, ◌≢◌, ◌+◌, ◌*◌, ◌<◌, ◌≤◌, ◌^◌, ◌↔◌, max, false, IsOk, IsTrue, IfOk, Err};
 ghost use Rattle.std.specs.Int.NonZero.{non_zero_u64_get};
+ghost use Rattle.journal_recovery.specs.Older.{OldRecoveryRefuses};
 
 use crate::plan::{check_formatting, sectors_planned};
-use crate::refusal::LedgerRefusal;
-use file_device::{DeviceFile, DeviceOn, DeviceRefusal, LockedFile, Making, Wanted};
+use crate::refusal::{CopyRefusal, LedgerRefusal};
+use file_device::{DeviceFile, DeviceOn, DeviceRefusal, LockedFile, MadeFile, Making, Wanted};
 use gate_journal::{FirstSector, FormatRefusal, MOST_SLOTS, format, sectors_needed};
+use journal_recovery::{MigrateRefusal, OpenRefusal, migrate};
+use sector_device::Device;
 use std::alloc::Global;
 use std::fs::Files;
 use std::num::NonZeroU64;
+
+/// The most sectors that a ledger needs.
+pub const MOST_SECTORS: u64 = 4_000_039;
 
 /// How a ledger is to be made.
 #[derive(Clone, Copy, Debug, PartialEq, Eq)]
@@ -21,8 +27,8 @@ pub struct Formatting {
     pub overwrite: bool,
 }
 
-/// Opens the ledger at a path, which is there, as a device of at least as many sectors as are asked for. A whole ledger in a
-/// file is grown to them by zero sectors. All else is refused, and keeps its bytes and its length.
+/// Opens the ledger at a path, which is there, as a device of at least as many sectors as are asked for. A whole ledger
+/// in a file is grown to them by zero sectors. All else is refused, and keeps its bytes and its length.
 ///
 /// # Errors
 /// [`LedgerRefusal`].
@@ -51,8 +57,9 @@ pub fn open_ledger<F: DeviceFile + Drop, R: Files<File = F>>(
     Ok(file.into_device(rt, wanted)?)
 }
 
-/// Opens what a script works on: a disk as `FileDevice::open` does, and so a file, which is made if it isn't there, but for
-/// a part of a ledger, or one of another version. That isn't grown, so that the script finds what is wrong with it.
+/// Opens what a script works on: a disk as `FileDevice::open` does, and so a file, which is made if that is asked for
+/// and it isn't there. But a part of a ledger, or one of another version, isn't grown, so that the script finds what is
+/// wrong with it.
 ///
 /// # Errors
 /// As `FileDevice::open_with_cause`.
@@ -61,13 +68,14 @@ pub fn open_for_script<F: DeviceFile + Drop, R: Files<File = F>>(
     alloc: Global,
     path: &str,
     asked: u64,
+    making: Making,
 ) -> Result<DeviceOn<F>, DeviceRefusal>
     ensures fits { IfOk result (λ device. device.inner.sectors * 512 < 2 ^ 63) }
     ensures failures { IfOk result (λ device.
         (device.inner.failures ≡ 0) × (device.refused ≡ 0)) }
     ensures works { IfOk result (λ device. device.stopped ≡ false) }
 {
-    let file = LockedFile::open(rt, alloc, path, Making::IfMissing)?;
+    let file = LockedFile::open(rt, alloc, path, making)?;
     let sectors = if file.is_disk() {
         asked
     } else {
@@ -89,10 +97,10 @@ fn sectors_for_script<F: DeviceFile + Drop>(file: &LockedFile<'_, F>, asked: u64
     }
 }
 
-/// Makes an empty ledger at a path, where a file is made if none is there. What is there has to hold nothing, unless it may
-/// be overwritten: each byte of a file is looked at, and of a disk the first 256 sectors. A file gets the sectors that the
-/// ledger needs; one that this call made is removed if there is no room for them. What is refused keeps its bytes and its
-/// length.
+/// Makes an empty ledger at a path, where a file is made if none is there. What is there has to hold nothing, unless it
+/// may be overwritten: each byte of a file is looked at, and of a disk the first 256 sectors. A file gets the sectors
+/// that the ledger needs; one that this call made is removed if there is no room for them. What is refused keeps its
+/// bytes and its length.
 ///
 /// # Errors
 /// [`LedgerRefusal`]. After `Format(Device)` nothing is known of the sectors.
@@ -107,6 +115,55 @@ pub fn format_ledger<F: DeviceFile + Drop, R: Files<File = F>>(
         39 + 4 * non_zero_u64_get formatting.slots ≤ device.inner.sectors) }
     ensures fits { IfOk result (λ device. device.inner.sectors * 512 < 2 ^ 63) }
 {
+    let (mut device, _) = device_to_format(rt, alloc, path, formatting)?;
+    format(&mut device, formatting.slots.get())?;
+    Ok(device)
+}
+
+/// Copies the ledger of an older device to a path, as [`format_ledger`] makes one there. If it is refused, a file that
+/// this call made is removed. The older device is read alone, and let go of.
+///
+/// # Errors
+/// [`CopyRefusal`]. After `Migrate(Target)` nothing is known of the sectors of a file or a disk that was there.
+pub fn copy_ledger<D: Device + Drop, F: DeviceFile + Drop, R: Files<File = F>>(
+    rt: &R,
+    alloc: Global,
+    old: D,
+    path: &str,
+    formatting: Formatting,
+) -> Result<DeviceOn<F>, CopyRefusal>
+    ensures enough { IfOk result (λ device. formatting.sectors ≤ device.inner.sectors) }
+    ensures needed { IfOk result (λ device.
+        39 + 4 * non_zero_u64_get formatting.slots ≤ device.inner.sectors) }
+    ensures fits { IfOk result (λ device. device.inner.sectors * 512 < 2 ^ 63) }
+    ensures source { (D.state old).honest → (refusal : OpenRefusal)
+        → result ≡ Err (CopyRefusal.Migrate (MigrateRefusal.Source refusal))
+        → refusal ≢ OpenRefusal.Memory → refusal ≢ OpenRefusal.Device
+        → OldRecoveryRefuses (D.state old).reads refusal }
+{
+    let (mut device, made) = device_to_format(rt, alloc, path, formatting)?;
+    let (_old, migrated) = migrate(alloc, old, &mut device, formatting.slots.get());
+    if let Err(refusal) = migrated {
+        if let Some(made) = made {
+            made.remove(rt);
+        }
+        return Err(CopyRefusal::Migrate(refusal));
+    }
+    Ok(device)
+}
+
+// The device on which a ledger is to be made, and its file, if this call made it.
+fn device_to_format<'a, F: DeviceFile + Drop, R: Files<File = F>>(
+    rt: &R,
+    alloc: Global,
+    path: &'a str,
+    formatting: Formatting,
+) -> Result<(DeviceOn<F>, Option<MadeFile<'a>>), LedgerRefusal>
+    ensures enough { IfOk result (λ both. formatting.sectors ≤ both.0.inner.sectors) }
+    ensures needed { IfOk result (λ both.
+        39 + 4 * non_zero_u64_get formatting.slots ≤ both.0.inner.sectors) }
+    ensures fits { IfOk result (λ both. both.0.inner.sectors * 512 < 2 ^ 63) }
+{
     let slots = formatting.slots.get();
     if slots > MOST_SLOTS {
         return Err(LedgerRefusal::Format(FormatRefusal::TooManySlots));
@@ -117,12 +174,12 @@ pub fn format_ledger<F: DeviceFile + Drop, R: Files<File = F>>(
         sectors: sectors_to_format(slots, file.sectors(), file.is_disk(), formatting.sectors)?,
         overwrite: formatting.overwrite,
     };
-    let mut device = file.into_device(rt, wanted)?;
-    format(&mut device, slots)?;
-    Ok(device)
+    let made = file.made()?;
+    Ok((file.into_device(rt, wanted)?, made))
 }
 
-// How many sectors a device is to have that gets so many slots. A disk isn't grown, so it has those that they need already.
+// How many sectors a device is to have that gets so many slots. A disk isn't grown, so it has those that they need
+// already.
 fn sectors_to_format(
     slots: u64,
     found: u64,

@@ -10,7 +10,7 @@ use thiserror::Error;
 #[derive(Clone, Copy, Debug, PartialEq, Eq, Error)]
 pub enum PartFault {
     /// It is of another version than 3.
-    #[error("it holds a ledger of version {0}; turn_console --migrate copies one of version 1 or 2 to a new file")]
+    #[error("it holds a ledger of version {0}; derbyfig migrate copies one of version 1 or 2 to a new file")]
     OtherVersion(u16),
     /// Its first sector isn't that of a ledger of 1 to 1,000,000 slots.
     #[error("its first sector is damaged, and doesn't tell how many sectors its ledger has")]
@@ -24,7 +24,7 @@ pub enum PartFault {
 #[derive(Clone, Copy, Debug, PartialEq, Eq, Error)]
 pub enum HeldFault {
     /// It holds a whole ledger, sound or not.
-    #[error("it holds a ledger already, so it isn't formatted")]
+    #[error("it holds a ledger already, which stays as it is")]
     Ledger,
     /// It begins as a ledger does, and isn't a whole one.
     #[error("{0}")]
@@ -35,8 +35,8 @@ pub enum HeldFault {
 }
 
 /// How many sectors a file is to have that is opened with at least as many as are asked for. It has `found` of them, of
-/// which the first is `first`, or zeros if there is none. One that begins as a ledger does, and has not all of that ledger's
-/// sectors, is left as it is: filled up with zeros it would be taken for a whole one, with fewer records.
+/// which the first is `first`, or zeros if there is none. One that begins as a ledger does, and has not all of that
+/// ledger's sectors, is left as it is: filled up with zeros it would be taken for a whole one, with fewer records.
 ///
 /// # Errors
 /// [`PartFault`], where it is so.

@@ -1,10 +1,12 @@
 ghost use Rattle.std.specs.Prelude.{◌≡◌, ◌↔◌, IsTrue};
 ghost use Rattle.ledger_file.specs.declared.refusal.LedgerRefusal.TheVariants.{Part, Held, Format};
+ghost use Rattle.ledger_file.specs.declared.refusal.CopyRefusal.TheVariants.{Target};
 ghost use Rattle.ledger_file.specs.Refusals.{IsToldAs};
 
 use crate::plan::{HeldFault, PartFault};
 use file_device::{DeviceRefusal, FileFault};
 use gate_journal::FormatRefusal;
+use journal_recovery::MigrateRefusal;
 use thiserror::Error;
 
 /// Why there is no ledger at a path that could be opened, or made.
@@ -14,10 +16,10 @@ pub enum LedgerRefusal {
     #[error("{0}")]
     Device(DeviceRefusal),
     /// There is nothing at the path.
-    #[error("there is no such file; --format SLOTS makes a ledger there")]
+    #[error("there is no such file; derbyfig format makes a ledger there")]
     Missing,
     /// It doesn't begin as a ledger does.
-    #[error("it holds no ledger; --format SLOTS makes one of a file without anything")]
+    #[error("it holds no ledger; derbyfig format makes one of a file without anything")]
     NoLedger,
     /// It begins as a ledger does, and isn't a whole one.
     #[error("{0}")]
@@ -31,6 +33,17 @@ pub enum LedgerRefusal {
     /// It wasn't formatted, or not to its end.
     #[error("{0}")]
     Format(FormatRefusal),
+}
+
+/// Why a ledger wasn't copied to a path.
+#[derive(Clone, Copy, Debug, PartialEq, Eq, Error)]
+pub enum CopyRefusal {
+    /// There can't be a ledger at the path.
+    #[error("{0}")]
+    Target(LedgerRefusal),
+    /// The older ledger couldn't be read, or the new one not written.
+    #[error("{0}")]
+    Migrate(MigrateRefusal),
 }
 
 impl LedgerRefusal {
@@ -79,5 +92,13 @@ impl From<FormatRefusal> for LedgerRefusal {
 
     fn from(refusal: FormatRefusal) -> LedgerRefusal {
         LedgerRefusal::Format(refusal)
+    }
+}
+
+impl From<LedgerRefusal> for CopyRefusal {
+    ghost from_gives = { λ inner refusal. refusal ≡ Target inner };
+
+    fn from(refusal: LedgerRefusal) -> CopyRefusal {
+        CopyRefusal::Target(refusal)
     }
 }

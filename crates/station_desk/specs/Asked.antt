@@ -8,8 +8,8 @@ use Rattle.station_desk.specs.declared.errand.Question.TheVariants as question
 use Rattle.station_desk.specs.declared.errand.Report.{Report}
 use Rattle.station_desk.specs.declared.errand.Report.TheVariants as report
 
--- An office that was opened on that device with that line was asked this by a seat, and what is reported is its answer, as
--- the seat notes it.
+-- An office that was opened on that device with that line was asked this by a seat, and what is reported is its answer,
+-- as the seat notes it.
 abbrev pub IsReportOn : {D : Type 0} → (D → DeviceState) → DeviceState → Configuration → SeatState → SeatState → Question → Report → Type 0
 IsReportOn state device from old new (question.Balance account) (report.Balance answer) = WasToldBalance state device from old new account answer
 IsReportOn state device from old new (question.Find reference first) (report.Found answer) = WasSearched state device from old new reference first answer

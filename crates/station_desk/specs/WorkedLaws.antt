@@ -51,7 +51,8 @@ worked-nothing seat desk moves failed not = record {
 }
 
 -- work in which nothing failed, and more of it
-pub worked-joined : (old mid new : SeatState) (before between after : DeskState) (moves : ℕ) (failed : Type 0) → HasWorked old mid before between moves ⊥ → HasWorked mid new between after moves failed → HasWorked old new before after moves failed
+pub worked-joined : (old mid new : SeatState) (before between after : DeskState) (moves : ℕ) (failed : Type 0) → HasWorked old mid before between moves ⊥
+    → HasWorked mid new between after moves failed → HasWorked old new before after moves failed
 worked-joined old mid new before between after moves failed far next =
     let none : far.given_up ≡ [] = far.undecided (λ never. never) in
     record {
@@ -71,7 +72,8 @@ worked-joined old mid new before between after moves failed far next =
     }
 
 -- that something else failed, or that it is said in other words
-pub worked-where : (old new : SeatState) (before after : DeskState) (moves : ℕ) (failed other : Type 0) → (failed → other) → (other → failed) → HasWorked old new before after moves failed → HasWorked old new before after moves other
+pub worked-where : (old new : SeatState) (before after : DeskState) (moves : ℕ) (failed other : Type 0) → (failed → other) → (other → failed)
+    → HasWorked old new before after moves failed → HasWorked old new before after moves other
 worked-where old new before after moves failed other there back worked = record {
   turns = worked.turns;
   given_up = worked.given_up;
@@ -88,7 +90,8 @@ worked-where old new before after moves failed other there back worked = record 
 }
 
 -- a question behind the work
-pub worked-noted : (old mid new : SeatState) (before after : DeskState) (moves : ℕ) (failed : Type 0) → NotesAlone mid new → HasWorked old mid before after moves failed → HasWorked old new before after moves failed
+pub worked-noted : (old mid new : SeatState) (before after : DeskState) (moves : ℕ) (failed : Type 0) → NotesAlone mid new → HasWorked old mid before after moves failed
+    → HasWorked old new before after moves failed
 worked-noted old mid new before after moves failed alone worked = record {
   turns = worked.turns;
   given_up = worked.given_up;

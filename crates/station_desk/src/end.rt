@@ -1,4 +1,5 @@
 //! How a station's run ends.
+use std::fmt;
 use turn_clerk::TurnRefusal;
 
 /// How the run of a station ended.
@@ -16,4 +17,17 @@ pub enum End {
     Closed,
     /// Its last turn was refused for this reason.
     Refused(TurnRefusal),
+}
+
+/// The name of an end, as the output of a script has it: its variant's, or that of the refusal.
+#[derive(Clone, Copy, Debug)]
+pub struct EndName(pub End);
+
+impl fmt::Display for EndName {
+    fn fmt<W: fmt::Write>(&self, f: &mut fmt::Formatter<W>) -> fmt::Result {
+        match self.0 {
+            End::Refused(refusal) => write!(f, "{refusal:?}"),
+            end => write!(f, "{end:?}"),
+        }
+    }
 }

@@ -5,8 +5,9 @@ use crate::errand::{Errand, Report};
 use std::sync::Wait;
 use turn_clerk::Turn;
 
-/// Who stands beside each station, in its thread: it says what the station does next, and is told how far the station is;
-/// no sector, as the gates of a journal are. Nothing is claimed of what it does; a station goes on when a call returns.
+/// Who stands beside each station, in its thread: it says what the station does next, and is told how far the station
+/// is; no sector, as the gates of a journal are. Nothing is claimed of what it does; a station goes on when a call
+/// returns.
 pub trait Gate {
     ghost use Rattle.station_desk.specs.declared.errand.Errand.TheVariants.{Close};
 

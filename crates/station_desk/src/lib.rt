@@ -1,10 +1,10 @@
 //! The two rings between a client and its station: requests go one way and answers come back, in order, and neither
 //! side waits for the other.
 //!
-//! A client has a [`Feed`]: it submits entries, each under a ticket, and collects the answers. A station has a [`Desk`]:
-//! it gathers requests, takes a turn with their entries, and answers each of them, once.
+//! A client has a [`Feed`]: it submits entries, each under a ticket, and collects the answers. A station has a
+//! [`Desk`]: it gathers requests, takes a turn with their entries, and answers each of them, once.
 //!
-//! The test `a_turn_answers_what_was_gathered` in `src/desks.rt` of the crate `office_tests` is an example.
+//! The test `a_turn_answers_what_was_gathered` in `src/desks.rt` of the crate `station_tests` is an example.
 #![tactic(auto)]
 
 mod desk_end;
@@ -21,7 +21,7 @@ mod shown;
 mod stations;
 
 pub use desk_end::Desk;
-pub use end::End;
+pub use end::{End, EndName};
 pub use errand::{Errand, Question, Report};
 pub use feed::Feed;
 pub use gate::Gate;

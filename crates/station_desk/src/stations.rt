@@ -172,12 +172,12 @@ fn run_station<D: Device, L: Count + OpenedOn, G: Gate, R: Wait>(
     gate.ended(seat.station());
 }
 
-/// Runs the stations of an office, one thread for each, until the history holds so many turns. A station repeats what the
-/// gate tells it: it gathers, asks for its turn within `moves`, and answers; or it is sent home. Where it isn't its turn it lets other threads go on and asks
-/// again, at most `tries` times in a row. Where the device fails it answers what it holds that it is undecided; after
-/// any other refusal what it holds stays held, for it was never written. A station that ends otherwise than as
-/// [`End::Reached`] or [`End::Closed`] makes the others end as [`End::Stopped`] at their next round. Where the system refuses a thread,
-/// stations run one after another. The call may wait.
+/// Runs the stations of an office, one thread for each, until the history holds so many turns. A station repeats what
+/// the gate tells it: it gathers, asks for its turn within `moves`, and answers; or it is sent home. Where it isn't its
+/// turn it lets other threads go on and asks again, at most `tries` times in a row. Where the device fails it answers
+/// what it holds that it is undecided; after any other refusal what it holds stays held, for it was never written. A
+/// station that ends otherwise than as [`End::Reached`] or [`End::Closed`] makes the others end as [`End::Stopped`] at
+/// their next round. Where the system refuses a thread, stations run one after another. The call may wait.
 pub fn run_stations<
     D: Device + Send,
     L: Count + OpenedOn + Send + Sync,

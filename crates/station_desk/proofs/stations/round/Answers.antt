@@ -24,7 +24,8 @@ returns-in-Ok-clause-worked g c =
       given_up = [];
       station = c.take_turn_within.ensures.told.station;
       listed = told.listed ∙ ap (λ (t : TheTurn). c.args.seat.now.turns ++ t ∷ []) (sym is);
-      within = All-cons (λ (t : TheTurn). t.index < c.args.moves) turn [] (subst (λ (t : TheTurn). t.index < c.args.moves) (sym is) c.in-Ok.ensures.within) (All-nil (λ (t : TheTurn). t.index < c.args.moves));
+      within = All-cons (λ (t : TheTurn). t.index < c.args.moves) turn [] (subst (λ (t : TheTurn). t.index < c.args.moves) (sym is) c.in-Ok.ensures.within)
+          (All-nil (λ (t : TheTurn). t.index < c.args.moves));
       served = served-settled old mid c.settle.new.self [] turn far (ap (λ (t : TheTurn). t.entries) is ∙ told.asked ∙ gathered.1) c.settle.ensures.answered;
       undecided = λ not. refl;
       nothing_held = λ failed. absurd (cc);
