@@ -1,13 +1,13 @@
 #!/usr/bin/env bash
 # Runs the program on disks: loop devices over files, with sectors of 512 and of 4,096 bytes.
 #
-# Scripts leave on a disk, byte for byte, and print what they do on a file of the same length. Each cause for which a disk
-# is refused has its sentence, and the disk keeps its bytes. Turns are ended by kill -9, and the disk opened again, and
-# they make the same system calls, in the same order, as on a file.
+# Scripts leave on a disk, byte for byte, and print what they do on a file of the same length. Each cause for which a
+# disk is refused has its sentence, and the disk keeps its bytes. Turns are ended by kill -9, and the disk opened again,
+# and they make the same system calls, in the same order, as on a file.
 #
 # Where the machine has no loop device for this user, the last line is `skipped: no loop device`. Word: the program that
-# was built. Needed beside the toolchain: Python, `strace`, and of `util-linux` `losetup`, `flock` and `setpriv`. The files
-# are made below the folder BENCH_FOLDER, /var/tmp without it.
+# was built. Needed beside the toolchain: Python, `strace`, and of `util-linux` `losetup`, `flock` and `setpriv`. The
+# files are made below the folder BENCH_FOLDER, /var/tmp without it.
 set -euo pipefail
 program=$(realpath "${1:?the word is the program that was built}")
 cd "$(dirname "$0")/.."
@@ -89,7 +89,8 @@ refused "is a disk that is in use" --overwrite
 exec 9<&-
 
 no_ledger="is a disk that holds no ledger; --overwrite takes it all the same"
-# Somebody else's first sector, and behind zeros the marks of an ext4, of LVM and of a swap, and the last byte that counts.
+# Somebody else's first sector, and behind zeros the marks of an ext4, of LVM and of a swap, and the last byte that
+# counts.
 for mark in 'MYDISK 0' '\123\357 1080' 'LABELONE 512' 'SWAPSPACE2 4086' 'x 131071'; do
     blank
     fill "${mark% *}" "${mark#* }"

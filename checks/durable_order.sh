@@ -9,8 +9,8 @@
 # fdatasync, writes of the head, the snapshot and the slots' gates, fdatasync, a write of the bank's gate, fdatasync.
 # Neighbouring calls of one turn are swapped, and each such trace is refused.
 #
-# Word: the program that was built. Needed beside the toolchain: Python and `strace`. The files are made below the folder
-# BENCH_FOLDER, /var/tmp without it.
+# Word: the program that was built. Needed beside the toolchain: Python and `strace`. The files are made below the
+# folder BENCH_FOLDER, /var/tmp without it.
 set -euo pipefail
 program=$(realpath "${1:?the word is the program that was built}")
 command -v strace > /dev/null || { echo "strace is missing (package strace)"; exit 1; }

@@ -1,6 +1,6 @@
 #!/usr/bin/env bash
-# Runs each example, and compares what it prints with the file NAME.out beside it, and of one the bytes of its first record:
-# one line for each, and status 1 at the first difference. Word: the program that was built.
+# Runs each example, and compares what it prints with the file NAME.out beside it, and of one the bytes of its first
+# record: one line for each, and status 1 at the first difference. Word: the program that was built.
 set -euo pipefail
 program=$(realpath "${1:?the word is the program that was built}")
 cd "$(dirname "$0")/.."

@@ -1,8 +1,8 @@
 #!/usr/bin/env bash
-# Refuses the requests for memory of the tests of `refused_memory` and of the program, one in each run, the first request,
-# then the second, until a run makes no more; and so the requests for a thread. A test passes, and tells of one call at
-# most; each call that may tell of want of memory does so in some run. The program ends with `out of memory` and a prefix
-# of its output, or tells of it in a line. Requests that nobody told of are listed.
+# Refuses the requests for memory of the tests of `refused_memory` and of the program, one in each run, the first
+# request, then the second, until a run makes no more; and so the requests for a thread. A test passes, and tells of one
+# call at most; each call that may tell of want of memory does so in some run. The program ends with `out of memory` and
+# a prefix of its output, or tells of it in a line. Requests that nobody told of are listed.
 #
 # Words: the program that was built, and the tests that were. Needed beside the toolchain: Python, and `cc` and `nm`
 # (package gcc). The file devices are made below the folder BENCH_FOLDER, /var/tmp without it.

@@ -1,8 +1,8 @@
 #!/usr/bin/env bash
-# Runs each script of checks/scripts on a device in memory, and compares all that the program prints with the file NAME.out
-# beside it: one line for each, and status 1 at the first difference. NAME.args has words for the program, one a line. With
-# NAME.err the program has to end with status 1 and tell this on its errors, and else with status 0 and nothing. Word: the
-# program that was built.
+# Runs each script of checks/scripts on a device in memory, and compares all that the program prints with the file
+# NAME.out beside it: one line for each, and status 1 at the first difference. NAME.args has words for the program, one
+# a line. With NAME.err the program has to end with status 1 and tell this on its errors, and else with status 0 and
+# nothing. Word: the program that was built.
 set -euo pipefail
 program=$(realpath "${1:?the word is the program that was built}")
 cd "$(dirname "$0")/scripts"

@@ -1,7 +1,8 @@
 #!/usr/bin/env bash
-# Run by hand, not by the gate. It runs each test alone, where 5 seconds are the most that it may take, and again beside four
-# busy loops on each processor, where it has to pass. A line for each crate with its slowest test, and status 1 where any test
-# fails or is too slow. Word: the tree whose tests were built by `rt ci` or `rt test`, this one without it.
+# Run by hand, not by the gate. It runs each test alone, where 5 seconds are the most that it may take, and again beside
+# four busy loops on each processor, where it has to pass. A line for each crate with its slowest test, and status 1
+# where any test fails or is too slow. Word: the tree whose tests were built by `rt ci` or `rt test`, this one without
+# it.
 set -euo pipefail
 tree=$(realpath "${1:-$(dirname "$0")/..}")
 work=$(mktemp -d)
@@ -13,7 +14,8 @@ most=5
 wrong=0
 TIMEFORMAT=%R
 
-# Runs each test of a crate, and tells how many there are and how long the slowest took. Words: its tests, and how they are run.
+# Runs each test of a crate, and tells how many there are and how long the slowest took. Words: its tests, and how they
+# are run.
 run_all() {
     local tests=$1 how=$2 name slowest="" longest=0 count=0
     while IFS= read -r name; do

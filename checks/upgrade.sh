@@ -1,7 +1,7 @@
 #!/usr/bin/env bash
-# Upgrades files of layouts 1 and 2, which are written here byte by byte, with the program, and runs scripts on what they
-# were copied to; and looks at each line by which it refuses to. One line for each, and status 1 at the first difference.
-# Word: the program that was built.
+# Upgrades files of layouts 1 and 2, which are written here byte by byte, with the program, and runs scripts on what
+# they were copied to; and looks at each line by which it refuses to. One line for each, and status 1 at the first
+# difference. Word: the program that was built.
 set -euo pipefail
 program=$(realpath "${1:?the word is the program that was built}")
 cd "$(dirname "$0")/.."
@@ -26,7 +26,8 @@ first_layout() {
     put "$1" 2 a5
 }
 
-# One of layout 2 with one slot in each bank. The second bank is live, with 5 in account 1, and holds a deposit of 5 more.
+# One of layout 2 with one slot in each bank. The second bank is live, with 5 in account 1, and holds a deposit of 5
+# more.
 second_layout() {
     truncate -s $((11 * 512)) "$1"
     put "$1" 0 544c4447 0002 0000 0000000000000001
@@ -40,8 +41,8 @@ second_layout() {
     put "$1" 10 a5
 }
 
-# A run of the program with the words behind the second one, which is its name: its status, its output, which is that of a
-# file, and what it tells on its errors.
+# A run of the program with the words behind the second one, which is its name: its status, its output, which is that of
+# a file, and what it tells on its errors.
 run() {
     local wanted=$1 name=$2 script=$3 printed=$4 told=$5 status=0
     shift 5

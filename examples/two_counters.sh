@@ -1,6 +1,6 @@
-# A day at two counters. Each is a folder with two pipes; `ledger_office` is the program on the path.
+# A day at two counters. Each is a folder with two pipes; `derbyfig` is the program on the path.
 mkdir north south && mkfifo north/in north/out south/in south/out
-ledger_office --device office.ledger --format 100 --counter north --counter south > office.log &
+derbyfig serve office.ledger --format 100 --counter north --counter south > office.log &
 ask() { echo "$2" > "$1/in" && read -r answer < "$1/out" && echo "$1: $2: $answer"; }
 ask north 'deposit 1 500 71'
 ask south 'transfer 1 2 200'

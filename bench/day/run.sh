@@ -2,8 +2,8 @@
 # A day in threads: entries per second that three stations take from three clients beside them, and turns per second of
 # 2, 4, 8 and 16 stations without clients, the proved library beside the same in plain Rust (rustc -O, standard library
 # alone), in runs that take turns; and the console's `day`, turns per second and the most memory. The timed program is
-# proved and built as a crate of its own in a temporary folder, the console in its own. Words: how many rounds, 7 without,
-# and how many runs of the console, 3 without.
+# proved and built as a crate of its own in a temporary folder, the console in its own. Words: how many rounds, 7
+# without, and how many runs of the console, 3 without.
 set -euo pipefail
 cd "$(dirname "$0")/../.."
 work=$(mktemp -d)

@@ -1,7 +1,7 @@
 #!/usr/bin/env bash
-# Durable batches on a loop device, with sectors of 512 and of 4,096 bytes, beside a file that lies where the loop device's
-# does, and beside the floor in C on each. It proves and builds the console in its own folder, and needs `losetup`. Words:
-# how many rounds, 7 without.
+# Durable batches on a loop device, with sectors of 512 and of 4,096 bytes, beside a file that lies where the loop
+# device's does, and beside the floor in C on each. It proves and builds the console in its own folder, and needs
+# `losetup`. Words: how many rounds, 7 without.
 set -euo pipefail
 cd "$(dirname "$0")/../.."
 export PATH=$PATH:/usr/sbin:/sbin

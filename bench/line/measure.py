@@ -12,8 +12,8 @@ AIM = 0.9
 
 STATIONS = 64
 
-# What is audited; whether the bits x alternate at the start, and whether the moves are scattered over the line; how many
-# moves the list has, and how often it is audited with the line in words, and in arrays.
+# What is audited; whether the bits x alternate at the start, and whether the moves are scattered over the line; how
+# many moves the list has, and how often it is audited with the line in words, and in arrays.
 WORK = (
     ("a sweep", (0, 0, 1_000_000), 50, 50),
     ("from 63 privileges, the lowest moves", (1, 0, 3_906), 5_000, 500),

@@ -1,9 +1,9 @@
 #!/usr/bin/env bash
 # Audited moves per second on a line of 64 stations, along a sweep and from many privileges: the proved audit beside the
 # same in plain Rust, with the line in two words, and beside both with the line in two arrays of truth values, as it was
-# kept before; in runs that take turns, which must end alike. The timed program is proved and built as a crate of its own
-# in a temporary folder, twice: the line in arrays is the last revision that had it. rustc is told of the processor for
-# which rt builds. Words: how many rounds, 15 without.
+# kept before; in runs that take turns, which must end alike. The timed program is proved and built as a crate of its
+# own in a temporary folder, twice: the line in arrays is the last revision that had it. rustc is told of the processor
+# for which rt builds. Words: how many rounds, 15 without.
 set -euo pipefail
 cd "$(dirname "$0")/../.."
 work=$(mktemp -d)

@@ -1,8 +1,8 @@
 #!/usr/bin/env bash
-# The upgrade of a file of layout 2 whose live bank of 100,000 slots is full: the proved program beside plain Rust with the
-# same calls of both files, and beside the opening of as long a file and the format of a new one. It proves and builds the
-# console in its own folder. What both new files hold has to be equal, and what the older one held. Words: how many
-# rounds, 7 without.
+# The upgrade of a file of layout 2 whose live bank of 100,000 slots is full: the proved program beside plain Rust with
+# the same calls of both files, and beside the opening of as long a file and the format of a new one. It proves and
+# builds the console in its own folder. What both new files hold has to be equal, and what the older one held. Words:
+# how many rounds, 7 without.
 set -euo pipefail
 cd "$(dirname "$0")/../.."
 work=$(mktemp -d "${BENCH_FOLDER:-/var/tmp}/migration.XXXXXX")

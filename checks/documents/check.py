@@ -1,4 +1,4 @@
-"""Checks README.md and the documents, from the top of the repository. Word: the program."""
+"""Checks README.md and the documents, from the top of the repository. Words: turn_console, and derbyfig."""
 import subprocess
 import sys
 import tempfile
@@ -58,11 +58,11 @@ def told(name, faults):
 
 
 def main():
-    program, failed = sys.argv[1], 0
+    (program, derbyfig), failed = sys.argv[1:], 0
     documents = [Path("README.md"), *sorted(Path("docs").glob("*.md")), Path("examples/README.md"), Path("bench/README.md"),
                  *sorted(Path("bench").glob("*/RESULTS.md")), *sorted(Path("checks").glob("*/RESULTS.md"))]
     with tempfile.TemporaryDirectory() as folder:
-        copy = Copy(folder, program)
+        copy = Copy(folder, program, derbyfig)
         for document in documents:
             text = document.read_text(encoding="utf-8")
             failed += told(document, [*text_faults(document, text), *command_faults(text, copy)])

@@ -8,9 +8,10 @@ SECONDS = 900
 
 
 class Copy:
-    """A copy of the repository, in which `rt run` is answered by a program that is there and needs no proof."""
+    """A copy of the repository, in which `rt run` is answered by a program that is there and needs no proof, and `derbyfig` by
+    that one."""
 
-    def __init__(self, folder, program):
+    def __init__(self, folder, program, derbyfig):
         self.folder = Path(folder)
         shutil.copytree(".", self.folder / "copy", ignore=shutil.ignore_patterns("out", ".git", "__pycache__"))
         stands_in = self.folder / "bin" / "rt"
@@ -24,6 +25,7 @@ class Copy:
             "fi\n"
             f'exec "{shutil.which("rt")}" "$@"\n')
         stands_in.chmod(0o755)
+        (self.folder / "bin" / "derbyfig").symlink_to(Path(derbyfig).resolve())
 
     def fault(self, commands):
         """Why the commands end badly, or None where they end well."""

@@ -4,6 +4,7 @@ import pathlib
 import random
 import sys
 
+import copies
 import holdings
 import makings
 import parts
@@ -19,9 +20,12 @@ CASES = (
     holdings.that_cant_be_opened,
     holdings.that_another_program_has,
     makings.a_mistyped_path,
+    makings.by_a_command_of_its_own,
     makings.as_many_sectors_as_needed,
     makings.without_room,
     makings.killed,
+    copies.of_earlier_versions,
+    copies.that_are_refused,
 )
 
 
@@ -31,7 +35,7 @@ def attempt(words, work):
     folder.mkdir()
     folder.chmod(0o755)
     try:
-        work(Programs(words.console, words.office, words.tool, folder), random.Random(words.seed))
+        work(Programs(words.console, words.derbyfig, folder), random.Random(words.seed))
     except (Mismatch, OSError, ValueError) as told:
         print(f"{work.__module__} {work.__name__}: {told if isinstance(told, Mismatch) else repr(told)}")
         return False
@@ -42,8 +46,7 @@ def attempt(words, work):
 def main():
     parser = argparse.ArgumentParser(description=__doc__)
     parser.add_argument("console", help="the turn_console that was built")
-    parser.add_argument("office", help="the ledger_office that was built")
-    parser.add_argument("tool", help="the ledger_tool that was built")
+    parser.add_argument("derbyfig", help="the derbyfig that was built")
     parser.add_argument("folder", type=pathlib.Path, help="a folder, in which full/ may be a file system without room")
     parser.add_argument("--seed", type=int, default=random.SystemRandom().randrange(1_000_000))
     words = parser.parse_args()

@@ -8,7 +8,8 @@ from parts import make
 from programs import Said, kept, require_same
 
 FOREIGN = "it holds an unfinished ledger, or another program's file; --overwrite takes it"
-NO_LEDGER = "it holds no ledger; --format SLOTS makes one of a file without anything"
+LEDGER = "it holds a ledger already, which stays as it is"
+NO_LEDGER = "it holds no ledger; derbyfig format makes one of a file without anything"
 
 
 def database(path, _moments):
@@ -51,7 +52,7 @@ def require_foreign(programs, path):
         programs.require_refused(path, FOREIGN, *words)
     said = programs.check(path)
     begin = f"{path}: it holds no ledger (sector 0, byte "
-    require_same((said.status, said.told, said.printed[:len(begin)]), (1, "", begin), "the tool")
+    require_same((said.status, said.told, said.printed[:len(begin)]), (1, "", begin), "the check")
     programs.require_formatted(path, 4, max(55, path.stat().st_size // 512), "--overwrite")
 
 
@@ -74,7 +75,7 @@ def as_nobody():
 
 
 def that_cant_be_opened(programs, _moments):
-    """A folder, a pipe, a length of no whole sectors, and files without permission: one sentence in the office and the tool."""
+    """A folder, a pipe, a length of no whole sectors, and files without permission: one sentence of serve and of check."""
     folder, pipe, odd = (programs.folder / name for name in ("folder", "pipe", "odd"))
     folder.mkdir()
     os.mkfifo(pipe)
@@ -82,19 +83,19 @@ def that_cant_be_opened(programs, _moments):
     appended = "its length is no multiple of 512 bytes; it is no ledger, or something was appended to it"
     for path, sentence in ((folder, "it is neither a file nor a disk"), (pipe, "it is neither a file nor a disk"), (odd, appended)):
         for words in ((), ("--format", "4"), ("--format", "4", "--overwrite")):
-            programs.require_refused(path, sentence, *words)
-        require_same(programs.check(path), Said(3, "", f"{path}: {sentence}"), "the tool")
+            programs.require_refused(path, sentence, *words, status=3)
+        require_same(programs.check(path), Said(3, "", f"{path}: {sentence}"), "the check")
     if os.getuid() != 0:
         print("not tried: files without permission, since this user may not run a program as another one")
         return
     path = make(programs, "ledger", 4, 30)
     path.chmod(0o400)
-    programs.require_refused(path, "it may not be read and written; its owner can allow that", preexec_fn=as_nobody)
+    programs.require_refused(path, "it may not be read and written; its owner can allow that", status=3, preexec_fn=as_nobody)
     said = programs.check(path, preexec_fn=as_nobody)
-    require_same(said, Said(3, "", f"{path}: it may not be read; its owner can allow that"), "the tool of another user")
+    require_same(said, Said(3, "", f"{path}: it may not be read; its owner can allow that"), "the check of another user")
     new = programs.folder / "new"
     sentence = "it may not be read and written; its owner can allow that"
-    programs.require_refused(new, sentence, "--format", "4", preexec_fn=as_nobody)
+    programs.require_refused(new, sentence, "--format", "4", status=3, preexec_fn=as_nobody)
 
 
 def that_another_program_has(programs, _moments):
@@ -105,6 +106,6 @@ def that_another_program_has(programs, _moments):
         before = kept(path)
         sentence = "another program has it; end that one first"
         for words in ((), ("--sectors", "295"), ("--format", "4"), ("--format", "4", "--overwrite")):
-            programs.require_refused(path, sentence, *words)
-        require_same(programs.check(path), Said(3, "", f"{path}: {sentence}"), "the tool")
+            programs.require_refused(path, sentence, *words, status=3)
+        require_same(programs.check(path), Said(3, "", f"{path}: {sentence}"), "the check")
         require_same(kept(path), before, "the file that another program has")

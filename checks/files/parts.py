@@ -39,7 +39,7 @@ def every_prefix(programs, _moments):
         for words in ((), ("--sectors", "295")):
             said = programs.script(part, OPEN, *words)
             require_same(said, Said(0, "refused Size\n", ""), f"the console on {found} sectors with {words}")
-        require_same(programs.check(part).status, 1, f"the tool on {found} sectors")
+        require_same(programs.check(part).status, 1, f"the check of {found} sectors")
         require_same(kept(part), whole[:512 * found], f"{found} sectors of a ledger")
 
 
@@ -63,7 +63,7 @@ def a_whole_ledger_grows(programs, _moments):
         begin = (said.status, said.told, said.printed.splitlines()[0])
         require_same(begin, (0, "", "opened 2 next 2 total 3000"), f"the office with {words}")
         require_same(path.read_bytes(), before.ljust(512 * sectors, b"\0"), f"the ledger behind the office with {words}")
-    programs.require_refused(path, "it holds a ledger already, so it isn't formatted", "--format", "4")
+    programs.require_refused(path, "it holds a ledger already, which stays as it is", "--format", "4")
 
 
 def earlier_versions(programs, _moments):
@@ -72,7 +72,7 @@ def earlier_versions(programs, _moments):
         path = programs.folder / f"layout_{version}"
         path.write_bytes(b"TLDG\0" + bytes([version]) + bytes(9) + b"\4" + bytes(512 * sectors - 16))
         before = path.read_bytes()
-        sentence = f"it holds a ledger of version {version}; turn_console --migrate copies one of version 1 or 2 to a new file"
+        sentence = f"it holds a ledger of version {version}; derbyfig migrate copies one of version 1 or 2 to a new file"
         for words in ((), ("--sectors", "295"), ("--format", "4")):
             programs.require_refused(path, sentence, *words)
         said = programs.script(path, OPEN, "--sectors", "295")

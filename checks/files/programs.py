@@ -36,8 +36,7 @@ def kept(path):
 @dataclasses.dataclass(frozen=True)
 class Programs:
     console: str
-    office: str
-    tool: str
+    derbyfig: str
     folder: pathlib.Path
 
     def run(self, *words, said="", **more):
@@ -48,18 +47,22 @@ class Programs:
         """A script of the console."""
         return self.run(self.console, "--device", str(path), *words, said=script)
 
+    def run_script(self, path, script, *words):
+        """The same by derbyfig."""
+        return self.run(self.derbyfig, "run", str(path), *words, said=script)
+
     def open_office(self, path, *words, said="close\n", **more):
         """An office with a terminal that closes it."""
-        return self.run(self.office, "--device", str(path), "--terminal", *words, said=said, **more)
+        return self.run(self.derbyfig, "serve", str(path), "--terminal", *words, said=said, **more)
 
     def check(self, path, **more):
-        return self.run(self.tool, "check", str(path), **more)
+        return self.run(self.derbyfig, "check", str(path), **more)
 
-    def require_refused(self, path, sentence, *words, **more):
+    def require_refused(self, path, sentence, *words, status=1, **more):
         """That the office is refused with this sentence, and the path keeps what it has."""
         before = kept(path)
         said = self.open_office(path, *words, **more)
-        require_same(said, Said(1, "", f"{path}: {sentence}"), f"the office with {words}")
+        require_same(said, Said(status, "", f"{path}: {sentence}"), f"the office with {words}")
         require_same(kept(path) == before, True, f"{path} as it was before the office with {words}")
 
     def require_formatted(self, path, slots, length, *words):

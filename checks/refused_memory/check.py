@@ -17,7 +17,8 @@ CALLS = {
     "Office::turn_within", "Office::turn_within, by its device", "Office::turn_within, under the lock", "desk", "format",
     "migrate", "migrate, by a device", "options", "reconcile", "recover", "run_day", "run_script", "run_script, in a line", "run_stations",
 }
-# Openings make one call of the device that takes memory, their sync, and it has none left only where its record is full.
+# Openings make one call of the device that takes memory, their sync, and it has none left only where its record is
+# full.
 BY_THE_DEVICE = {f"{call}, by its device" for call in ("Clerk::open", "Office::open", "recover", "run_day", "run_stations")}
 THREADS = "days::a_day_is_had_without_a_thread"
 

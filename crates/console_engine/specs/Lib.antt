@@ -1,4 +1,3 @@
-pub mod CommandLine
 pub mod Faults
 pub mod Clerk
 pub mod Lines
@@ -8,5 +7,3 @@ pub use Rattle.sector_device.specs.Crash
 pub use Rattle.sector_device.specs.Device
 pub use Rattle.sector_device.specs.MemoryDevice
 pub use Rattle.sector_device.specs.Picks
-pub mod Settings
-pub mod Migration

@@ -1,15 +1,11 @@
 //! Why a script ends early.
 ghost use Rattle.std.specs.Prelude.{◌≡◌};
-ghost use Rattle.console_engine.specs.Faults.{of_device};
+ghost use Rattle.console_engine.specs.Faults.{status_of_script};
 
-use crate::disks::RefusedDisk;
-use crate::names::write_open;
-use file_device::{DeviceRefusal, FileRefusal};
-use journal_recovery::{MigrateRefusal, OpenRefusal};
+use program_ends::Status;
 use script_grammar::LineFault;
 use script_streams::StreamFault;
 use std::alloc::AllocError;
-use std::fmt;
 use thiserror::Error;
 
 /// Why a script ended before its last line. What earlier lines printed stands.
@@ -32,61 +28,14 @@ pub enum ScriptFault {
     Line { line: u64, cause: LineFault },
 }
 
-/// Why the program ended before its script did.
-#[derive(Clone, Copy, Debug, PartialEq, Eq, Error)]
-pub enum ProgramFault<'a> {
-    /// The file that is the device couldn't be opened, made or grown.
-    #[error("device failed")]
-    Device,
-    /// The disk that was to be the device was refused.
-    #[error("device failed: {0}")]
-    Disk(RefusedDisk<'a>),
-    /// The device wasn't made of an older one.
-    #[error("{0}")]
-    Migration(MigrationFault),
-    /// The script ended early.
-    #[error("{0}")]
-    Script(ScriptFault),
-}
-
-/// Why a device wasn't made of an older one.
-#[derive(Clone, Copy, Debug, PartialEq, Eq)]
-pub enum MigrationFault {
-    /// The device may hold postings, which would be lost.
-    NotEmpty,
-    /// The older device couldn't be read, or the device not written.
-    Refused(MigrateRefusal),
-}
-
-/// The name of the refusal, with that of the older device's behind it and its numbers.
-impl fmt::Display for MigrationFault {
-    fn fmt<W: fmt::Write>(&self, f: &mut fmt::Formatter<W>) -> fmt::Result {
-        write!(f, "migrate refused ")?;
-        match self {
-            MigrationFault::NotEmpty => write!(f, "{self:?}"),
-            MigrationFault::Refused(MigrateRefusal::Source(refusal)) => {
-                write!(f, "Source ")?;
-                write_open(*refusal, f)
-            }
-            MigrationFault::Refused(refusal) => write!(f, "{refusal:?}"),
-        }
-    }
-}
-
-impl<'a> ProgramFault<'a> {
-    /// Out of memory.
-    pub const MEMORY: ProgramFault<'static> = ProgramFault::Script(ScriptFault::Memory);
-
-    // Of a device at this path.
-    pub(crate) fn of_device(path: &'a str, refusal: DeviceRefusal) -> ProgramFault<'a>
-        ensures { result ≡ of_device path.entry refusal }
+impl ScriptFault {
+    /// The status that the program ends with.
+    pub fn status(self) -> Status
+        ensures { result ≡ status_of_script self }
     {
-        match refusal {
-            DeviceRefusal::Disk(fault) => ProgramFault::Disk(RefusedDisk { path, fault }),
-            DeviceRefusal::File(_) => match FileRefusal::from(refusal) {
-                FileRefusal::Memory => ProgramFault::MEMORY,
-                FileRefusal::File => ProgramFault::Device,
-            },
+        match self {
+            ScriptFault::Line { .. } | ScriptFault::TooLong => Status::Refused,
+            ScriptFault::Read | ScriptFault::Write | ScriptFault::Memory => Status::Failed,
         }
     }
 }
@@ -114,31 +63,6 @@ impl From<StreamFault> for ScriptFault {
             StreamFault::Write => ScriptFault::Write,
             StreamFault::Memory => ScriptFault::Memory,
             StreamFault::TooLong => ScriptFault::TooLong,
-        }
-    }
-}
-
-impl From<ScriptFault> for ProgramFault<'_> {
-    ghost use Rattle.std.specs.Prelude.{◌≡◌};
-    ghost use Rattle.console_engine.specs.declared.faults.ProgramFault.TheVariants.{Script};
-
-    ghost from_gives = { λ inner fault. fault ≡ Script inner };
-
-    fn from(fault: ScriptFault) -> Self {
-        ProgramFault::Script(fault)
-    }
-}
-
-impl From<MigrateRefusal> for ProgramFault<'_> {
-    ghost use Rattle.std.specs.Prelude.{◌≡◌};
-    ghost use Rattle.console_engine.specs.Migration.{of_migration};
-
-    ghost from_gives = { λ refusal fault. fault ≡ of_migration refusal };
-
-    fn from(refusal: MigrateRefusal) -> Self {
-        match refusal {
-            MigrateRefusal::Source(OpenRefusal::Memory) => ProgramFault::MEMORY,
-            refusal => ProgramFault::Migration(MigrationFault::Refused(refusal)),
         }
     }
 }

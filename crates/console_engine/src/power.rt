@@ -9,7 +9,8 @@ use std::alloc::Global;
 
 /// A device whose power the script's line `crash` can cut.
 pub trait PowerLoss: Device + Send {
-    /// The device after a power loss: it reads as one of the images that the loss may leave, and counts no failure for it.
+    /// The device after a power loss: it reads as one of the images that the loss may leave, and counts no failure for
+    /// it.
     fn lose_power(self, alloc: Global) -> Self
         ensures call { AreCalls (Self.state self) (Self.state result) ⊥ }
         ensures left { (Self.state self).honest

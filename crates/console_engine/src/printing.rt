@@ -1,9 +1,8 @@
 //! What commands print.
-use crate::names::EndName;
 use crate::refusals::Refusal;
 use crate::script_day::DayReport;
 use four_state::Line;
-use office_day::{Answer, Outcome};
+use office_day::{Answer, EndName, Outcome};
 use script_streams::{Output, StreamFault};
 use std::io::Write;
 use turn_clerk::Turn;

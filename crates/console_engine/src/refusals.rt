@@ -1,8 +1,7 @@
 //! Why a line of a script was refused, and how that is printed.
-use crate::names::write_open;
 use four_state::LineRefusal;
 use gate_journal::FormatRefusal;
-use journal_recovery::OpenRefusal;
+use journal_recovery::{OpenName, OpenRefusal};
 use office_day::CloseRefusal;
 use std::fmt;
 use turn_clerk::TurnRefusal;
@@ -39,7 +38,7 @@ impl fmt::Display for Refusal {
             }
             Refusal::Format(refusal) => write!(f, "{refusal:?}"),
             Refusal::Line(refusal) => write!(f, "{refusal:?}"),
-            Refusal::Open(refusal) => write_open(*refusal, f),
+            Refusal::Open(refusal) => OpenName(*refusal).fmt(f),
             Refusal::Turn(refusal) => write!(f, "{refusal:?}"),
             Refusal::Close(refusal) => write!(f, "{refusal:?}"),
         }

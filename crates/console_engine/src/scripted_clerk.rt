@@ -12,8 +12,8 @@ use std::marker::Model;
 use turn_clerk::{Clerk, Turn, TurnRefusal};
 use turn_ledger::{Entry, Ledger};
 
-/// A clerk on a device, and for each station of its line the entries that are held for its turn. The clerk stands on the
-/// heap, since a console is handed on from command to command.
+/// A clerk on a device, and for each station of its line the entries that are held for its turn. The clerk stands on
+/// the heap, since a console is handed on from command to command.
 #[derive(Drop)]
 pub struct ScriptedClerk<D: Device> {
     pub(crate) clerk: Box<Clerk<D>>,
@@ -70,8 +70,8 @@ impl<D: Device> ScriptedClerk<D> {
         }
     }
 
-    /// Takes the turn of a station with what it holds, which is empty then; the turn is the last of the history. A refused
-    /// turn leaves what is held.
+    /// Takes the turn of a station with what it holds, which is empty then; the turn is the last of the history. A
+    /// refused turn leaves what is held.
     pub fn turn(&mut self, station: u64) -> Result<(), TurnRefusal> {
         let station = station_number(station);
         let Some(held) = self.held.get_mut(station as usize) else {

@@ -1,9 +1,9 @@
 //! Prints the journal and the balances of a sound ledger: as a table, CSV, JSON Lines or for `hledger`.
 //!
-//! [`print_journal`] prints the records one after another, and [`print_balances`] what the accounts hold, each in one of
-//! the [`Format`]s. The memory that they take doesn't grow with the number of records.
+//! [`print_journal`] prints the records one after another, and [`print_balances`] what the accounts hold, each in one
+//! of the [`Format`]s. The memory that they take doesn't grow with the number of records.
 //!
-//! The test `a_journal_is_printed_in_each_format` in `src/formats.rt` of the crate `tool_tests` is an example.
+//! The test `a_journal_is_printed_in_each_format` in `src/formats.rt` of the crate `front_tests` is an example.
 #![tactic(auto)]
 
 mod balances;

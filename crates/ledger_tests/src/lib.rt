@@ -1,13 +1,5 @@
-//! Tests of a ledger, of the grammar and the streams of a script, and of what a counter says.
+//! Tests of a ledger.
 #![tactic(auto)]
 
 #[cfg(test)]
-mod cutting;
-#[cfg(test)]
-mod grammar;
-#[cfg(test)]
 mod ledgers;
-#[cfg(test)]
-mod requests;
-#[cfg(test)]
-mod streams;

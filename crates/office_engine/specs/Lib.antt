@@ -1,2 +1,3 @@
 pub mod Ends
-pub mod Settings
+pub mod Serving
+pub mod Faults

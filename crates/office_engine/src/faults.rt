@@ -1,4 +1,7 @@
-//! Why the program ends early.
+//! Why an office isn't kept open, or ends early.
+ghost use Rattle.std.specs.Prelude.{◌≡◌};
+ghost use Rattle.office_engine.specs.Faults.{status_of};
+
 use crate::pipes::{PipeRefusal, Side};
 use four_state::LineRefusal;
 use journal_recovery::OpenRefusal;
@@ -6,6 +9,7 @@ use ledger_file::LedgerRefusal;
 use line_lock::OfficeRefusal;
 use live_office::LiveRefusal;
 use office_day::TurnRefusal;
+use program_ends::Status;
 use script_streams::StreamFault;
 use std::alloc::AllocError;
 use std::fmt;
@@ -32,7 +36,7 @@ impl fmt::Display for PipeFault<'_> {
     }
 }
 
-/// Why the program ended before its office was closed, or without one.
+/// Why an office was closed by a fault, or never opened.
 #[derive(Clone, Copy, Debug, PartialEq, Eq, Error)]
 pub enum OfficeFault<'a> {
     /// There is no memory.
@@ -86,6 +90,26 @@ impl From<LiveRefusal> for OfficeFault<'_> {
 }
 
 impl<'a> OfficeFault<'a> {
+    /// The status that the program ends with.
+    pub fn status(self) -> Status
+        ensures { result ≡ status_of self.entry }
+    {
+        match self {
+            OfficeFault::File { refusal, .. } => Status::from(refusal),
+            OfficeFault::NoLedger { refusal, .. } => Status::from(refusal),
+            OfficeFault::Office(LiveRefusal::Office(OfficeRefusal::Opening(refusal))) => {
+                Status::from(refusal)
+            }
+            OfficeFault::Refused(refusal) => Status::from(refusal),
+            OfficeFault::Memory
+            | OfficeFault::Write
+            | OfficeFault::Pipe(_)
+            | OfficeFault::Line(_)
+            | OfficeFault::Office(_)
+            | OfficeFault::Threads => Status::Failed,
+        }
+    }
+
     // Out of memory is told as such.
     pub(crate) fn of_file(path: &'a str, refusal: LedgerRefusal) -> OfficeFault<'a> {
         if refusal.is_memory() {

@@ -2,10 +2,11 @@
 ghost use Rattle.std.specs.Prelude.{◌<ℤ◌, pos, IfOk};
 ghost use Rattle.std.specs.Fd.{file_raw_fd};
 
+use file_device::FileNumber;
 use std::alloc::{AllocError, Global};
 use std::fs::{File, Files, OpenFile, OpenOptions};
 use std::os::fd::{AsRawFd, RawFd};
-use std::os::unix::fs::{FileTypeExt, MetadataExt};
+use std::os::unix::fs::FileTypeExt;
 
 /// The number of standard error. Those of standard input and output are lower.
 const LAST_STREAM: RawFd = 2;
@@ -42,14 +43,8 @@ pub enum PipeRefusal {
     Taken,
 }
 
-/// Which pipe it is, whatever its path.
-#[derive(Clone, Copy, Debug, PartialEq, Eq)]
-pub struct PipeNumber {
-    device: u64,
-    inode: u64,
-}
-
-/// Opens a pipe in a counter's folder, for reading and writing: so it never ends, whoever hangs up. It is none of those that were opened before, and becomes one.
+/// Opens a pipe in a counter's folder, for reading and writing: so it never ends, whoever hangs up. It is none of those
+/// that were opened before, and becomes one.
 ///
 /// # Errors
 /// [`PipeRefusal`].
@@ -58,7 +53,7 @@ pub fn open_pipe<R: Files<File = File>>(
     alloc: Global,
     folder: &str,
     side: Side,
-    opened: &mut Vec<PipeNumber>,
+    opened: &mut Vec<FileNumber>,
 ) -> Result<File, PipeRefusal>
     ensures clear { IfOk result (λ file. pos 2 <ℤ file_raw_fd file) }
 {
@@ -77,15 +72,12 @@ pub fn open_pipe<R: Files<File = File>>(
 }
 
 // Notes which pipe a file is.
-fn note_pipe(file: &File, opened: &mut Vec<PipeNumber>) -> Result<(), PipeRefusal> {
+fn note_pipe(file: &File, opened: &mut Vec<FileNumber>) -> Result<(), PipeRefusal> {
     let found = match file.metadata() {
         Ok(found) if found.file_type().is_fifo() => found,
         _ => return Err(PipeRefusal::NoPipe),
     };
-    let number = PipeNumber {
-        device: found.dev(),
-        inode: found.ino(),
-    };
+    let number = FileNumber::of(&found);
     if opened.iter().any(|other| *other == number) {
         return Err(PipeRefusal::Taken);
     }
@@ -95,8 +87,8 @@ fn note_pipe(file: &File, opened: &mut Vec<PipeNumber>) -> Result<(), PipeRefusa
     }
 }
 
-// Moves the file off the numbers of the standard streams: where one of these is closed, what is printed to it would land in
-// the pipe.
+// Moves the file off the numbers of the standard streams: where one of these is closed, what is printed to it would
+// land in the pipe.
 fn clear_of_streams(file: File) -> Result<File, PipeRefusal>
     ensures clear { IfOk result (λ moved. pos 2 <ℤ file_raw_fd moved) }
 {

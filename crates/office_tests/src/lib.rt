@@ -1,9 +1,7 @@
-//! Tests of the clerk, of the office behind its lock, and of the two sides of a desk.
+//! Tests of the clerk, and of the office behind its lock.
 #![tactic(auto)]
 
 #[cfg(test)]
 mod clerks;
-#[cfg(test)]
-mod desks;
 #[cfg(test)]
 mod offices;

@@ -89,14 +89,14 @@ fn ask(rt: &impl Abort, clerk: &mut Clerk<Noted>, station: u8, entries: &[Entry]
     asked
 }
 
-// The calls of an opening on banks of 4 slots without a record: a sync, and reads of the superblock, two banks' gates, the
-// head, the slots' gates, and the seventeen sectors of the snapshot. A turn with an entry makes four calls.
+// The calls of an opening on banks of 4 slots without a record: a sync, and reads of the superblock, two banks' gates,
+// the head, the slots' gates, and the seventeen sectors of the snapshot. A turn with an entry makes four calls.
 const CALLS_OF_AN_OPENING: usize = 1 + 1 + 2 + 1 + 4 + 17;
 
 const CALLS_OF_A_TURN: usize = 4;
 
-// Turns of stations 0, 1 and 0, 1 again with a deposit each. A turn whose device has no memory is decided by opening the
-// device again.
+// Turns of stations 0, 1 and 0, 1 again with a deposit each. A turn whose device has no memory is decided by opening
+// the device again.
 #[test]
 fn turns_are_taken(rt: HostRuntime) -> Result<(), Fail> {
     let alloc = rt.alloc();
@@ -136,8 +136,8 @@ fn decided(alloc: Global, clerk: Clerk<Noted>, before: u64) -> Result<(), Fail> 
     Ok(())
 }
 
-// One event a run, so that its reply tells what became of it: a list of the replies, and each is tried again where there
-// was no memory.
+// One event a run, so that its reply tells what became of it: a list of the replies, and each is tried again where
+// there was no memory.
 fn run_one(
     rt: &(impl Abort + Print),
     clerk: &mut Clerk<Noted>,

@@ -46,8 +46,8 @@ fn found(rt: &impl Abort, alloc: Global, device: MemoryDevice) -> Clerk<MemoryDe
     }
 }
 
-// A day of four turns of two stations, and where there was no memory for it, another one behind what it journaled: how much
-// that was, and the day.
+// A day of four turns of two stations, and where there was no memory for it, another one behind what it journaled: how
+// much that was, and the day.
 fn had<R: Abort + Print + Wait + Threads + Sync>(
     rt: &R,
     alloc: Global,

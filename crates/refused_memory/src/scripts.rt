@@ -1,7 +1,8 @@
 //! The words of the program, and scripts.
 use crate::beginnings::{told, zeros};
 use clap::error::ErrorKind;
-use console_engine::{ScriptFault, options, run_script};
+use console_engine::{ScriptFault, run_script};
+use program_front::options;
 use std::alloc::Global;
 use std::process::Abort;
 use std::sync::Wait;

@@ -8,8 +8,8 @@ use std::process::Abort;
 use std::test::Fail;
 use test_scenes::sectors_needed;
 
-// A device of layout 1 with four slots, of which the first holds a deposit of 500 to account 1. It notes its calls from then
-// on.
+// A device of layout 1 with four slots, of which the first holds a deposit of 500 to account 1. It notes its calls from
+// then on.
 fn old(rt: &impl Abort, alloc: Global) -> Result<Noting<MemoryDevice>, Fail> {
     let (mut superblock, mut body, mut gate) = ([0; SECTOR], [0; SECTOR], [0; SECTOR]);
     superblock[..6].copy_from_slice(&[0x54, 0x4c, 0x44, 0x47, 0, 1]);

@@ -7,7 +7,7 @@
 //! byte: a [`LineCutter`] cuts it into lines, and [`read_request`] reads one as a [`Request`].
 //!
 //! The tests `each_command_is_read` in `src/grammar.rt` and `each_request_is_read` in `src/requests.rt` of the crate
-//! `ledger_tests` are examples.
+//! `script_tests` are examples.
 #![tactic(auto)]
 
 mod commands;

@@ -25,7 +25,8 @@ pub record Kept {X : Type 0} (n m : ℕ) (feeds : List FeedState) (stations : Li
   pub paired : ArePaired feeds stations
 
 -- the stations were lent, and have run
-pub kept-stations : {X : Type 0} {device : DeviceState} {from : Configuration} {n m moves : ℕ} {closes : Type 0} {feeds : List FeedState} {stations slice new : List (Station X)} → Kept n m feeds stations
+pub kept-stations : {X : Type 0} {device : DeviceState} {from : Configuration} {n m moves : ℕ} {closes : Type 0} {feeds : List FeedState} {stations slice new : List (Station X)}
+    → Kept n m feeds stations
     → slice ≡ stations → HaveRun device from slice new moves closes → Kept n m feeds (lent m stations new)
 kept-stations {device = device} {from = from} {n = n} {m = m} {moves = moves} {closes = closes} {feeds = feeds} {stations = stations} {new = new} kept is ran =
     let ran : HaveRun device from stations new moves closes = subst (λ stations. HaveRun device from stations new moves closes) is ran in

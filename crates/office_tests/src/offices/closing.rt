@@ -1,5 +1,6 @@
-//! Closing: what is missing, what is foreign, and what is handed back. Who closes an office twice, or not at all, opens it
-//! by hand. Each office has a book of its own, so such a test is a scene that is played in whichever office it is given.
+//! Closing: what is missing, what is foreign, and what is handed back. Who closes an office twice, or not at all, opens
+//! it by hand. Each office has a book of its own, so such a test is a scene that is played in whichever office it is
+//! given.
 ghost use Rattle.sector_device.specs.MemoryDevice.{memory_device_state};
 ghost use Rattle.line_lock.specs.OpenedOn.{Names};
 

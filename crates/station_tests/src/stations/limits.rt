@@ -9,8 +9,8 @@ use std::test::Fail;
 use std::thread::Threads;
 use test_scenes::{formatted, line};
 
-// A day on which nobody asks for anything: it has as many turns as are wanted, and each station ends for that. How many of
-// the turns are the bottom station's.
+// A day on which nobody asks for anything: it has as many turns as are wanted, and each station ends for that. How many
+// of the turns are the bottom station's.
 fn empty_day<R: Abort + Wait + Threads + Sync>(
     rt: &R,
     alloc: Global,

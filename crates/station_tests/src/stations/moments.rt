@@ -112,8 +112,8 @@ fn answers_are_there_when_a_gate_hears_of_them_and_what_comes_after_gathering_wa
 // How often station 1 of three has gathered when station 0 takes its first turn, its second one, and asks for a third.
 const GATHERED: [u64; 3] = [3, 7, 10];
 
-// Counts how often station 1 has gathered and station 0 has answered, and has the one wait for the other: station 0 takes
-// a turn only after two refusals of station 1.
+// Counts how often station 1 has gathered and station 0 has answered, and has the one wait for the other: station 0
+// takes a turn only after two refusals of station 1.
 #[derive(Drop)]
 struct AfterRefusals {
     gathered: AtomicU64,
@@ -143,8 +143,8 @@ impl Gate for AfterRefusals {
     }
 }
 
-// Station 1 is refused twice, moves up and down again, is refused twice, moves up, and is refused three times. Station 0
-// isn't privileged then.
+// Station 1 is refused twice, moves up and down again, is refused twice, moves up, and is refused three times. Station
+// 0 isn't privileged then.
 #[test]
 fn tries_begin_anew_with_a_turn(rt: HostRuntime) -> Result<(), Fail> {
     let alloc = rt.alloc();

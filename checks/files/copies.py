@@ -1,0 +1,88 @@
+"""Copies of older ledgers, and what is left where one is refused."""
+from holdings import FOREIGN, LEDGER
+from parts import make
+from programs import Said, kept, require_same
+
+
+def word(number, length):
+    return number.to_bytes(length, "big")
+
+
+def deposit(amount, reference):
+    """An entry that deposits in account 1."""
+    return word(1, 1) + bytes(7) + word(1, 4) + bytes(4) + word(amount, 8) + word(reference, 8)
+
+
+def record(station, sequence, entry):
+    return (b"TLB1" + word(station, 2) + word(1, 2) + word(sequence, 8) + bytes(16) + entry).ljust(512, b"\0")
+
+
+OPEN = b"\xa5".ljust(512, b"\0")
+
+
+def first_layout(slots=4):
+    """A ledger of layout 1, with a deposit of 500."""
+    superblock = (b"TLDG" + word(1, 2) + bytes(2) + word(slots, 8)).ljust(512, b"\0")
+    return (superblock + record(0, 0, deposit(500, 3)) + OPEN).ljust(512 * (1 + 2 * slots), b"\0")
+
+
+def second_layout():
+    """One of layout 2 with one slot in each bank, of which the second is live: 5 in account 1, and a deposit of 5."""
+    superblock = (b"TLDG" + word(2, 2) + bytes(2) + word(1, 8)).ljust(512, b"\0")
+    heads = [(b"TLBK" + bytes(4) + word(epoch, 8) + word(epoch, 8)).ljust(512, b"\0") for epoch in (0, 1)]
+    first = OPEN + heads[0] + bytes(512 * 3)
+    second = OPEN + heads[1] + word(5, 8).ljust(512, b"\0") + record(1, 1, deposit(5, 1)) + OPEN
+    return superblock + first + second
+
+
+def migrate(programs, old, new, *words):
+    return programs.run(programs.derbyfig, "migrate", str(old), str(new), "--slots", "4", *words)
+
+
+def of_earlier_versions(programs, _moments):
+    """The copy holds what the older file does, which keeps its bytes; a file that is there has to hold nothing."""
+    for number, (older, opened) in enumerate(((first_layout(), "next 1 total 500"), (second_layout(), "next 2 total 10"))):
+        old, new = (programs.folder / f"{name}_{number}" for name in ("old", "new"))
+        old.write_bytes(older)
+        old.chmod(0o400)
+        for before in (None, bytes(512 * 3), bytes(512 * 70)):
+            new.unlink(missing_ok=True)
+            if before is not None:
+                new.write_bytes(before)
+            require_same(migrate(programs, old, new), Said(0, "migrated 4\n", ""), f"the copy of {old.name} over {before}")
+            require_same(new.stat().st_size, max(512 * 55, len(before or b"")), "the length of the copy")
+            require_same(programs.run_script(new, "open 2 00 10\n").printed, f"opened 2 {opened}\n", "the copy")
+        require_same(kept(old), older, "the older ledger")
+        require_same(migrate(programs, old, new), Said(1, "", f"{new}: {LEDGER}"), "a copy onto a ledger")
+        require_same(migrate(programs, old, new, "--overwrite"), Said(0, "migrated 4\n", ""), "a copy that erases one")
+
+
+def that_are_refused(programs, moments):
+    """Nothing is made, and what was there keeps its bytes."""
+    new = programs.folder / "new"
+    missing = programs.folder / "missing"
+    require_refused(programs, missing, new, 3, f"{missing}: there is no such file")
+    require_same(kept(missing), None, "an older file that isn't there")
+    present = make(programs, "present", 4, 30)
+    require_refused(programs, present, new, 1, "migrate refused Source Version 3")
+    damaged = programs.folder / "damaged"
+    older = first_layout()
+    damaged.write_bytes(older[:512 + 32] + b"\4" + older[512 + 33:])
+    require_refused(programs, damaged, new, 1, "migrate refused Source Damaged 0 Entry 0")
+    text = programs.folder / "text"
+    text.write_bytes(b"2026-11-26 opening balance\n".ljust(512))
+    require_refused(programs, text, new, 1, "migrate refused Source Unformatted")
+    old = programs.folder / "old"
+    old.write_bytes(older)
+    for held, sentence in ((moments.randbytes(1024), FOREIGN), (kept(present), LEDGER)):
+        new.write_bytes(held)
+        require_refused(programs, old, new, 1, f"{new}: {sentence}")
+    # blank, and damaged: a file that was there stays
+    new.write_bytes(bytes(512 * 55))
+    require_refused(programs, damaged, new, 1, "migrate refused Source Damaged 0 Entry 0")
+
+
+def require_refused(programs, old, new, status, told):
+    before = kept(new)
+    require_same(migrate(programs, old, new), Said(status, "", told), f"a copy of {old.name}")
+    require_same(kept(new) == before, True, f"{new} behind a copy of {old.name} that is refused")

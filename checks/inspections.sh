@@ -1,0 +1,249 @@
+#!/usr/bin/env bash
+# Runs the commands of derbyfig that look at a ledger on files that scripts made, on older and on damaged ones, and
+# compares what they print with what stands in checks/inspections. Looks at their statuses, at their progress, at the
+# memory that they take on banks of 1,000 and 100,000 slots, and at the options that the man pages and --help name; and
+# compares their balances with those that hledger and ledger find in what is printed for them, if both are on the
+# machine. One line for each, and status 1 at the first difference. Words: the built turn_console, and the built
+# derbyfig.
+set -euo pipefail
+console=$(realpath "${1:?the first word is the built turn_console}")
+derbyfig=$(realpath "${2:?the second word is the built derbyfig}")
+cd "$(dirname "$0")/.."
+wanted=$PWD/checks/inspections man=$PWD/docs/man commands=$PWD/crates/program_front/src/commands.rt
+work=$(mktemp -d)
+trap 'kill $(jobs -p) 2> /dev/null || true; rm -rf "$work"' EXIT
+cd "$work"
+: > nothing
+
+# A run of the program with the words behind the third one: its status, its output, which is that of a file, and what it
+# tells on its errors.
+run() {
+    local wanted=$1 printed=$2 told=$3 status=0
+    shift 3
+    "$derbyfig" "$@" > printed 2> told || status=$?
+    diff "$printed" printed || { echo "$*: prints something else"; exit 1; }
+    [ "$(cat told)" = "$told" ] || { echo "$*: tells $(cat told)"; exit 1; }
+    [ "$status" -eq "$wanted" ] || { echo "$*: ends with status $status"; exit 1; }
+    echo "$*: as it must be"
+}
+
+# A file that is damaged so: check prints the line, and the others tell it.
+damaged() {
+    local file=$1 line=$2 command
+    echo "$file: $line" > line
+    run 1 line "" check "$file"
+    run 1 nothing "" check "$file" -q
+    for command in journal balances; do
+        run 1 nothing "$file: $line" "$command" "$file"
+    done
+}
+
+# Writes a byte, in hexadecimal, at an offset of a copy of the file that turn_console made.
+spoiled() {
+    local file=$1 offset
+    cp office "$file"
+    for offset in "${@:3}"; do
+        printf '%b' "\\x$2" | dd of="$file" bs=1 seek="$offset" conv=notrunc status=none
+    done
+}
+
+# Writes these bytes, in hexadecimal, at the beginning of a sector of a file.
+put() {
+    local file=$1 sector=$2
+    shift 2
+    printf '%b' "$(printf %s "$@" | sed 's/../\\x&/g')" | dd of="$file" bs=512 seek="$sector" conv=notrunc status=none
+}
+
+# A file of layout 1 with four slots, of which the first holds a deposit of 500 to account 1.
+first_layout() {
+    truncate -s $((9 * 512)) "$1"
+    put "$1" 0 544c4447 0001 0000 0000000000000004
+    put "$1" 1 544c4231 0000 0001 0000000000000000 0000000000000000 0000000000000000 \
+        01000000 00000000 00000001 00000000 00000000000001f4 0000000000000003
+    put "$1" 2 a5
+}
+
+# One of layout 2 with one slot in each bank. The second bank is live, with 5 in account 1, and holds a deposit of 5
+# more.
+second_layout() {
+    truncate -s $((11 * 512)) "$1"
+    put "$1" 0 544c4447 0002 0000 0000000000000001
+    put "$1" 1 a5
+    put "$1" 2 544c424b 00000000 0000000000000000 0000000000000000
+    put "$1" 6 a5
+    put "$1" 7 544c424b 00000000 0000000000000001 0000000000000001
+    put "$1" 8 0000000000000005
+    put "$1" 9 544c4231 0001 0001 0000000000000001 0000000000000000 0000000000000000 \
+        01000000 00000000 00000001 00000000 0000000000000005 0000000000000001
+    put "$1" 10 a5
+}
+
+# Each command and format. The first two batches are before the checkpoint, the others behind it.
+"$derbyfig" run office --sectors 64 < "$wanted/office" > made
+cp office before
+run 0 "$wanted/check.out" "" check office
+run 0 nothing "" check -q office
+run 0 "$wanted/journal.table" "" journal office
+run 0 "$wanted/balances.table" "" balances office
+for format in table csv json hledger; do
+    run 0 "$wanted/journal.$format" "" journal office --as "$format" --date 2026-11-25
+    run 0 "$wanted/balances.$format" "" balances office --as "$format" --date 2026-11-25
+done
+for words in "--from 3" "--account 2 --reference 13" "--reference 12" "--from 3 --account 2"; do
+    # shellcheck disable=SC2086
+    run 0 "$wanted/selected.csv" "" journal office --as csv $words
+done
+"$derbyfig" map office > drawn
+python3 -c 'import sys, xml.dom.minidom as dom; dom.parse("drawn").documentElement.tagName == "svg" or sys.exit("no SVG")'
+cmp office before || { echo "the file was changed"; exit 1; }
+
+# Files of older layouts.
+first_layout first
+run 0 "$wanted/layout_1.out" "" check first
+second_layout second
+run 0 "$wanted/layout_2.out" "" check second
+run 0 "$wanted/layout_2.csv" "" journal second --as csv
+
+# Damages, by the byte that is written. The live bank is the second one, from sector 24 on.
+spoiled header 00 $((43 * 512))
+damaged header "the body of an open slot is no record (bank 1, slot 0, sector 43, byte 22016)"
+spoiled sequence 07 $((45 * 512 + 15))
+damaged sequence "the record of a slot has another sequence number (bank 1, slot 1, sector 45, byte 23055)"
+spoiled tail 00 $((44 * 512))
+damaged tail "a slot is open behind a closed one (bank 1, slot 1, sector 46, byte 23552)"
+spoiled entry 09 $((45 * 512 + 32))
+damaged entry "place 0 of a record is no entry (bank 1, slot 1, sector 45, byte 23072)"
+spoiled verdict 01 $((45 * 512 + 32 + 16))
+damaged verdict "the entry at place 0 of a record breaks a rule of the ledger (bank 1, slot 1, sector 45, byte 23072)"
+spoiled gates 00 512 $((24 * 512))
+damaged gates "a bank isn't sound, or none is live (bank 0, sector 1, byte 512)"
+spoiled version 09 5
+damaged version "its ledger has version 9, which isn't known (sector 0, byte 4)"
+spoiled magic 00 0
+damaged magic "it holds no ledger (sector 0, byte 0)"
+spoiled slots ff 15
+damaged slots "its number of slots is out of range, or it is too short for them (sector 0, byte 8)"
+: > empty
+damaged empty "it holds no ledger"
+status=0
+"$derbyfig" map tail > drawn 2> told || status=$?
+[ "$status" -eq 1 ] && grep -q '</svg>' drawn && grep -q '<rect class="damaged" .*<title>' drawn \
+    && grep -q '>damage: .*of the file<' drawn && grep -q '^tail: a slot is open' told \
+    || { echo "map of a damaged file: ends with status $status"; exit 1; }
+echo "map of a damaged file: as it must be"
+
+# What can't be looked at.
+mkdir folder
+truncate -s 511 short
+run 3 nothing "folder: it is neither a file nor a disk" check folder
+run 3 nothing "missing: there is no such file" journal missing
+[ ! -e missing ] || { echo "a missing file was made"; exit 1; }
+run 3 nothing "short: its length is no multiple of 512 bytes; it is no ledger, or something was appended to it" balances short
+run 3 nothing "short/none: there is no such file" check short/none
+run 3 nothing "/dev/zero: it is neither a file nor a disk" check /dev/zero
+mkfifo script
+"$derbyfig" run office < script > /dev/null &
+holder=$!
+exec 3> script
+for _ in $(seq 1000); do
+    "$derbyfig" check -q office 2> told || break
+    sleep 0.1
+done
+run 3 nothing "office: another program has it; end that one first" check office
+run 0 "$wanted/check.out" "office: it isn't locked, so what is printed may be torn" check office --unlocked
+exec 3>&-
+wait "$holder"
+run 0 "$wanted/check.out" "" check office
+
+# Wrong words, and outputs that fail.
+for words in "" "check" "chart office" "journal office --as xml" "journal office --date 2023-02-29" \
+    "journal office --account 0" "balances office --from 1" "check office more"; do
+    status=0
+    # shellcheck disable=SC2086
+    "$derbyfig" $words > printed 2> told || status=$?
+    [ "$status" -eq 2 ] && [ ! -s printed ] && [ -s told ] || { echo "$words: ends with status $status"; exit 1; }
+    echo "wrong words, $words: as they must be"
+done
+python3 "$wanted/bank.py" thousand 1000
+python3 "$wanted/bank.py" hundred_thousand 100000
+for format in table csv json hledger; do
+    "$derbyfig" journal hundred_thousand --as "$format" 2> told | head -n 1 > printed
+    [ "${PIPESTATUS[0]}" -eq 0 ] && [ ! -s told ] || { echo "a closed output, $format: $(cat told)"; exit 1; }
+    echo "a closed output, $format: as it must be"
+done
+status=0
+"$derbyfig" check office > /dev/full 2> told || status=$?
+[ "$status" -eq 3 ] && [ "$(cat told)" = "write failed" ] \
+    || { echo "a full output: ends with status $status"; exit 1; }
+echo "a full output: as it must be"
+
+# Progress, on a terminal alone.
+"$derbyfig" journal hundred_thousand 2> told > /dev/null
+[ ! -s told ] || { echo "progress is told where there is no terminal"; exit 1; }
+python3 "$wanted/terminal.py" "$derbyfig" journal hundred_thousand > told
+printf '\r0 of 100000 records\r65536 of 100000 records\r\033[K' | cmp - told || { echo "another progress"; exit 1; }
+echo "progress: on a terminal alone"
+
+# Whether the program ends well in so many KB of memory.
+fits() {
+    local memory=$1
+    shift
+    (ulimit -v "$memory" && exec "$derbyfig" "$@" > /dev/null 2>&1)
+}
+
+# Memory: what is enough, to 128 KB, for a bank of 1,000 slots is enough but for 2 MB for one of 100,000, whose records
+# alone have 100 MB.
+for words in check "journal --as table" "journal --as csv" "journal --as json" "journal --as hledger" \
+    balances map; do
+    too_little=1024 enough=65536
+    while [ $((enough - too_little)) -gt 128 ]; do
+        middle=$(((too_little + enough) / 2))
+        # shellcheck disable=SC2086
+        if fits "$middle" $words thousand; then enough=$middle; else too_little=$middle; fi
+    done
+    # shellcheck disable=SC2086
+    fits $((enough + 2048)) $words hundred_thousand \
+        || { echo "$words: $enough KB of memory aren't enough for a larger bank"; exit 1; }
+    echo "$words: in $((enough + 2048)) KB of memory on each bank"
+done
+
+# The lines "account balance" of those that hold something, of our CSV and of what the two print.
+ours() {
+    awk -F, 'NR > 1 && $1 != "total" && $2 > 0 { print $1, $2 }'
+}
+theirs() {
+    awk '{ sub("account:", "", $2); print $2, $1 }' | sort -n
+}
+compare() {
+    local seed=$1 slots=$(($1 * 50)) batches=$((1000 + $1 * 50))
+    rm -f large
+    python3 "$wanted/batches.py" "$slots" "$batches" "$seed" > script_of_batches
+    "$derbyfig" run large --sectors $((39 + 4 * slots)) < script_of_batches > made
+    "$derbyfig" check large | grep -qx "next $batches" || { echo "$seed: not $batches batches"; exit 1; }
+    "$derbyfig" balances large --as csv | ours > balances
+    "$derbyfig" journal large --as hledger > large.journal
+    hledger -f large.journal balance account --flat --no-total | theirs | diff balances - || { echo "hledger: others"; exit 1; }
+    ledger -f large.journal balance account --flat --no-total | theirs | diff balances - || { echo "ledger: others"; exit 1; }
+    echo "$(wc -l < balances) accounts after $batches batches: as hledger and ledger have them"
+}
+if command -v hledger > /dev/null && command -v ledger > /dev/null; then
+    for seed in 1 2 3; do
+        compare "$seed"
+    done
+else
+    echo "skipped: hledger and ledger aren't both on this machine, so their balances weren't compared"
+fi
+
+# The man pages name the options that --help names.
+options() {
+    grep -o -e '--[a-z][a-z]*' | LC_ALL=C sort -u
+}
+for command in "" run serve check journal balances map format migrate; do
+    "$derbyfig" $command --help
+done | sed 's/`turn_console --help`//' | options > helped
+sed 's/\\-/-/g' "$man/derbyfig.1" | options | diff helped - || { echo "docs/man/derbyfig.1: other options"; exit 1; }
+"$console" --help | options > helped
+sed 's/\\-/-/g' "$man/turn_console.1" | options | diff helped - || { echo "docs/man/turn_console.1: other options"; exit 1; }
+echo "the man pages: the options of --help"
+version=$(sed -n 's/^pub const VERSION: &str = "\(.*\)";/\1/p' "$commands")
+[ "$("$derbyfig" --version)" = "derbyfig $version" ] || { echo "--version: $("$derbyfig" --version)"; exit 1; }

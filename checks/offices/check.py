@@ -1,0 +1,89 @@
+"""Runs each case of the office on a folder of its own, and tells of those that fail. Words: check.py --help tells them."""
+import argparse
+import functools
+import pathlib
+import random
+import shutil
+import signal
+import sys
+
+import coming
+import kills
+import order
+import refusals
+import talking
+import waiting
+from office import Case, Mismatch
+
+CASES = (
+    talking.one_after_another,
+    talking.all_at_once,
+    talking.behind_a_checkpoint,
+    talking.said_before_it_opens,
+    coming.hangs_up_and_comes_back,
+    coming.says_and_never_listens,
+    coming.never_ends_a_line,
+    coming.close_at_once,
+    coming.close_amid_postings,
+    coming.many_stations,
+    refusals.counters_that_are_none,
+    refusals.a_ledger_that_is_there,
+    refusals.wrong_words,
+    refusals.a_device_that_fails,
+    refusals.an_exhausted_journal,
+    refusals.without_threads,
+    refusals.closed_streams,
+    order.syncs_before_it_tells,
+    waiting.asks_for_nothing,
+    waiting.asks_questions_alone,
+    waiting.at_a_terminal,
+    waiting.input_that_ends,
+)
+
+
+def attempt(words, name, work):
+    """What the case gives, on a folder of its own, or nothing where it fails, which is told."""
+    folder = words.folder / name
+    folder.mkdir()
+    case = Case(words.program, folder, words)
+    try:
+        return work(case) or 0
+    except (Mismatch, OSError, ValueError, IndexError) as told:
+        print(f"{name}: {told if isinstance(told, Mismatch) else repr(told)}")
+        return None
+    finally:
+        case.end()
+        shutil.rmtree(folder)
+
+
+def all_kills(words):
+    """The outcomes of all kills, each of a file of its own, half of them with checkpoints."""
+    moments = random.Random(words.seed)
+    outcomes = []
+    for number in range(words.kills):
+        for name, slots in (("kill", kills.SLOTS), ("kill_amid_checkpoints", kills.FEW_SLOTS)):
+            work = functools.partial(kills.one_kill, first=1_000_000 * number, moments=moments, slots=slots)
+            outcomes.append(attempt(words, f"{name}_{number}", work))
+    return outcomes
+
+
+def main():
+    parser = argparse.ArgumentParser(description=__doc__)
+    parser.add_argument("program", help="the derbyfig that was built")
+    parser.add_argument("folder", type=pathlib.Path, help="an empty folder")
+    parser.add_argument("--kills", type=int, default=5, help="how often it is killed, without checkpoints and with them")
+    parser.add_argument("--seed", type=int, default=random.SystemRandom().randrange(1_000_000))
+    parser.add_argument("--only", default="", help="the cases whose names have this")
+    words = parser.parse_args()
+    # so that an end from outside ends what was started too
+    signal.signal(signal.SIGTERM, lambda *_: sys.exit("it was ended from outside"))
+    cases = [work for work in CASES if words.only in work.__name__]
+    outcomes = [attempt(words, work.__name__, work) for work in cases]
+    killed = all_kills(words) if words.only in "kills" else []
+    if None in outcomes + killed:
+        sys.exit(f"{(outcomes + killed).count(None)} cases failed, with the seed {words.seed}")
+    told = f"{len(killed)} kills with the seed {words.seed}, of {sum(killed)} postings that were told"
+    print(f"{len(cases)} cases hold; {told} none is lost, and none is there that wasn't asked")
+
+
+main()

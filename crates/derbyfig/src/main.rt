@@ -1,0 +1,29 @@
+//! Derbyfig: a crash-safe ledger of accounts, which stations in a row share.
+//!
+//! The crate `program_front` does all of it; here it is handed the words and the streams of the system.
+#![tactic(auto)]
+
+use program_front::{Terminal, run_derbyfig_words, words_given};
+use std::io::IsTerminal;
+use std::process::ExitCode;
+
+fn main(rt: HostRuntime) -> ExitCode {
+    let given = words_given(&rt);
+    let terminal = Terminal {
+        input: rt.stdin(),
+        output: rt.stdout(),
+    };
+    let (mut output, mut errors) = (rt.stdout(), rt.stderr());
+    // on a terminal on which nothing else is printed
+    let shows = errors.is_terminal() && !output.is_terminal();
+    let status = run_derbyfig_words(
+        &rt,
+        rt.alloc(),
+        given,
+        terminal,
+        &mut output,
+        &mut errors,
+        shows,
+    );
+    ExitCode::from(status)
+}

@@ -1,0 +1,197 @@
+//! The words of `derbyfig`.
+use crate::images::DEPOSIT;
+use ledger_inspection::{Locking, Task};
+use office_engine::Terminal;
+use program_front::{Request, read_request, run_derbyfig, run_derbyfig_words};
+use std::alloc::Global;
+use std::io;
+use std::io::ErrorKind;
+use std::process::Abort;
+
+fn terminal(alloc: Global) -> Terminal<&'static [u8], Vec<u8>> {
+    Terminal {
+        input: DEPOSIT.as_bytes(),
+        output: Vec::new(alloc),
+    }
+}
+
+// Whether words ask for what they should.
+fn ask(rt: &impl Abort, alloc: Global, words: &[&str], is_asked: impl Fn(&Request<'_>) -> bool) {
+    match read_request(alloc, words) {
+        Ok(request) => assert!(rt; is_asked(&request), "{words:?}: {request:?}"),
+        Err(_) => panic!(rt; "{words:?}"),
+    }
+}
+
+#[test]
+fn each_command_has_its_words(rt: HostRuntime) {
+    let alloc = rt.alloc();
+    ask(&rt, alloc, &["derbyfig", "run"], |request| {
+        matches!(request, Request::Run(run) if run.path.is_none() && run.sectors.is_none())
+    });
+    let run = ["derbyfig", "run", "book", "--sectors", "4000039"];
+    ask(&rt, alloc, &run, |request| {
+        matches!(request, Request::Run(run) if run.path == Some("book") && run.sectors == Some(4_000_039))
+    });
+    let serve = [
+        "derbyfig",
+        "serve",
+        "book",
+        "--counter=a",
+        "--counter=b",
+        "--stations=64",
+        "--format=1000000",
+        "--overwrite",
+        "--sectors=1",
+        "--terminal",
+    ];
+    ask(&rt, alloc, &serve, |request| {
+        matches!(request, Request::Serve(office) if office.path == "book"
+            && office.counters.as_slice() == ["a", "b"].as_slice()
+            && office.stations == Some(64)
+            && office.format.map(|slots| slots.get()) == Some(1_000_000)
+            && office.sectors == Some(1)
+            && office.overwrite
+            && office.terminal)
+    });
+    let check = ["derbyfig", "check", "-q", "--unlocked", "book"];
+    ask(&rt, alloc, &check, |request| {
+        matches!(request, Request::Inspect(wish) if wish.path == "book"
+            && wish.locking == Locking::Unlocked
+            && matches!(wish.task, Task::Check { quiet: true }))
+    });
+    ask(&rt, alloc, &["derbyfig", "map", "book"], |request| {
+        matches!(request, Request::Inspect(wish) if wish.locking == Locking::Shared && matches!(wish.task, Task::Map))
+    });
+    let format = [
+        "derbyfig",
+        "format",
+        "book",
+        "--slots",
+        "1000000",
+        "--overwrite",
+    ];
+    ask(&rt, alloc, &format, |request| {
+        matches!(request, Request::Format { path, formatting } if *path == "book"
+            && formatting.slots.get() == 1_000_000
+            && formatting.overwrite)
+    });
+    let migrate = ["derbyfig", "migrate", "old", "new", "--slots", "1"];
+    ask(&rt, alloc, &migrate, |request| {
+        matches!(request, Request::Migrate { old, path, formatting } if *old == "old"
+            && *path == "new"
+            && formatting.slots.get() == 1
+            && !formatting.overwrite)
+    });
+}
+
+#[test]
+fn wrong_words_are_told(rt: HostRuntime) {
+    let alloc = rt.alloc();
+    let table: [(&[&str], &str); 17] = [
+        (
+            &["journal", "book", "--from", "x"],
+            "error: invalid value 'x' for '--from <N>'",
+        ),
+        (
+            &["journal", "book", "--account", "0"],
+            "error: invalid value '0' for '--account <A>'",
+        ),
+        (
+            &["journal", "book", "--account", "1025"],
+            "error: invalid value '1025' for '--account <A>'",
+        ),
+        (
+            &["balances", "book", "--as", "xml"],
+            "error: invalid value 'xml' for '--as <FORMAT>'",
+        ),
+        (
+            &["journal", "book", "--date", "2023-02-29"],
+            "error: a date has the form YYYY-MM-DD",
+        ),
+        (
+            &["check", "book", "-q", "more"],
+            "error: unexpected argument 'more' found",
+        ),
+        (
+            &["balances", "book", "--from", "1"],
+            "error: unexpected argument '--from' found",
+        ),
+        (&["chart", "book"], "error: unrecognized subcommand 'chart'"),
+        (
+            &["run", "book", "--sectors", "0"],
+            "error: invalid value '0' for '--sectors <K>'",
+        ),
+        (
+            &["serve", "book", "--stations", "65"],
+            "error: invalid value '65' for '--stations <N>'",
+        ),
+        (
+            &["serve", "book", "--format", "1000001"],
+            "error: invalid value '1000001' for '--format <SLOTS>'",
+        ),
+        (
+            &["format", "book"],
+            "error: the following required arguments were not provided",
+        ),
+        (
+            &["migrate", "old", "--slots", "1"],
+            "error: the following required arguments were not provided",
+        ),
+        (
+            &["migrate", "book", "book", "--slots", "1"],
+            "error: NEW is OLD; take another path",
+        ),
+        (
+            &["serve", "book"],
+            "an office needs a --counter or --terminal\n",
+        ),
+        (
+            &["serve", "book", "--terminal", "--overwrite"],
+            "--overwrite needs --format\n",
+        ),
+        (
+            &[],
+            "error: 'derbyfig' requires a subcommand but one was not provided",
+        ),
+    ];
+    for (asked, wanted) in table {
+        let mut words = Vec::new(alloc);
+        let _ = words.push("derbyfig");
+        let _ = words.extend_from_slice(asked);
+        let (mut output, mut errors) = (Vec::new(alloc), Vec::new(alloc));
+        let status = run_derbyfig(
+            &rt,
+            alloc,
+            words.as_slice(),
+            terminal(alloc),
+            &mut output,
+            &mut errors,
+            false,
+        );
+        assert!(rt; (status, output.len()) == (2, 0), "{wanted}");
+        assert!(rt;
+            errors.as_slice().starts_with(wanted.as_bytes()),
+            "{wanted}"
+        );
+    }
+}
+
+#[test]
+fn a_word_that_is_no_text_is_wrong(rt: HostRuntime) {
+    let alloc = rt.alloc();
+    for (kind, wanted) in [(ErrorKind::InvalidData, 2), (ErrorKind::OutOfMemory, 3)] {
+        let given = Err(io::Error::from(kind));
+        let (mut output, mut errors) = (Vec::new(alloc), Vec::new(alloc));
+        let status = run_derbyfig_words(
+            &rt,
+            alloc,
+            given,
+            terminal(alloc),
+            &mut output,
+            &mut errors,
+            false,
+        );
+        assert!(rt; (status, output.len(), errors.is_empty()) == (wanted, 0, false));
+    }
+}

@@ -1,0 +1,46 @@
+//! Tells on a terminal how far the printing is.
+use ledger_printing::Progress;
+use script_streams::write_all;
+use std::alloc::Global;
+use std::io::Write;
+
+/// After how many records the line is written again.
+const STEP: u64 = 65_536;
+
+/// Tells how far the printing of a journal is, on one line that is written over, and taken away at the end. A fault of
+/// its writer is ignored.
+#[derive(Drop)]
+pub struct Meter<'a, E: Write> {
+    alloc: Global,
+    errors: &'a mut E,
+    is_shown: bool,
+}
+
+impl<'a, E: Write> Meter<'a, E> {
+    /// A meter that is shown, or isn't.
+    pub fn over(alloc: Global, errors: &'a mut E, is_shown: bool) -> Meter<'a, E> {
+        Meter {
+            alloc,
+            errors,
+            is_shown,
+        }
+    }
+
+    /// Takes the line away.
+    pub fn end(self) {
+        if self.is_shown {
+            let _ = write_all(self.errors, b"\r\x1b[K");
+        }
+    }
+}
+
+impl<E: Write> Progress for Meter<'_, E> {
+    fn reached(&mut self, records: u64, all: u64) {
+        if !self.is_shown || records % STEP != 0 {
+            return;
+        }
+        if let Ok(line) = format!(in self.alloc; "\r{records} of {all} records") {
+            let _ = write_all(self.errors, line.as_bytes());
+        }
+    }
+}

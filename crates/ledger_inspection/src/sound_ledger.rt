@@ -1,0 +1,97 @@
+//! What is printed of a sound ledger.
+ghost use Rattle.std.specs.Prelude.{◌≡◌, ◌+◌, ◌≤◌};
+
+use crate::inspection::Task;
+use device_drawing::{DrawFault, Place, draw};
+use ledger_printing::{PrintFault, Progress, print_balances, print_journal};
+use ledger_reading::{AnyJournal, Device, Numbers, ReadRefusal, Sound};
+use script_streams::{Output, StreamFault};
+use std::alloc::Global;
+use std::io::Write;
+
+/// Does with a sound ledger what is asked for.
+pub(crate) fn print_sound<D: Device + Drop, W: Write + Drop, P: Progress>(
+    alloc: Global,
+    task: Task,
+    sound: Sound<D>,
+    writer: &mut W,
+    progress: &mut P,
+) -> Result<(), PrintFault> {
+    match task {
+        Task::Check { quiet: true } => Ok(()),
+        Task::Check { quiet: false } => {
+            print_numbers(alloc, &sound, writer)?;
+            Ok(())
+        }
+        Task::Journal(wish) => print_journal(alloc, sound, wish, writer, progress),
+        Task::Balances { format, date } => {
+            print_balances(alloc, &sound.ledger, format, date, writer)?;
+            Ok(())
+        }
+        Task::Map => print_sound_map(alloc, sound, writer),
+    }
+}
+
+// A line for each of its numbers.
+fn print_numbers<D: Device, W: Write>(
+    alloc: Global,
+    sound: &Sound<D>,
+    writer: &mut W,
+) -> Result<(), StreamFault> {
+    let numbers = sound.journal.numbers();
+    let mut output = Output::new(alloc, writer)?;
+    output.line(format_args!("layout {}", numbers.version))?;
+    output.line(format_args!("slots {}", numbers.slots))?;
+    output.line(format_args!("live bank {}", numbers.live_bank))?;
+    if let Some(epoch) = numbers.epoch {
+        output.line(format_args!("epoch {epoch}"))?;
+    }
+    output.line(format_args!("base {}", numbers.base))?;
+    output.line(format_args!("next {}", numbers.next))?;
+    output.line(format_args!("free slots {}", free_slots(numbers)))?;
+    output.line(format_args!("total {}", sound.ledger.total()))?;
+    output.flush()
+}
+
+// How many slots of the live bank have no record.
+fn free_slots(numbers: Numbers) -> u64
+    ensures { numbers.base ≤ numbers.next → numbers.next ≤ numbers.base + numbers.slots
+        → result + numbers.next ≡ numbers.base + numbers.slots }
+{
+    let records = numbers.next.saturating_sub(numbers.base);
+    numbers.slots.saturating_sub(records)
+}
+
+// Draws the sectors of a sound ledger.
+fn print_sound_map<D: Device + Drop, W: Write>(
+    alloc: Global,
+    sound: Sound<D>,
+    writer: &mut W,
+) -> Result<(), PrintFault> {
+    let Sound { journal, .. } = sound;
+    let mut device = device_of(journal);
+    print_map(alloc, &mut device, None, writer)
+}
+
+// The device of a journal, of whichever layout.
+fn device_of<D: Device>(journal: AnyJournal<D>) -> D {
+    match journal {
+        AnyJournal::Present(journal) => journal.into_device(),
+        AnyJournal::Old(journal) => journal.into_device(),
+    }
+}
+
+/// Draws the sectors of a device, and where it is damaged.
+pub(crate) fn print_map<D: Device, W: Write>(
+    alloc: Global,
+    device: &mut D,
+    damage: Option<Place>,
+    writer: &mut W,
+) -> Result<(), PrintFault> {
+    match draw(alloc, device, damage, writer) {
+        Ok(()) => Ok(()),
+        Err(DrawFault::Device) => Err(PrintFault::Read(ReadRefusal::Device)),
+        Err(DrawFault::Write) => Err(PrintFault::Stream(StreamFault::Write)),
+        Err(DrawFault::Memory) => Err(PrintFault::Stream(StreamFault::Memory)),
+    }
+}

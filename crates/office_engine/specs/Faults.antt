@@ -1,0 +1,17 @@
+-- By which status a fault of an office ends the program.
+use Rattle.journal_recovery.specs.declared.refusals.OpenRefusal.{OpenRefusal}
+use Rattle.line_lock.specs.declared.lent.OfficeRefusal.TheVariants as office
+use Rattle.live_office.specs.declared.open_office.LiveRefusal.TheVariants as live
+use Rattle.program_ends.specs.Status.{of_ledger, of_opening, of_turn}
+use Rattle.program_ends.specs.declared.status.Status.{Status}
+use Rattle.program_ends.specs.declared.status.Status.TheVariants.{Failed}
+use Rattle.office_engine.specs.declared.faults.OfficeFault.{OfficeFault}
+use Rattle.office_engine.specs.declared.faults.OfficeFault.TheVariants as fault
+
+-- that of what refused it, and else something failed
+abbrev pub status_of : OfficeFault → Status
+status_of (fault.File path refusal) = of_ledger refusal
+status_of (fault.NoLedger path refusal) = of_opening refusal
+status_of (fault.Office (live.Office (office.Opening refusal))) = of_opening refusal
+status_of (fault.Refused refusal) = of_turn refusal
+status_of _ = Failed

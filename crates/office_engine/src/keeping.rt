@@ -1,0 +1,286 @@
+//! An office that is kept open, from its pipes and its device to what is told of its end.
+ghost use Rattle.std.specs.Prelude.{◌≡◌, false, IfErr, OnOk};
+ghost use Rattle.office_engine.specs.Ends.{NoneWasRefused, TellsRefusal, reason_of};
+
+use crate::faults::{OfficeFault, PipeFault};
+use crate::pipes::{Side, open_pipe};
+use crate::serving::{Plan, Serving};
+use crate::source::{Source, Target};
+use file_device::FileNumber;
+use four_state::{Line, MOST_STATIONS};
+use journal_recovery::{Recovered, recover};
+use ledger_file::{FileDevice, Formatting, format_ledger, open_ledger};
+use live_office::{Closed, Conversation, Counter, Entry, Kind, are_threads_granted, keep_open};
+use office_day::{End, StationDay, TurnRefusal};
+use script_streams::{Output, StreamFault};
+use sector_device::Device;
+use std::alloc::Global;
+use std::fs::{File, Files};
+use std::io::{Read, Write};
+use std::sync::Wait;
+use std::thread::Threads;
+use std::time::Clock;
+
+/// After how many turns an office is closed and opened again.
+const SPAN: u64 = 5_000;
+
+/// The streams of the terminal.
+#[derive(Drop)]
+pub struct Terminal<I: Read, O: Write> {
+    pub input: I,
+    pub output: O,
+}
+
+// A counter, by pipes or by the terminal.
+type AnyCounter<I, O> = Counter<Source<File, I>, Target<File, O>>;
+
+/// Keeps an office open as it is asked for and planned. What is told of it goes to the writer. The call waits until the
+/// office is closed.
+///
+/// # Errors
+/// [`OfficeFault`].
+pub fn serve<
+    'a,
+    R: Files<File = File> + Threads + Wait + Clock + Sync + Send + Clone + Drop + 'static,
+    I: Read + Send + Drop + 'static,
+    O: Write + Send + Drop + 'static,
+    W: Write,
+>(
+    rt: &R,
+    alloc: Global,
+    serving: &Serving<'a>,
+    plan: Plan,
+    terminal: Terminal<I, O>,
+    writer: &mut W,
+) -> Result<(), OfficeFault<'a>> {
+    let counters = open_counters(rt, alloc, serving, terminal)?;
+    let mut output = Output::new(alloc, writer)?;
+    let device = open_device(rt, alloc, serving, plan.formatting, &mut output)?;
+    if !are_threads_granted(rt, alloc, plan.stations, counters.len())? {
+        return Err(OfficeFault::Threads);
+    }
+    let (device, line) = tell_opened(alloc, serving.path, device, plan.stations, &mut output)?;
+    match keep_open(rt, alloc, device, line, counters, SPAN) {
+        Ok(closed) => tell_closed(closed, &mut output),
+        Err((_, refusal)) => Err(OfficeFault::from(refusal)),
+    }
+}
+
+// The counters, each by its pipes, and the terminal behind them.
+fn open_counters<'a, R: Files<File = File>, I: Read + Drop, O: Write + Drop>(
+    rt: &R,
+    alloc: Global,
+    serving: &Serving<'a>,
+    terminal: Terminal<I, O>,
+) -> Result<Vec<AnyCounter<I, O>>, OfficeFault<'a>> {
+    let mut counters = Vec::with_capacity(alloc, serving.counters.len())?;
+    let mut opened = Vec::new(alloc);
+    for folder in &serving.counters {
+        let counter = open_counter(rt, alloc, folder, &mut opened)?;
+        if counters.push(counter).is_err() {
+            return Err(OfficeFault::Memory);
+        }
+    }
+    if serving.terminal && counters.push(terminal_counter(terminal)).is_err() {
+        return Err(OfficeFault::Memory);
+    }
+    Ok(counters)
+}
+
+fn terminal_counter<I: Read, O: Write>(terminal: Terminal<I, O>) -> AnyCounter<I, O> {
+    let Terminal { input, output } = terminal;
+    Counter {
+        input: Source::Terminal(input),
+        output: Target::Terminal(output),
+        kind: Kind::Terminal,
+    }
+}
+
+// The counter of a folder.
+fn open_counter<'a, R: Files<File = File>, I: Read, O: Write>(
+    rt: &R,
+    alloc: Global,
+    folder: &'a str,
+    opened: &mut Vec<FileNumber>,
+) -> Result<AnyCounter<I, O>, OfficeFault<'a>> {
+    let input = pipe_of(rt, alloc, folder, Side::In, opened)?;
+    let output = pipe_of(rt, alloc, folder, Side::Out, opened)?;
+    Ok(Counter {
+        input: Source::Pipe(input),
+        output: Target::Pipe(output),
+        kind: Kind::Pipes,
+    })
+}
+
+fn pipe_of<'a, R: Files<File = File>>(
+    rt: &R,
+    alloc: Global,
+    folder: &'a str,
+    side: Side,
+    opened: &mut Vec<FileNumber>,
+) -> Result<File, OfficeFault<'a>> {
+    match open_pipe(rt, alloc, folder, side, opened) {
+        Ok(file) => Ok(file),
+        Err(refusal) => Err(OfficeFault::Pipe(PipeFault {
+            folder,
+            side,
+            refusal,
+        })),
+    }
+}
+
+// The device, formatted first if that is asked for.
+fn open_device<'a, R: Files<File = File>, W: Write>(
+    rt: &R,
+    alloc: Global,
+    serving: &Serving<'a>,
+    formatting: Option<Formatting>,
+    output: &mut Output<'_, W>,
+) -> Result<FileDevice, OfficeFault<'a>> {
+    let path = serving.path;
+    let opened = match formatting {
+        Some(formatting) => format_ledger(rt, alloc, path, formatting),
+        None => open_ledger(rt, alloc, path, serving.sectors.unwrap_or(0)),
+    };
+    let device = match opened {
+        Ok(device) => device,
+        Err(refusal) => return Err(OfficeFault::of_file(path, refusal)),
+    };
+    if let Some(Formatting { slots, .. }) = formatting {
+        output.line(format_args!("formatted {slots}"))?;
+    }
+    Ok(device)
+}
+
+// Tells what the device holds, and gives the line that its office begins with.
+fn tell_opened<'a, D: Device + Drop, W: Write>(
+    alloc: Global,
+    path: &'a str,
+    device: D,
+    stations: u64,
+    output: &mut Output<'_, W>,
+) -> Result<(D, Line), OfficeFault<'a>> {
+    let Recovered { journal, ledger } = match recover(alloc, device) {
+        Ok(found) => found,
+        Err((_, refusal)) => return Err(OfficeFault::NoLedger { path, refusal }),
+    };
+    let next = journal.next();
+    let total = ledger.total();
+    output.line(format_args!("opened {stations} next {next} total {total}"))?;
+    output.flush()?;
+    Ok((journal.into_device(), first_line(stations)?))
+}
+
+// The line that an office begins with: any would do, since it heals. On this one the bottom station alone is
+// privileged.
+fn first_line<'a>(stations: u64) -> Result<Line, OfficeFault<'a>> {
+    let bits = [false; MOST_STATIONS as usize];
+    let count = stations.min(MOST_STATIONS) as usize;
+    match Line::from_bits(stations, &bits[..count], &bits[..count]) {
+        Ok(line) => Ok(line),
+        Err(refusal) => Err(OfficeFault::Line(refusal)),
+    }
+}
+
+// Tells how the office ended: its turns, the line, and what was asked and not answered.
+fn tell_closed<'a, D: Device + Drop, W: Write>(
+    closed: Closed<D>,
+    output: &mut Output<'_, W>,
+) -> Result<(), OfficeFault<'a>>
+    ensures refused { OnOk result (NoneWasRefused closed.stations.items) }
+    ensures threads { OnOk result (closed.is_abandoned ≡ false) }
+{
+    let line = closed.audit.last;
+    let privileges = line.privileges();
+    output.line(format_args!("closed after {} turns", closed.turns))?;
+    output.line(format_args!("bits {line} privileges {privileges}"))?;
+    for (station, day) in closed.stations.iter().enumerate() {
+        tell_unanswered(station, day, output)?;
+    }
+    for (station, conversation) in closed.conversations.iter().enumerate() {
+        tell_unheard(station, conversation.unheard(), output)?;
+        tell_untold(station, conversation, output)?;
+    }
+    output.flush()?;
+    if closed.is_abandoned {
+        return Err(OfficeFault::Threads);
+    }
+    device_of(closed.stations.as_slice())?;
+    refusal_of(closed.stations.as_slice())
+}
+
+// Tells of the requests of a station that were submitted and not answered.
+fn tell_unanswered<W: Write>(
+    station: usize,
+    day: &StationDay,
+    output: &mut Output<'_, W>,
+) -> Result<(), StreamFault> {
+    for ask in &day.unanswered {
+        let reference = ask.entry.reference();
+        output.line(format_args!("unanswered {station} {reference}"))?;
+    }
+    Ok(())
+}
+
+// Tells of the entries that a station's client asked to post too late.
+fn tell_unheard<W: Write>(
+    station: usize,
+    entries: &[Entry],
+    output: &mut Output<'_, W>,
+) -> Result<(), StreamFault> {
+    for entry in entries {
+        let reference = entry.reference();
+        output.line(format_args!("unanswered {station} {reference}"))?;
+    }
+    Ok(())
+}
+
+// Tells of the answers to entries that weren't written to a station's client.
+fn tell_untold<W: Write>(
+    station: usize,
+    conversation: &Conversation,
+    output: &mut Output<'_, W>,
+) -> Result<(), StreamFault> {
+    for response in conversation.untold() {
+        if response.is_answer() {
+            output.line(format_args!("untold {station} {response}"))?;
+        }
+    }
+    Ok(())
+}
+
+// Whether a station's device failed. Other stations, which met that later, tell it in other words.
+fn device_of<'a>(stations: &[StationDay]) -> Result<(), OfficeFault<'a>>
+    ensures { IfErr result (TellsRefusal stations.now) }
+{
+    for day in stations {
+        if day.end == End::Refused(TurnRefusal::Device) {
+            return Err(OfficeFault::Refused(TurnRefusal::Device));
+        }
+    }
+    Ok(())
+}
+
+// Why the first station was refused its turn that was. No other end needs to be told: a station ends as `Stopped` only
+// after another one ended, and as `Tries` only after 2^64 - 1 refusals in a row.
+fn refusal_of<'a>(stations: &[StationDay]) -> Result<(), OfficeFault<'a>>
+    ensures none { OnOk result (NoneWasRefused stations.now) }
+    ensures refused { IfErr result (TellsRefusal stations.now) }
+{
+    for day in stations {
+        if let Some(refusal) = reason_of(day.end) {
+            return Err(OfficeFault::Refused(refusal));
+        }
+    }
+    Ok(())
+}
+
+// Why a station was refused its last turn, if it ended by that.
+fn reason_of(end: End) -> Option<TurnRefusal>
+    ensures { result ≡ reason_of end }
+{
+    match end {
+        End::Refused(reason) => Some(reason),
+        End::NotStarted | End::Reached | End::Stopped | End::Tries | End::Closed => None,
+    }
+}

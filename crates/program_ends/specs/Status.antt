@@ -1,0 +1,76 @@
+-- By which status a program ends, for what it was refused by: by one of a rule, or by one of a failure.
+use Rattle.std.specs.Prelude.{ℕ}
+use Rattle.gate_journal.specs.declared.refusals.FormatRefusal.{FormatRefusal}
+use Rattle.gate_journal.specs.declared.refusals.FormatRefusal.TheVariants as format
+use Rattle.journal_recovery.specs.declared.refusals.OpenRefusal.{OpenRefusal}
+use Rattle.journal_recovery.specs.declared.refusals.OpenRefusal.TheVariants as opening
+use Rattle.journal_recovery.specs.declared.migration.MigrateRefusal.{MigrateRefusal}
+use Rattle.journal_recovery.specs.declared.migration.MigrateRefusal.TheVariants as migration
+use Rattle.turn_clerk.specs.declared.refusals.TurnRefusal.{TurnRefusal}
+use Rattle.turn_clerk.specs.declared.refusals.TurnRefusal.TheVariants as turn
+use Rattle.file_device.specs.declared.refusal.DeviceRefusal.{DeviceRefusal}
+use Rattle.file_device.specs.declared.refusal.DeviceRefusal.TheVariants as device
+use Rattle.file_device.specs.declared.refusal.DiskFault.{DiskFault}
+use Rattle.file_device.specs.declared.refusal.DiskFault.TheVariants as disk
+use Rattle.ledger_file.specs.declared.refusal.LedgerRefusal.{LedgerRefusal}
+use Rattle.ledger_file.specs.declared.refusal.LedgerRefusal.TheVariants as ledger
+use Rattle.ledger_file.specs.declared.refusal.CopyRefusal.{CopyRefusal}
+use Rattle.ledger_file.specs.declared.refusal.CopyRefusal.TheVariants as copy
+use Rattle.program_ends.specs.declared.status.Status.{Status}
+use Rattle.program_ends.specs.declared.status.Status.TheVariants.{Done, Refused, WrongWords, Failed}
+
+-- the status as a number, of `derbyfig`
+abbrev pub code_of : Status → ℕ
+code_of Done = 0
+code_of Refused = 1
+code_of WrongWords = 2
+code_of Failed = 3
+
+-- and of `turn_console`, which doesn't tell a rule from a failure
+abbrev pub console_code_of : Status → ℕ
+console_code_of Done = 0
+console_code_of WrongWords = 2
+console_code_of _ = 1
+
+-- where memory or the device fails nothing is known of the ledger, and every other refusal says that there is none
+abbrev pub of_opening : OpenRefusal → Status
+of_opening opening.Memory = Failed
+of_opening opening.Device = Failed
+of_opening _ = Refused
+
+-- a device that fails is no matter of rules
+abbrev pub of_format : FormatRefusal → Status
+of_format format.Device = Failed
+of_format _ = Refused
+
+abbrev pub of_migration : MigrateRefusal → Status
+of_migration (migration.Source refusal) = of_opening refusal
+of_migration migration.Target = Failed
+of_migration _ = Refused
+
+abbrev pub of_turn : TurnRefusal → Status
+of_turn turn.Memory = Failed
+of_turn turn.Device = Failed
+of_turn turn.Faulted = Failed
+of_turn _ = Refused
+
+-- a disk that can't be had fails, one that isn't taken is refused
+abbrev pub of_disk : DiskFault → Status
+of_disk disk.Denied = Failed
+of_disk disk.InUse = Failed
+of_disk _ = Refused
+
+abbrev pub of_device : DeviceRefusal → Status
+of_device (device.File fault) = Failed
+of_device (device.Disk fault) = of_disk fault
+
+-- a path where nothing is fails, and what is there and isn't taken is refused
+abbrev pub of_ledger : LedgerRefusal → Status
+of_ledger (ledger.Device refusal) = of_device refusal
+of_ledger (ledger.Format refusal) = of_format refusal
+of_ledger ledger.Missing = Failed
+of_ledger _ = Refused
+
+abbrev pub of_copy : CopyRefusal → Status
+of_copy (copy.Target refusal) = of_ledger refusal
+of_copy (copy.Migrate refusal) = of_migration refusal

@@ -1,0 +1,181 @@
+//! The statuses that programs end with.
+ghost use Rattle.std.specs.Prelude.{◌≡◌, ◌≤◌};
+ghost use Rattle.program_ends.specs.Status.{code_of, console_code_of};
+
+use file_device::{DeviceRefusal, DiskFault};
+use gate_journal::FormatRefusal;
+use journal_recovery::{MigrateRefusal, OpenRefusal};
+use ledger_file::{CopyRefusal, LedgerRefusal};
+use turn_clerk::TurnRefusal;
+
+/// How a program ended.
+#[derive(Clone, Copy, Debug, PartialEq, Eq)]
+pub enum Status {
+    /// It did what was asked for, or gave help.
+    Done,
+    /// There is no sound ledger, or what was asked for is refused by a rule.
+    Refused,
+    /// The words of the command line are wrong.
+    WrongWords,
+    /// The file, the device, memory or a stream failed.
+    Failed,
+}
+
+impl Status {
+    /// The status of `derbyfig`: 0 to 3, in the order of the variants.
+    pub fn code(self) -> u8
+        ensures code { result ≡ code_of self }
+        ensures most { result ≤ 3 }
+    {
+        match self {
+            Status::Done => 0,
+            Status::Refused => 1,
+            Status::WrongWords => 2,
+            Status::Failed => 3,
+        }
+    }
+
+    /// The status of `turn_console`: 1 after any fault.
+    pub fn console_code(self) -> u8
+        ensures code { result ≡ console_code_of self }
+        ensures most { result ≤ 2 }
+    {
+        match self {
+            Status::Done => 0,
+            Status::Refused | Status::Failed => 1,
+            Status::WrongWords => 2,
+        }
+    }
+}
+
+/// Where memory or the device fails, nothing is known; every other refusal says that there is no ledger.
+impl From<OpenRefusal> for Status {
+    ghost use Rattle.std.specs.Prelude.{◌≡◌};
+    ghost use Rattle.program_ends.specs.Status.{of_opening};
+
+    ghost from_gives = { λ refusal status. status ≡ of_opening refusal };
+
+    fn from(refusal: OpenRefusal) -> Status {
+        match refusal {
+            OpenRefusal::Memory | OpenRefusal::Device => Status::Failed,
+            OpenRefusal::Unformatted
+            | OpenRefusal::Version(_)
+            | OpenRefusal::Size
+            | OpenRefusal::Damaged { .. } => Status::Refused,
+        }
+    }
+}
+
+/// A device that fails is no matter of rules.
+impl From<FormatRefusal> for Status {
+    ghost use Rattle.std.specs.Prelude.{◌≡◌};
+    ghost use Rattle.program_ends.specs.Status.{of_format};
+
+    ghost from_gives = { λ refusal status. status ≡ of_format refusal };
+
+    fn from(refusal: FormatRefusal) -> Status {
+        match refusal {
+            FormatRefusal::TooManySlots | FormatRefusal::TooSmall => Status::Refused,
+            FormatRefusal::Device => Status::Failed,
+        }
+    }
+}
+
+/// The older ledger's refusal is that of its opening.
+impl From<MigrateRefusal> for Status {
+    ghost use Rattle.std.specs.Prelude.{◌≡◌};
+    ghost use Rattle.program_ends.specs.Status.{of_migration};
+
+    ghost from_gives = { λ refusal status. status ≡ of_migration refusal };
+
+    fn from(refusal: MigrateRefusal) -> Status {
+        match refusal {
+            MigrateRefusal::Source(refusal) => Status::from(refusal),
+            MigrateRefusal::TooManySlots | MigrateRefusal::TooSmall => Status::Refused,
+            MigrateRefusal::Target => Status::Failed,
+        }
+    }
+}
+
+/// An exhausted journal is one that a rule refuses a turn.
+impl From<TurnRefusal> for Status {
+    ghost use Rattle.std.specs.Prelude.{◌≡◌};
+    ghost use Rattle.program_ends.specs.Status.{of_turn};
+
+    ghost from_gives = { λ refusal status. status ≡ of_turn refusal };
+
+    fn from(refusal: TurnRefusal) -> Status {
+        match refusal {
+            TurnRefusal::Faulted | TurnRefusal::Memory | TurnRefusal::Device => Status::Failed,
+            TurnRefusal::NoStation
+            | TurnRefusal::NotPrivileged
+            | TurnRefusal::TooMany
+            | TurnRefusal::Exhausted => Status::Refused,
+        }
+    }
+}
+
+/// A disk that can't be had fails, one that isn't taken is refused.
+impl From<DiskFault> for Status {
+    ghost use Rattle.std.specs.Prelude.{◌≡◌};
+    ghost use Rattle.program_ends.specs.Status.{of_disk};
+
+    ghost from_gives = { λ refusal status. status ≡ of_disk refusal };
+
+    fn from(refusal: DiskFault) -> Status {
+        match refusal {
+            DiskFault::Denied | DiskFault::InUse => Status::Failed,
+            DiskFault::TooSmall | DiskFault::NoLedger | DiskFault::NoDisk => Status::Refused,
+        }
+    }
+}
+
+/// A file that can't be had fails.
+impl From<DeviceRefusal> for Status {
+    ghost use Rattle.std.specs.Prelude.{◌≡◌};
+    ghost use Rattle.program_ends.specs.Status.{of_device};
+
+    ghost from_gives = { λ refusal status. status ≡ of_device refusal };
+
+    fn from(refusal: DeviceRefusal) -> Status {
+        match refusal {
+            DeviceRefusal::File(_) => Status::Failed,
+            DeviceRefusal::Disk(fault) => Status::from(fault),
+        }
+    }
+}
+
+/// A path where nothing is fails, and what is there and isn't taken is refused.
+impl From<LedgerRefusal> for Status {
+    ghost use Rattle.std.specs.Prelude.{◌≡◌};
+    ghost use Rattle.program_ends.specs.Status.{of_ledger};
+
+    ghost from_gives = { λ refusal status. status ≡ of_ledger refusal };
+
+    fn from(refusal: LedgerRefusal) -> Status {
+        match refusal {
+            LedgerRefusal::Device(refusal) => Status::from(refusal),
+            LedgerRefusal::Format(refusal) => Status::from(refusal),
+            LedgerRefusal::Missing => Status::Failed,
+            LedgerRefusal::NoLedger
+            | LedgerRefusal::Part(_)
+            | LedgerRefusal::Held(_)
+            | LedgerRefusal::TooSmall { .. } => Status::Refused,
+        }
+    }
+}
+
+/// That of what was refused.
+impl From<CopyRefusal> for Status {
+    ghost use Rattle.std.specs.Prelude.{◌≡◌};
+    ghost use Rattle.program_ends.specs.Status.{of_copy};
+
+    ghost from_gives = { λ refusal status. status ≡ of_copy refusal };
+
+    fn from(refusal: CopyRefusal) -> Status {
+        match refusal {
+            CopyRefusal::Target(refusal) => Status::from(refusal),
+            CopyRefusal::Migrate(refusal) => Status::from(refusal),
+        }
+    }
+}

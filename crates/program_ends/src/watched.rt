@@ -1,0 +1,67 @@
+//! An output of which it is known whether its reader went away.
+ghost use Rattle.std.specs.Prelude.{◌≡◌, true, false};
+
+use crate::status::Status;
+use crate::telling::fail;
+use script_streams::WriteFault;
+use std::alloc::Global;
+use std::io;
+use std::io::{ErrorKind, Write};
+
+/// A writer of which is known whether it failed since nobody reads it any more.
+#[derive(Drop)]
+pub struct Watched<'a, W: Write> {
+    writer: &'a mut W,
+    closed: bool,
+}
+
+impl<'a, W: Write> Watched<'a, W> {
+    /// A writer that hasn't failed yet.
+    pub fn over(writer: &'a mut W) -> Watched<'a, W> {
+        Watched {
+            writer,
+            closed: false,
+        }
+    }
+
+    /// Whether a call was answered that the reader has closed its end.
+    pub fn is_closed(&self) -> bool {
+        self.closed
+    }
+
+    // Takes note of a call's answer.
+    fn note<T>(&mut self, answer: &io::Result<T>) {
+        if let Err(error) = answer {
+            if error.kind() == ErrorKind::BrokenPipe {
+                self.closed = true;
+            }
+        }
+    }
+}
+
+impl<W: Write> Write for Watched<'_, W> {
+    fn write(&mut self, buf: &[u8]) -> io::Result<usize> {
+        let answer = self.writer.write(buf);
+        self.note(&answer);
+        answer
+    }
+
+    fn flush(&mut self) -> io::Result<()> {
+        let answer = self.writer.flush();
+        self.note(&answer);
+        answer
+    }
+}
+
+/// How a program ends that couldn't write its output to the end: as `done` where the output's reader went away, since
+/// it has what it wanted; else it tells that, and failed.
+pub fn unwritten<E: Write>(alloc: Global, is_closed: bool, done: Status, errors: &mut E) -> Status
+    ensures closed { is_closed ≡ true → result ≡ done }
+    ensures failed { is_closed ≡ false → result ≡ Status.Failed }
+{
+    if is_closed {
+        done
+    } else {
+        fail(alloc, WriteFault, errors)
+    }
+}

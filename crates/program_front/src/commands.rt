@@ -1,0 +1,247 @@
+//! The commands of `derbyfig`, and what help says of them.
+ghost use Rattle.std.specs.Prelude.{◌≡◌, IfErr};
+ghost use Rattle.clap.specs.Values.{kind_of};
+ghost use Rattle.clap.specs.declared.error.kind.ErrorKind.TheVariants.{OutOfMemory};
+
+use crate::option_table::{
+    ACCOUNT, FORMAT, FROM, REFERENCE, SECTORS, SLOTS, STATIONS, flag, option,
+};
+use clap::{Arg, ArgAction, Command, Error};
+use ledger_inspection::Format;
+use office_engine::REQUESTS;
+use std::alloc::Global;
+
+/// The version of the programs, and the layout of the ledgers that they write.
+pub const VERSION: &str = "1.0.0, layout 3";
+
+const STATUSES: &str = "\
+The status is 0 when it is done, 1 if there is no sound ledger or a rule refuses what is asked, 2 if the words are wrong, and 3 if
+the file, the device, memory or a stream fails.
+";
+
+const SCRIPTS: &str = "\
+The script comes on standard input, a command a line; `turn_console --help` has the commands. Without FILE the device is in memory,
+with 64 sectors unless --sectors is given.
+";
+
+const SERVE: &str = "\
+A counter is a folder PATH with two named pipes, PATH/in and PATH/out, which its owner makes with mkfifo. It says a request a line on
+PATH/in, and reads an answer a line on PATH/out, in the order of its requests. What was answered as posted outlives a power failure.";
+
+const LOOKING: &str = "\
+FILE is never written. While it is looked at, no other program can write it, unless --unlocked is given.
+";
+
+/// All of them.
+pub(crate) fn derbyfig_command<'a>(alloc: Global) -> Result<Command<'a>, Error>
+    ensures memory { IfErr result (λ error. kind_of error ≡ OutOfMemory) }
+{
+    let command = Command::new(alloc, "derbyfig")
+        .about("A crash-safe ledger of accounts, which stations in a row share")
+        .after_help(STATUSES)
+        .version(VERSION)
+        .subcommand_required(true)
+        .subcommand(run(alloc)?)?
+        .subcommand(serve(alloc)?)?
+        .subcommand(check(alloc)?)?
+        .subcommand(journal(alloc)?)?
+        .subcommand(balances(alloc)?)?
+        .subcommand(map(alloc)?)?
+        .subcommand(format(alloc)?)?
+        .subcommand(migrate(alloc)?)?;
+    Ok(command)
+}
+
+fn run<'a>(alloc: Global) -> Result<Command<'a>, Error>
+    ensures memory { IfErr result (λ error. kind_of error ≡ OutOfMemory) }
+{
+    let file = positional(alloc, "FILE", "The file or the disk that has the ledger").required(
+        false,
+    );
+    let sectors = SECTORS.arg(
+        alloc,
+        "How many sectors of 512 bytes the device has at least, 1 to 4000039; with it a file is made, or grown",
+    );
+    let command = Command::new(alloc, "run")
+        .about("Run a script of commands on a device that can lose its power")
+        .after_help(SCRIPTS)
+        .arg(file)?
+        .arg(sectors)?;
+    Ok(command)
+}
+
+fn serve<'a>(alloc: Global) -> Result<Command<'a>, Error>
+    ensures memory { IfErr result (λ error. kind_of error ≡ OutOfMemory) }
+{
+    let command = Command::new(alloc, "serve")
+        .about("Keep a ledger open for counters that come and go")
+        .long_about(SERVE)
+        .after_help(REQUESTS)
+        .arg(positional(alloc, "FILE", "The file or the disk that has the ledger"))?
+        .arg(counter(alloc))?
+        .arg(flag(
+            alloc,
+            "terminal",
+            "The terminal is a counter too, behind the others; the office closes where its input ends",
+        ))?
+        .arg(STATIONS.arg(
+            alloc,
+            "How many stations there are, 2 to 64; without it one for each counter, but two at least",
+        ))?
+        .arg(FORMAT.arg(
+            alloc,
+            "First make an empty ledger of two banks with SLOTS slots each, 1 to 1000000; refused if FILE holds anything",
+        ))?
+        .arg(flag(
+            alloc,
+            "overwrite",
+            "With --format: FILE may hold anything, which is erased",
+        ))?
+        .arg(SECTORS.arg(
+            alloc,
+            "Grow FILE to K sectors of 512 bytes, 1 to 4000039, if it has fewer; a ledger needs 4 SLOTS + 39",
+        ))?;
+    Ok(command)
+}
+
+fn counter<'a>(alloc: Global) -> Arg<'a> {
+    option(
+        alloc,
+        "counter",
+        "PATH",
+        "The folder of a counter. The first is that of station 0, the next of station 1",
+    )
+    .action(ArgAction::Append)
+}
+
+fn check<'a>(alloc: Global) -> Result<Command<'a>, Error>
+    ensures memory { IfErr result (λ error. kind_of error ≡ OutOfMemory) }
+{
+    let quiet = flag(alloc, "quiet", "Print nothing: the status tells").short('q');
+    let about = "Tell whether the ledger is sound, its numbers, or where it is damaged";
+    Ok(command_on_ledger(alloc, "check", about)?.arg(quiet)?)
+}
+
+fn journal<'a>(alloc: Global) -> Result<Command<'a>, Error>
+    ensures memory { IfErr result (λ error. kind_of error ≡ OutOfMemory) }
+{
+    let about = "Print the records since the last checkpoint, and the balances after each";
+    let command = command_on_ledger(alloc, "journal", about)?
+        .arg(FROM.arg(
+            alloc,
+            "Only records with this sequence number or a later one",
+        ))?
+        .arg(ACCOUNT.arg(alloc, "Only records with an entry that names this account"))?
+        .arg(REFERENCE.arg(alloc, "Only records with an entry of this reference"))?
+        .arg(format_option(alloc))?
+        .arg(date_option(alloc))?;
+    Ok(command)
+}
+
+fn balances<'a>(alloc: Global) -> Result<Command<'a>, Error>
+    ensures memory { IfErr result (λ error. kind_of error ≡ OutOfMemory) }
+{
+    let about = "Print what the accounts hold, and their total";
+    let command = command_on_ledger(alloc, "balances", about)?
+        .arg(format_option(alloc))?
+        .arg(date_option(alloc))?;
+    Ok(command)
+}
+
+fn map<'a>(alloc: Global) -> Result<Command<'a>, Error>
+    ensures memory { IfErr result (λ error. kind_of error ≡ OutOfMemory) }
+{
+    let about =
+        "Draw the sectors as an SVG: what each is, which gates are open, and where it is damaged";
+    command_on_ledger(alloc, "map", about)
+}
+
+fn format<'a>(alloc: Global) -> Result<Command<'a>, Error>
+    ensures memory { IfErr result (λ error. kind_of error ≡ OutOfMemory) }
+{
+    let command = Command::new(alloc, "format")
+        .about("Make an empty ledger in a file, which is made if it isn't there, or on a disk")
+        .arg(positional(
+            alloc,
+            "FILE",
+            "The file or the disk; refused if it holds anything",
+        ))?
+        .arg(slots(alloc))?
+        .arg(flag(
+            alloc,
+            "overwrite",
+            "FILE may hold anything, which is erased",
+        ))?;
+    Ok(command)
+}
+
+fn migrate<'a>(alloc: Global) -> Result<Command<'a>, Error>
+    ensures memory { IfErr result (λ error. kind_of error ≡ OutOfMemory) }
+{
+    let command = Command::new(alloc, "migrate")
+        .about("Copy a ledger of layout 1 or 2 to another file or disk, in layout 3")
+        .arg(positional(
+            alloc,
+            "OLD",
+            "The file or the disk that has the older ledger; it is only read",
+        ))?
+        .arg(positional(
+            alloc,
+            "NEW",
+            "Where the copy goes: made if nothing is there, and refused if it holds anything",
+        ))?
+        .arg(slots(alloc))?
+        .arg(flag(alloc, "overwrite", "NEW may hold anything, which is erased"))?;
+    Ok(command)
+}
+
+// A command that looks at a ledger.
+fn command_on_ledger<'a>(alloc: Global, name: &'a str, about: &'a str) -> Result<Command<'a>, Error>
+    ensures memory { IfErr result (λ error. kind_of error ≡ OutOfMemory) }
+{
+    let unlocked = flag(
+        alloc,
+        "unlocked",
+        "Look even if another program has the file; what is printed may be torn",
+    );
+    let command = Command::new(alloc, name)
+        .about(about)
+        .after_help(LOOKING)
+        .arg(positional(alloc, "FILE", "The file, or the disk, that has the ledger"))?
+        .arg(unlocked)?;
+    Ok(command)
+}
+
+// A word without a name, which has to be there.
+fn positional<'a>(alloc: Global, name: &'a str, help: &'a str) -> Arg<'a> {
+    Arg::new(alloc, name)
+        .required(true)
+        .help(help)
+        .action(ArgAction::Set)
+}
+
+// How many slots a ledger gets that is made.
+fn slots<'a>(alloc: Global) -> Arg<'a> {
+    SLOTS
+        .arg(
+            alloc,
+            "How many slots each of the two banks has, 1 to 1000000; the ledger has 4K + 39 sectors of 512 bytes",
+        )
+        .required(true)
+}
+
+fn format_option<'a>(alloc: Global) -> Arg<'a> {
+    option(alloc, "as", "FORMAT", "How it is printed")
+        .value_parser(Format::NAMES)
+        .default_value("table")
+}
+
+fn date_option<'a>(alloc: Global) -> Arg<'a> {
+    option(
+        alloc,
+        "date",
+        "YYYY-MM-DD",
+        "The date of each transaction for hledger, since a ledger keeps no dates",
+    )
+    .default_value("1970-01-01")
+}

@@ -1,0 +1,78 @@
+//! Why `turn_console` ends early.
+ghost use Rattle.std.specs.Prelude.{◌≡◌};
+ghost use Rattle.program_front.specs.Faults.{of_device};
+
+use crate::faults::MigrationFault;
+use console_engine::ScriptFault;
+use file_device::{DeviceRefusal, DiskFault, FileRefusal};
+use journal_recovery::{MigrateRefusal, OpenRefusal};
+use thiserror::Error;
+
+/// A disk that was refused, and why.
+#[derive(Clone, Copy, Debug, PartialEq, Eq, Error)]
+#[error("{path} {fault}")]
+pub struct RefusedDisk<'a> {
+    /// Where it was looked for.
+    pub path: &'a str,
+    pub fault: DiskFault,
+}
+
+/// Why the program ended before its script did.
+#[derive(Clone, Copy, Debug, PartialEq, Eq, Error)]
+pub enum ProgramFault<'a> {
+    /// The file that is the device couldn't be opened, made or grown.
+    #[error("device failed")]
+    Device,
+    /// The disk that was to be the device was refused.
+    #[error("device failed: {0}")]
+    Disk(RefusedDisk<'a>),
+    /// The device wasn't made of an older one.
+    #[error("{0}")]
+    Migration(MigrationFault),
+    /// The script ended early.
+    #[error("{0}")]
+    Script(ScriptFault),
+}
+
+impl<'a> ProgramFault<'a> {
+    /// Out of memory.
+    pub const MEMORY: ProgramFault<'static> = ProgramFault::Script(ScriptFault::Memory);
+
+    // Of a device at this path.
+    pub(crate) fn of_device(path: &'a str, refusal: DeviceRefusal) -> ProgramFault<'a>
+        ensures { result ≡ of_device path.entry refusal }
+    {
+        match refusal {
+            DeviceRefusal::Disk(fault) => ProgramFault::Disk(RefusedDisk { path, fault }),
+            DeviceRefusal::File(_) => match FileRefusal::from(refusal) {
+                FileRefusal::Memory => ProgramFault::MEMORY,
+                FileRefusal::File => ProgramFault::Device,
+            },
+        }
+    }
+}
+
+impl From<ScriptFault> for ProgramFault<'_> {
+    ghost use Rattle.std.specs.Prelude.{◌≡◌};
+    ghost use Rattle.program_front.specs.declared.console_faults.ProgramFault.TheVariants.{Script};
+
+    ghost from_gives = { λ inner fault. fault ≡ Script inner };
+
+    fn from(fault: ScriptFault) -> Self {
+        ProgramFault::Script(fault)
+    }
+}
+
+impl From<MigrateRefusal> for ProgramFault<'_> {
+    ghost use Rattle.std.specs.Prelude.{◌≡◌};
+    ghost use Rattle.program_front.specs.Migration.{of_migration};
+
+    ghost from_gives = { λ refusal fault. fault ≡ of_migration refusal };
+
+    fn from(refusal: MigrateRefusal) -> Self {
+        match refusal {
+            MigrateRefusal::Source(OpenRefusal::Memory) => ProgramFault::MEMORY,
+            refusal => ProgramFault::Migration(MigrationFault::Refused(refusal)),
+        }
+    }
+}

@@ -1,0 +1,227 @@
+//! All of `derbyfig`, over the words and streams that it is handed.
+ghost use Rattle.std.specs.Prelude.{◌≡◌, ◌≢◌, ◌≤◌, ◌⊎◌, None, IfSome, OnOk};
+ghost use Rattle.clap.specs.Values.{kind_of};
+ghost use Rattle.clap.specs.declared.error.kind.ErrorKind.TheVariants.{DisplayHelp, DisplayVersion};
+ghost use Rattle.std.specs.Str.Lines.{lines};
+ghost use Rattle.console_engine.specs.Lines.{first_fault};
+
+use crate::faults::Fault;
+use crate::request::{Request, Running};
+use crate::words::read_request;
+use clap::Error;
+use console_engine::{ScriptFault, run_script};
+use file_device::{FileDevice, Locking, Making, ReadOnlyFile};
+use ledger_file::{Formatting, LedgerRefusal, copy_ledger, format_ledger, open_for_script};
+use ledger_inspection::inspect_file;
+use office_engine::{Serving, Terminal, serve};
+use program_ends::{Status, Watched, fail, tell_words, tell_wrong, unwritten};
+use script_streams::write_all;
+use sector_device::MemoryDevice;
+use std::alloc::Global;
+use std::fmt;
+use std::fs::{File, Files};
+use std::io::{Read, Write};
+use std::sync::Wait;
+use std::thread::Threads;
+use std::time::Clock;
+
+/// How many sectors a device in memory has, unless that is said.
+const IN_MEMORY: u64 = 64;
+
+/// Runs the program and gives its status, as [`Status::code`] has it. The first of the words is the program's name. A
+/// script, and what the terminal of an office says, come from the terminal's input. Answers go to the writer, what is
+/// told of faults and wrong words to `errors`, of which a fault is ignored; so does the progress of long work, if it is
+/// to be shown. The call may wait.
+pub fn run_derbyfig<
+    R: Files<File = File> + Threads + Wait + Clock + Sync + Send + Clone + Drop + 'static,
+    I: Read + Send + Drop + 'static,
+    O: Write + Send + Drop + 'static,
+    W: Write,
+    E: Write,
+>(
+    rt: &R,
+    alloc: Global,
+    words: &[&str],
+    terminal: Terminal<I, O>,
+    writer: &mut W,
+    errors: &mut E,
+    shows_progress: bool,
+) -> u8
+    ensures { result ≤ 3 }
+{
+    let request = match read_request(alloc, words) {
+        Ok(request) => request,
+        Err(error) => return tell_error(alloc, error, writer, errors).code(),
+    };
+    let status = match request {
+        Request::Run(running) => {
+            let mut terminal = terminal;
+            ended(
+                alloc,
+                run_on_device(rt, alloc, running, &mut terminal.input, writer),
+                errors,
+            )
+        }
+        Request::Serve(serving) => serve_counters(rt, alloc, &serving, terminal, writer, errors),
+        Request::Inspect(wish) => inspect_file(rt, alloc, &wish, writer, errors, shows_progress),
+        Request::Format { path, formatting } => {
+            ended(alloc, make(rt, alloc, path, formatting, writer), errors)
+        }
+        Request::Migrate {
+            old,
+            path,
+            formatting,
+        } => ended(
+            alloc,
+            copy(rt, alloc, old, path, formatting, writer),
+            errors,
+        ),
+    };
+    status.code()
+}
+
+// How a command ended, which is told if it is a fault.
+fn ended<E: Write>(alloc: Global, outcome: Result<(), Fault<'_>>, errors: &mut E) -> Status {
+    match outcome {
+        Ok(()) => Status::Done,
+        Err(fault) => {
+            let _ = fail(alloc, fault, errors);
+            fault.status()
+        }
+    }
+}
+
+/// Runs a script on the device that is asked for. A file has to be there, unless it is said how many sectors it has.
+///
+/// # Errors
+/// [`Fault`].
+pub fn run_on_device<'a, F: Files<File = File> + Threads + Wait + Sync, R: Read, W: Write>(
+    rt: &F,
+    alloc: Global,
+    running: Running<'a>,
+    reader: &mut R,
+    writer: &mut W,
+) -> Result<(), Fault<'a>>
+    // of a reader whose bytes are known: no line of the script is wrong
+    ensures sound { OnOk result (IfSome (R.remaining reader.old) (λ bytes.
+        first_fault 1 (lines bytes) ≡ None)) }
+{
+    let Some(path) = running.path else {
+        let sectors = running.sectors.unwrap_or(IN_MEMORY);
+        let device = MemoryDevice::new(alloc, sectors).map_err(ScriptFault::from)?;
+        run_script(rt, alloc, reader, writer, device)?;
+        return Ok(());
+    };
+    let device = device_for_script(rt, alloc, path, running.sectors)?;
+    run_script(rt, alloc, reader, writer, device)?;
+    Ok(())
+}
+
+// The device of a script.
+fn device_for_script<'a, F: Files<File = File>>(
+    rt: &F,
+    alloc: Global,
+    path: &'a str,
+    sectors: Option<u64>,
+) -> Result<FileDevice, Fault<'a>> {
+    let opened = match sectors {
+        Some(sectors) => open_for_script(rt, alloc, path, sectors, Making::IfMissing),
+        None => open_for_script(rt, alloc, path, 0, Making::Never),
+    };
+    match opened {
+        Ok(device) => Ok(device),
+        Err(refusal) => Err(Fault::of_ledger(path, LedgerRefusal::from(refusal))),
+    }
+}
+
+// Keeps an office open, if its words go together.
+fn serve_counters<
+    R: Files<File = File> + Threads + Wait + Clock + Sync + Send + Clone + Drop + 'static,
+    I: Read + Send + Drop + 'static,
+    O: Write + Send + Drop + 'static,
+    W: Write,
+    E: Write,
+>(
+    rt: &R,
+    alloc: Global,
+    serving: &Serving<'_>,
+    terminal: Terminal<I, O>,
+    writer: &mut W,
+    errors: &mut E,
+) -> Status {
+    let plan = match serving.plan() {
+        Ok(plan) => plan,
+        Err(wrong) => return tell_wrong(alloc, wrong, errors),
+    };
+    match serve(rt, alloc, serving, plan, terminal, writer) {
+        Ok(()) => Status::Done,
+        Err(fault) => ended(alloc, Err(Fault::Office(fault)), errors),
+    }
+}
+
+// Makes an empty ledger.
+fn make<'a, F: Files<File = File>, W: Write>(
+    rt: &F,
+    alloc: Global,
+    path: &'a str,
+    formatting: Formatting,
+    writer: &mut W,
+) -> Result<(), Fault<'a>> {
+    match format_ledger(rt, alloc, path, formatting) {
+        Ok(_) => say(
+            alloc,
+            format_args!("formatted {}", formatting.slots),
+            writer,
+        ),
+        Err(refusal) => Err(Fault::of_ledger(path, refusal)),
+    }
+}
+
+// Copies an older ledger, which is opened first, so that nothing is made if it isn't there.
+fn copy<'a, F: Files<File = File>, W: Write>(
+    rt: &F,
+    alloc: Global,
+    old: &'a str,
+    path: &'a str,
+    formatting: Formatting,
+    writer: &mut W,
+) -> Result<(), Fault<'a>> {
+    let older = match ReadOnlyFile::open(rt, alloc, old, Locking::Shared) {
+        Ok(older) => older,
+        Err(fault) => return Err(Fault::of_older(old, fault)),
+    };
+    match copy_ledger(rt, alloc, older, path, formatting) {
+        Ok(_) => say(alloc, format_args!("migrated {}", formatting.slots), writer),
+        Err(refusal) => Err(Fault::of_copy(path, refusal)),
+    }
+}
+
+// Says what was done on a line of its own.
+fn say<'a, L: fmt::Display + Drop, W: Write>(
+    alloc: Global,
+    line: L,
+    writer: &mut W,
+) -> Result<(), Fault<'a>> {
+    let text = format!(in alloc; "{line}\n").map_err(ScriptFault::from)?;
+    match write_all(writer, text.as_bytes()) {
+        Ok(()) => Ok(()),
+        Err(_) => Err(Fault::Script(ScriptFault::Write)),
+    }
+}
+
+/// Writes what `clap` answers to wrong words, or to the wish for help or the version.
+pub(crate) fn tell_error<W: Write, E: Write>(
+    alloc: Global,
+    error: Error,
+    writer: &mut W,
+    errors: &mut E,
+) -> Status
+    ensures wrong { kind_of error ≢ DisplayHelp → kind_of error ≢ DisplayVersion
+        → (result ≡ Status.WrongWords) ⊎ (result ≡ Status.Failed) }
+{
+    let mut output = Watched::over(writer);
+    match tell_words(alloc, error, &mut output, errors) {
+        Ok(status) => status,
+        Err(_) => unwritten(alloc, output.is_closed(), Status::Done, errors),
+    }
+}

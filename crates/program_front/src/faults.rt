@@ -1,0 +1,134 @@
+//! Why a command of `derbyfig` ends early.
+ghost use Rattle.std.specs.Prelude.{◌≡◌};
+ghost use Rattle.program_ends.specs.Status.{of_ledger, of_copy};
+ghost use Rattle.program_front.specs.Statuses.{status_of};
+
+use console_engine::ScriptFault;
+use file_device::FileFault;
+use journal_recovery::{MigrateRefusal, OpenName, OpenRefusal};
+use ledger_file::{CopyRefusal, LedgerRefusal};
+use office_engine::OfficeFault;
+use program_ends::Status;
+use std::fmt;
+use thiserror::Error;
+
+/// Why a ledger wasn't copied to another device.
+#[derive(Clone, Copy, Debug, PartialEq, Eq)]
+pub enum MigrationFault {
+    /// The device may hold postings, which would be lost.
+    NotEmpty,
+    /// The older device couldn't be read, or the device not written.
+    Refused(MigrateRefusal),
+}
+
+/// The name of the refusal, with that of the older device's behind it and its numbers.
+impl fmt::Display for MigrationFault {
+    fn fmt<W: fmt::Write>(&self, f: &mut fmt::Formatter<W>) -> fmt::Result {
+        write!(f, "migrate refused ")?;
+        match self {
+            MigrationFault::NotEmpty => write!(f, "{self:?}"),
+            MigrationFault::Refused(MigrateRefusal::Source(refusal)) => {
+                write!(f, "Source {}", OpenName(*refusal))
+            }
+            MigrationFault::Refused(refusal) => write!(f, "{refusal:?}"),
+        }
+    }
+}
+
+/// Why a command of `derbyfig` ended before it was done.
+#[derive(Clone, Copy, Debug, PartialEq, Eq, Error)]
+pub enum Fault<'a> {
+    /// The script ended early, or there is no memory, or the output can't be written.
+    #[error("{0}")]
+    Script(ScriptFault),
+    /// There is no ledger at the path that could be opened, or made.
+    #[error("{path}: {refusal}")]
+    Ledger {
+        path: &'a str,
+        refusal: LedgerRefusal,
+    },
+    /// An older ledger can't be looked at.
+    #[error("{path}: {fault}")]
+    Older {
+        path: &'a str,
+        fault: FileFault,
+    },
+    /// An older ledger wasn't copied.
+    #[error("{0}")]
+    Migration(MigrationFault),
+    /// An office wasn't kept open, or ended early.
+    #[error("{0}")]
+    Office(OfficeFault<'a>),
+}
+
+impl<'a> Fault<'a> {
+    /// Out of memory.
+    pub(crate) const MEMORY: Fault<'static> = Fault::Script(ScriptFault::Memory);
+
+    /// The status that the program ends with.
+    pub fn status(self) -> Status
+        ensures { result ≡ status_of self.entry }
+    {
+        match self {
+            Fault::Script(fault) => fault.status(),
+            Fault::Ledger { refusal, .. } => Status::from(refusal),
+            Fault::Migration(MigrationFault::Refused(refusal)) => Status::from(refusal),
+            Fault::Migration(MigrationFault::NotEmpty) => Status::Refused,
+            Fault::Office(fault) => fault.status(),
+            Fault::Older { .. } => Status::Failed,
+        }
+    }
+
+    // Of a path where there is no ledger. Out of memory is told as such.
+    pub(crate) fn of_ledger(path: &'a str, refusal: LedgerRefusal) -> Fault<'a>
+        ensures { status_of result ≡ of_ledger refusal }
+    {
+        if refusal.is_memory() {
+            return Fault::MEMORY;
+        }
+        Fault::Ledger { path, refusal }
+    }
+
+    // Of an older ledger that can't be looked at.
+    pub(crate) fn of_older(path: &'a str, fault: FileFault) -> Fault<'a>
+        ensures { status_of result ≡ Status.Failed }
+    {
+        match fault {
+            FileFault::Memory => Fault::MEMORY,
+            fault => Fault::Older { path, fault },
+        }
+    }
+
+    // Of a ledger that wasn't copied to a path.
+    pub(crate) fn of_copy(path: &'a str, refusal: CopyRefusal) -> Fault<'a>
+        ensures { status_of result ≡ of_copy refusal }
+    {
+        match refusal {
+            CopyRefusal::Target(refusal) => Fault::of_ledger(path, refusal),
+            CopyRefusal::Migrate(MigrateRefusal::Source(OpenRefusal::Memory)) => Fault::MEMORY,
+            CopyRefusal::Migrate(refusal) => Fault::Migration(MigrationFault::Refused(refusal)),
+        }
+    }
+}
+
+impl From<ScriptFault> for Fault<'_> {
+    ghost use Rattle.std.specs.Prelude.{◌≡◌};
+    ghost use Rattle.program_front.specs.declared.faults.Fault.TheVariants.{Script};
+
+    ghost from_gives = { λ inner fault. fault ≡ Script inner };
+
+    fn from(fault: ScriptFault) -> Self {
+        Fault::Script(fault)
+    }
+}
+
+impl<'a> From<OfficeFault<'a>> for Fault<'a> {
+    ghost use Rattle.std.specs.Prelude.{◌≡◌};
+    ghost use Rattle.program_front.specs.declared.faults.Fault.TheVariants.{Office};
+
+    ghost from_gives = { λ inner fault. fault ≡ Office inner };
+
+    fn from(fault: OfficeFault<'a>) -> Self {
+        Fault::Office(fault)
+    }
+}

@@ -1,0 +1,110 @@
+//! What both programs do with the system's words and streams.
+ghost use Rattle.std.specs.Prelude.{◌≡◌, ◌≤◌, ◌⊎◌, IsErr, IfOk, IfErr};
+ghost use Rattle.clap.specs.Values.{kind_of};
+ghost use Rattle.clap.specs.declared.error.kind.ErrorKind.TheVariants.{InvalidValue, OutOfMemory};
+
+use crate::commands::derbyfig_command;
+use crate::console_program::run_program;
+use crate::console_words::console_command;
+use crate::derbyfig::run_derbyfig;
+use crate::{console_program, derbyfig};
+use clap::error::ErrorKind;
+use clap::{Command, Error};
+use office_engine::Terminal;
+use program_ends::{OUT_OF_MEMORY, fail};
+use std::alloc::{Alloc, AllocError, Global};
+use std::env::Env;
+use std::fs::{File, Files};
+use std::io::{Read, Write};
+use std::sync::Wait;
+use std::thread::Threads;
+use std::time::Clock;
+use std::{env, io};
+
+/// The words of the command line, of which the first is the program's name.
+///
+/// # Errors
+/// One isn't UTF-8, or there is no memory.
+pub fn words_given<R: Env + Alloc<A = Global>>(rt: &R) -> io::Result<Vec<String>> {
+    let words = env::args(rt)?.collect(rt.alloc())?;
+    Ok(words)
+}
+
+/// Runs `turn_console` on the words that the system gave, if it did.
+pub fn run_console<F: Files<File = File> + Threads + Wait + Sync, R: Read, W: Write, E: Write>(
+    rt: &F,
+    alloc: Global,
+    given: io::Result<Vec<String>>,
+    reader: &mut R,
+    writer: &mut W,
+    errors: &mut E,
+) -> u8
+    ensures status { result ≤ 2 }
+    ensures wordless { IsErr given → (result ≡ 1) ⊎ (result ≡ 2) }
+{
+    match given {
+        Ok(words) => match as_texts(alloc, &words) {
+            Ok(texts) => run_program(rt, alloc, texts.as_slice(), reader, writer, errors),
+            Err(_) => fail(alloc, OUT_OF_MEMORY, errors).console_code(),
+        },
+        Err(fault) => {
+            let (Ok(error) | Err(error)) = wordless(&fault, console_command(alloc));
+            console_program::tell_error(alloc, error, writer, errors)
+        }
+    }
+}
+
+/// Runs `derbyfig` on the words that the system gave, if it did.
+pub fn run_derbyfig_words<
+    R: Files<File = File> + Threads + Wait + Clock + Sync + Send + Clone + Drop + 'static,
+    I: Read + Send + Drop + 'static,
+    O: Write + Send + Drop + 'static,
+    W: Write,
+    E: Write,
+>(
+    rt: &R,
+    alloc: Global,
+    given: io::Result<Vec<String>>,
+    terminal: Terminal<I, O>,
+    writer: &mut W,
+    errors: &mut E,
+    shows_progress: bool,
+) -> u8
+    ensures status { result ≤ 3 }
+    ensures wordless { IsErr given → (result ≡ 2) ⊎ (result ≡ 3) }
+{
+    match given {
+        Ok(words) => match as_texts(alloc, &words) {
+            Ok(texts) => {
+                let texts = texts.as_slice();
+                run_derbyfig(rt, alloc, texts, terminal, writer, errors, shows_progress)
+            }
+            Err(_) => fail(alloc, OUT_OF_MEMORY, errors).code(),
+        },
+        Err(fault) => {
+            let (Ok(error) | Err(error)) = wordless(&fault, derbyfig_command(alloc));
+            derbyfig::tell_error(alloc, error, writer, errors).code()
+        }
+    }
+}
+
+fn as_texts<'a>(alloc: Global, words: &'a [String]) -> Result<Vec<&'a str>, AllocError> {
+    words.iter().map(|word| word.as_str()).collect(alloc)
+}
+
+// What `clap` would answer to words that aren't there: one isn't UTF-8, or there is no memory.
+fn wordless(fault: &io::Error, command: Result<Command<'_>, Error>) -> Result<Error, Error>
+    requires memory { IfErr command (λ error. kind_of error ≡ OutOfMemory) }
+    ensures made { IfOk result (λ error. kind_of error ≡ InvalidValue) }
+    ensures memory { IfErr result (λ error. kind_of error ≡ OutOfMemory) }
+{
+    if fault.kind() == io::ErrorKind::OutOfMemory {
+        return Err(Error::from(AllocError));
+    }
+    let mut command = command?;
+    let error = command.error(
+        ErrorKind::InvalidValue,
+        "invalid UTF-8 was detected in one or more arguments",
+    )?;
+    Ok(error)
+}

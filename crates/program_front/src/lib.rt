@@ -1,0 +1,37 @@
+//! What the programs do with the words of their command lines: they read them, open the file, have an engine do what is
+//! asked for, and tell how that ended.
+//!
+//! [`run_derbyfig`] is all of `derbyfig`, and [`run_console`] all of `turn_console`. [`run_program`] and [`options`]
+//! are the parts of the latter that take words.
+//!
+//! The test `each_command_has_its_words` in `src/words.rt` of the crate `front_tests` is an example.
+#![tactic(auto)]
+
+mod commands;
+mod console_faults;
+mod console_program;
+mod console_settings;
+mod console_words;
+mod derbyfig;
+mod faults;
+mod host;
+mod migration;
+mod option_table;
+mod request;
+mod words;
+
+pub use commands::VERSION;
+pub use console_engine::{LineFault, ScriptFault};
+pub use console_faults::{ProgramFault, RefusedDisk};
+pub use console_program::run_program;
+pub use console_settings::{Options, Plan, Target, Upgrade, WrongWords};
+pub use console_words::options;
+pub use derbyfig::{run_derbyfig, run_on_device};
+pub use faults::{Fault, MigrationFault};
+pub use host::{run_console, run_derbyfig_words, words_given};
+pub use ledger_file::{DeviceRefusal, DiskFault, FileFault, Formatting, LedgerRefusal};
+pub use ledger_inspection::{Date, Format, Inspection, JournalWish, Locking, Selection, Task};
+pub use office_engine::{Serving, Terminal};
+pub use program_ends::Status;
+pub use request::{Request, Running};
+pub use words::read_request;

@@ -1,0 +1,35 @@
+//! What `derbyfig` is asked for.
+use ledger_file::Formatting;
+use ledger_inspection::Inspection;
+use office_engine::Serving;
+
+/// What the words of `derbyfig` ask for.
+#[derive(Debug, Drop)]
+pub enum Request<'a> {
+    /// To run a script.
+    Run(Running<'a>),
+    /// To keep an office open.
+    Serve(Serving<'a>),
+    /// To look at a ledger.
+    Inspect(Inspection<'a>),
+    /// To make an empty ledger at this path.
+    Format {
+        path: &'a str,
+        formatting: Formatting,
+    },
+    /// To copy the ledger of an older file to this path.
+    Migrate {
+        old: &'a str,
+        path: &'a str,
+        formatting: Formatting,
+    },
+}
+
+/// A script that is to be run.
+#[derive(Clone, Copy, Debug)]
+pub struct Running<'a> {
+    /// The path of the file or the disk that is the device; without one it is in memory.
+    pub path: Option<&'a str>,
+    /// How many sectors the device has at least, if that is said: 1 to 4,000,039.
+    pub sectors: Option<u64>,
+}

@@ -1,0 +1,222 @@
+//! The words of `derbyfig`.
+ghost use Rattle.std.specs.Prelude.{◌≤◌, IfOk, IfSome};
+ghost use Rattle.std.specs.Int.NonZero.{non_zero_u64_get};
+ghost use Rattle.program_front.specs.Requests.{IsWithin};
+
+use crate::commands::derbyfig_command;
+use crate::option_table::{ACCOUNT, FORMAT, FROM, OutOfRange, REFERENCE, SECTORS, SLOTS, STATIONS};
+use crate::request::{Request, Running};
+use clap::error::ErrorKind;
+use clap::{ArgMatches, Error};
+use ledger_file::Formatting;
+use ledger_inspection::{Date, Format, Inspection, JournalWish, Locking, Selection, Task};
+use office_engine::Serving;
+use std::alloc::{AllocError, AllocFailed, Global};
+use std::num::NonZeroU64;
+use thiserror::Error as Sentence;
+
+/// What the words ask for, of which the first is the program's name; or what `clap` answers to wrong words, to the wish
+/// for help or the version, and if there is no memory.
+///
+/// # Errors
+/// What `clap` answers to wrong words, to the wish for help or the version, and out of memory.
+pub fn read_request<'a>(alloc: Global, words: &'a [&'a str]) -> Result<Request<'a>, Error>
+    ensures within { IfOk result IsWithin }
+{
+    let mut command = derbyfig_command(alloc)?;
+    let matches = command.try_get_matches_from_mut(words)?;
+    match requested(alloc, &matches) {
+        Ok(request) => Ok(request),
+        Err(WrongWord::Memory) => Err(Error::from(AllocError)),
+        Err(wrong) => {
+            let sentence = format!(in alloc; "{wrong}")?;
+            Err(command.error(ErrorKind::InvalidValue, sentence.as_str())?)
+        }
+    }
+}
+
+// What is wrong with words that `clap` let through.
+#[derive(Clone, Copy, Debug, PartialEq, Eq, Drop, Sentence)]
+enum WrongWord {
+    #[error("out of memory")]
+    Memory,
+    #[error("there is no such command")]
+    NoCommand,
+    #[error("there is no such format")]
+    NoFormat,
+    #[error("a date has the form YYYY-MM-DD, and is a day of the calendar")]
+    NoDate,
+    #[error("a number is out of range")]
+    OutOfRange,
+    #[error("NEW is OLD; take another path")]
+    OnePath,
+}
+
+impl From<OutOfRange> for WrongWord {
+    fn from(_: OutOfRange) -> WrongWord {
+        WrongWord::OutOfRange
+    }
+}
+
+impl<T: Drop> From<AllocFailed<T>> for WrongWord {
+    fn from(_: AllocFailed<T>) -> WrongWord {
+        WrongWord::Memory
+    }
+}
+
+fn requested<'a>(alloc: Global, matches: &ArgMatches<'a>) -> Result<Request<'a>, WrongWord>
+    ensures within { IfOk result IsWithin }
+{
+    let (name, options) = matches.subcommand().ok_or(WrongWord::NoCommand)?;
+    match name {
+        "run" => running(options),
+        "serve" => serving(alloc, options),
+        "format" => making(options),
+        "migrate" => migration(options),
+        _ => inspection(name, options),
+    }
+}
+
+// A path that has to be there.
+fn path<'a>(options: &ArgMatches<'a>, name: &str) -> Result<&'a str, WrongWord> {
+    options.get_str(name).ok_or(WrongWord::NoCommand)
+}
+
+fn running<'a>(options: &ArgMatches<'a>) -> Result<Request<'a>, WrongWord>
+    ensures within { IfOk result IsWithin }
+{
+    let sectors = SECTORS.given(options)?;
+    Ok(Request::Run(Running {
+        path: options.get_str("FILE"),
+        sectors,
+    }))
+}
+
+fn serving<'a>(alloc: Global, options: &ArgMatches<'a>) -> Result<Request<'a>, WrongWord>
+    ensures within { IfOk result IsWithin }
+{
+    let path = path(options, "FILE")?;
+    let sectors = SECTORS.given(options)?;
+    let stations = STATIONS.given(options)?;
+    let format = slots(FORMAT.given(options)?);
+    let mut counters = Vec::new(alloc);
+    if let Some(folders) = options.get_strs("counter") {
+        for folder in folders {
+            counters.push(*folder)?;
+        }
+    }
+    Ok(Request::Serve(Serving {
+        path,
+        sectors,
+        counters,
+        terminal: options.get_flag("terminal"),
+        stations,
+        format,
+        overwrite: options.get_flag("overwrite"),
+    }))
+}
+
+fn making<'a>(options: &ArgMatches<'a>) -> Result<Request<'a>, WrongWord>
+    ensures within { IfOk result IsWithin }
+{
+    let path = path(options, "FILE")?;
+    let formatting = formatting(options)?;
+    Ok(Request::Format { path, formatting })
+}
+
+// The slots that are asked for, of which there is one at least.
+fn slots(number: Option<u64>) -> Option<NonZeroU64>
+    ensures most { IfSome number (λ count. count ≤ 1000000)
+        → IfSome result (λ slots. non_zero_u64_get slots ≤ 1000000) }
+{
+    NonZeroU64::new(number?)
+}
+
+fn formatting(options: &ArgMatches<'_>) -> Result<Formatting, WrongWord>
+    ensures slots { IfOk result (λ formatting. non_zero_u64_get formatting.slots ≤ 1000000) }
+{
+    Ok(Formatting {
+        slots: slots(SLOTS.given(options)?).ok_or(WrongWord::OutOfRange)?,
+        sectors: 0,
+        overwrite: options.get_flag("overwrite"),
+    })
+}
+
+fn migration<'a>(options: &ArgMatches<'a>) -> Result<Request<'a>, WrongWord>
+    ensures within { IfOk result IsWithin }
+{
+    let (old, path) = (path(options, "OLD")?, path(options, "NEW")?);
+    if old == path {
+        return Err(WrongWord::OnePath);
+    }
+    let formatting = formatting(options)?;
+    Ok(Request::Migrate {
+        old,
+        path,
+        formatting,
+    })
+}
+
+fn inspection<'a>(name: &str, options: &ArgMatches<'a>) -> Result<Request<'a>, WrongWord>
+    ensures within { IfOk result IsWithin }
+{
+    let path = path(options, "FILE")?;
+    let task = task(name, options)?;
+    let locking = if options.get_flag("unlocked") {
+        Locking::Unlocked
+    } else {
+        Locking::Shared
+    };
+    Ok(Request::Inspect(Inspection {
+        path,
+        locking,
+        task,
+    }))
+}
+
+fn task(name: &str, options: &ArgMatches<'_>) -> Result<Task, WrongWord> {
+    match name {
+        "check" => Ok(Task::Check {
+            quiet: options.get_flag("quiet"),
+        }),
+        "journal" => Ok(Task::Journal(JournalWish {
+            selection: selection(options)?,
+            format: format(options)?,
+            date: date(options)?,
+        })),
+        "balances" => Ok(Task::Balances {
+            format: format(options)?,
+            date: date(options)?,
+        }),
+        "map" => Ok(Task::Map),
+        _ => Err(WrongWord::NoCommand),
+    }
+}
+
+fn selection(options: &ArgMatches<'_>) -> Result<Selection, WrongWord> {
+    Ok(Selection {
+        from: FROM.given(options)?.unwrap_or(0),
+        account: account(options)?,
+        reference: REFERENCE.given(options)?,
+    })
+}
+
+fn account(options: &ArgMatches<'_>) -> Result<Option<u32>, WrongWord> {
+    match ACCOUNT.given(options)? {
+        Some(number) => match u32::try_from(number) {
+            Ok(account) => Ok(Some(account)),
+            Err(_) => Err(WrongWord::OutOfRange),
+        },
+        None => Ok(None),
+    }
+}
+
+fn format(options: &ArgMatches<'_>) -> Result<Format, WrongWord> {
+    let name = options.get_str("as").ok_or(WrongWord::NoFormat)?;
+    Format::named(name).ok_or(WrongWord::NoFormat)
+}
+
+fn date(options: &ArgMatches<'_>) -> Result<Date, WrongWord> {
+    let text = options.get_str("date").ok_or(WrongWord::NoDate)?;
+    text.parse::<Date>().or(Err(WrongWord::NoDate))
+}

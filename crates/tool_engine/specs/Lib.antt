@@ -1,2 +1,0 @@
-pub mod End
-pub mod Verdict
