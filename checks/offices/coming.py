@@ -1,4 +1,5 @@
 """Counters that come and go, that don't listen, that never end a line, and that close the office."""
+import contextlib
 
 from office import await_until, require, require_same
 from talking import require_closed
@@ -102,7 +103,8 @@ def close_at_once(case):
     with case.formatted(clients, 4) as office:
         office.opened(*clients)
         one.say(b"close\ndeposit 1 1\ndeposit 1 1 50\nbalance 1\n# none\nseal 2\n")
-        other.say(b"close\ndeposit 1 1\n")
+        with contextlib.suppress(BrokenPipeError):  # where the office has ended by then
+            other.say(b"close\ndeposit 1 1\n")
         unanswered = office.closed()
         require_closed(office, 2, 0)
         told = one.hear_rest() + other.hear_rest()
