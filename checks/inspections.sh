@@ -240,7 +240,7 @@ options() {
 }
 for command in "" run serve check journal balances map format migrate; do
     "$derbyfig" $command --help
-done | sed 's/`turn_console --help`//' | options > helped
+done | options > helped
 sed 's/\\-/-/g' "$man/derbyfig.1" | options | diff helped - || { echo "docs/man/derbyfig.1: other options"; exit 1; }
 "$console" --help | options > helped
 sed 's/\\-/-/g' "$man/turn_console.1" | options | diff helped - || { echo "docs/man/turn_console.1: other options"; exit 1; }

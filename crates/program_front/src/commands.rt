@@ -3,6 +3,7 @@ ghost use Rattle.std.specs.Prelude.{◌≡◌, IfErr};
 ghost use Rattle.clap.specs.Values.{kind_of};
 ghost use Rattle.clap.specs.declared.error.kind.ErrorKind.TheVariants.{OutOfMemory};
 
+use crate::console_words::SCRIPT;
 use crate::option_table::{
     ACCOUNT, FORMAT, FROM, REFERENCE, SECTORS, SLOTS, STATIONS, flag, option,
 };
@@ -15,18 +16,19 @@ use std::alloc::Global;
 pub const VERSION: &str = "1.0.0, layout 3";
 
 const STATUSES: &str = "\
-The status is 0 when it is done, 1 if there is no sound ledger or a rule refuses what is asked, 2 if the words are wrong, and 3 if
-the file, the device, memory or a stream fails.
-";
-
-const SCRIPTS: &str = "\
-The script comes on standard input, a command a line; `turn_console --help` has the commands. Without FILE the device is in memory,
-with 64 sectors unless --sectors is given.
+The status is 0 when it is done, 1 if there is no sound ledger or a rule refuses what is asked, 2 if the words are wrong,
+and 3 if the file, the device, memory or a stream fails.
 ";
 
 const SERVE: &str = "\
-A counter is a folder PATH with two named pipes, PATH/in and PATH/out, which its owner makes with mkfifo. It says a request a line on
-PATH/in, and reads an answer a line on PATH/out, in the order of its requests. What was answered as posted outlives a power failure.";
+Keep a ledger open for counters that come and go.
+
+A counter is a folder PATH with two named pipes, PATH/in and PATH/out, which its owner makes with mkfifo. It says a request
+a line on PATH/in, and reads an answer a line on PATH/out, in the order of its requests. Answers are 'posted N R', where N
+is the number of the batch, 'refused REASON R', 'undecided R', 'balance A M', 'refused NoAccount', 'unknown since N',
+'wrong TEXT' and 'closing'. What was answered as posted outlives a power failure.";
+
+const FILE: &str = "The file or the disk that has the ledger";
 
 const LOOKING: &str = "\
 FILE is never written. While it is looked at, no other program can write it, unless --unlocked is given.
@@ -55,16 +57,16 @@ pub(crate) fn derbyfig_command<'a>(alloc: Global) -> Result<Command<'a>, Error>
 fn run<'a>(alloc: Global) -> Result<Command<'a>, Error>
     ensures memory { IfErr result (λ error. kind_of error ≡ OutOfMemory) }
 {
-    let file = positional(alloc, "FILE", "The file or the disk that has the ledger").required(
-        false,
-    );
+    let file = positional(alloc, "FILE", FILE).required(false);
     let sectors = SECTORS.arg(
         alloc,
-        "How many sectors of 512 bytes the device has at least, 1 to 4000039; with it a file is made, or grown",
+        "How many sectors of 512 bytes the device has at least, 1 to 4000039: a file is made, or grown; 64 in memory without it",
     );
     let command = Command::new(alloc, "run")
-        .about("Run a script of commands on a device that can lose its power")
-        .after_help(SCRIPTS)
+        .about(
+            "Run a script of commands on a device that can lose its power, which is in memory without FILE",
+        )
+        .after_help(SCRIPT)
         .arg(file)?
         .arg(sectors)?;
     Ok(command)
@@ -77,7 +79,7 @@ fn serve<'a>(alloc: Global) -> Result<Command<'a>, Error>
         .about("Keep a ledger open for counters that come and go")
         .long_about(SERVE)
         .after_help(REQUESTS)
-        .arg(positional(alloc, "FILE", "The file or the disk that has the ledger"))?
+        .arg(positional(alloc, "FILE", FILE))?
         .arg(counter(alloc))?
         .arg(flag(
             alloc,
@@ -207,7 +209,7 @@ fn command_on_ledger<'a>(alloc: Global, name: &'a str, about: &'a str) -> Result
     let command = Command::new(alloc, name)
         .about(about)
         .after_help(LOOKING)
-        .arg(positional(alloc, "FILE", "The file, or the disk, that has the ledger"))?
+        .arg(positional(alloc, "FILE", FILE))?
         .arg(unlocked)?;
     Ok(command)
 }

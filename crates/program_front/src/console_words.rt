@@ -11,7 +11,8 @@ use clap::error::ErrorKind;
 use clap::{Arg, Command, Error};
 use std::alloc::Global;
 
-const HELP: &str = "\
+/// What a script may say.
+pub(crate) const SCRIPT: &str = "\
 The script comes on standard input, one command a line, and is read to its end before its first line runs:
   format K                    make the device an empty journal of two banks with K slots each, which takes 4K + 39 sectors;
                               what is there is erased
@@ -105,7 +106,7 @@ pub(crate) fn console_command<'a>(alloc: Global) -> Result<Command<'a>, Error>
     );
     let command = Command::new(alloc, "turn_console")
         .about("A ledger that stations in a row share, on a device that can lose its power")
-        .after_help(HELP)
+        .after_help(SCRIPT)
         .arg(device)?
         .arg(sectors_of(alloc))?
         .arg(migrate)?
