@@ -1,5 +1,5 @@
 //! Files and disks that are open and locked, and not yet devices.
-ghost use Rattle.std.specs.Prelude.{◌≡◌, ◌≢◌, ◌*◌, ◌<◌, ◌≤◌, ◌^◌, false, true, max, length, vec_len, None, Ok, IfOk, OnOk};
+ghost use Rattle.std.specs.Prelude.{◌≡◌, ◌*◌, ◌<◌, ◌≤◌, ◌^◌, false, true, max, length, vec_len, None, IsSome, IfOk, OnOk};
 ghost use Rattle.file_device.specs.ReadBuffer.{IsEmpty};
 ghost use Rattle.file_device.specs.LockedFile.{LockedState};
 
@@ -17,7 +17,6 @@ use crate::sector_file::SectorFile;
 use sector_device::{SECTOR, Sector};
 use std::alloc::Global;
 use std::fs::Files;
-use std::io;
 use std::marker::Model;
 use std::os::unix::fs::FileExt;
 
@@ -40,6 +39,7 @@ pub struct Wanted {
 pub struct LockedFile<'a, F: DeviceFile> {
     path: &'a str,
     opened: Opened<F>,
+    number: FileNumber,
     sectors: u64,
     is_disk: bool,
     buffer: ReadBuffer,
@@ -85,6 +85,7 @@ impl<'a, F: DeviceFile + Drop> LockedFile<'a, F> {
         Ok(LockedFile {
             path,
             opened,
+            number: FileNumber::of(&metadata),
             sectors,
             is_disk: disk.is_some(),
             buffer,
@@ -107,14 +108,12 @@ impl<'a, F: DeviceFile + Drop> LockedFile<'a, F> {
     }
 
     /// The file, if this opening made it, so that it can be taken back.
-    ///
-    /// # Errors
-    /// The system doesn't say which file it is.
-    pub fn made(&self) -> Result<Option<MadeFile<'a>>, DeviceRefusal>
-        ensures not_made { self.now.is_new ≡ false → result ≡ Ok None }
-        ensures made { self.now.is_new ≡ true → IfOk result (λ made. made ≢ None) }
+    pub fn made(&self) -> Option<MadeFile<'a>>
+        ensures not_made { self.now.is_new ≡ false → result ≡ None }
+        ensures made { self.now.is_new ≡ true → IsSome result }
     {
-        Ok(made_file(self.path, &self.opened)?)
+        let (path, number) = (self.path, self.number);
+        self.opened.is_new.then_some(MadeFile { path, number })
     }
 
     /// Its first sector, and zeros if it has none.
@@ -167,18 +166,21 @@ impl<'a, F: DeviceFile + Drop> LockedFile<'a, F> {
             (device.inner.failures ≡ 0) × (device.refused ≡ 0)) }
         ensures works { IfOk result (λ device. device.stopped ≡ false) }
     {
+        let made = self.made();
         let LockedFile {
-            path,
             opened,
             sectors,
             is_disk,
             buffer,
             mut zeros,
+            ..
         } = self;
         if is_disk {
             make_sure_of_disk(&opened.file, sectors, wanted, zeros.as_mut_slice())?;
         } else if let Err(fault) = lengthen(&opened, sectors, wanted.sectors, zeros.as_slice()) {
-            take_back(rt, path, &opened);
+            if let Some(made) = made {
+                made.remove(rt);
+            }
             return Err(DeviceRefusal::File(fault.for_writing()));
         }
         let Opened { file, .. } = opened;
@@ -212,26 +214,4 @@ fn lengthen<F: DeviceFile + Drop>(
         folder.sync_all()?;
     }
     Ok(())
-}
-
-// The file that this opening made, if it made one.
-fn made_file<'a, F: DeviceFile>(
-    path: &'a str,
-    opened: &Opened<F>,
-) -> io::Result<Option<MadeFile<'a>>>
-    ensures not_made { opened.now.is_new ≡ false → result ≡ Ok None }
-    ensures made { opened.now.is_new ≡ true → IfOk result (λ made. made ≢ None) }
-{
-    if !opened.is_new {
-        return Ok(None);
-    }
-    let number = FileNumber::of(&opened.file.metadata()?);
-    Ok(Some(MadeFile { path, number }))
-}
-
-// Removes a file that was made by this opening. What becomes of this isn't told.
-fn take_back<F: DeviceFile, R: Files<File = F>>(rt: &R, path: &str, opened: &Opened<F>) {
-    if let Ok(Some(made)) = made_file(path, opened) {
-        made.remove(rt);
-    }
 }

@@ -2,8 +2,10 @@
 use crate::fake_disk::{Asked, Disk, Limits, WHOLE};
 use file_device::{Device, DeviceRefusal, FileFault, SECTOR};
 use ledger_file::{
-    Formatting, HeldFault, LedgerRefusal, PartFault, format_ledger, open_for_script, open_ledger,
+    CopyRefusal, Formatting, HeldFault, LedgerRefusal, Making, MigrateRefusal, PartFault,
+    copy_ledger, format_ledger, open_for_script, open_ledger,
 };
+use sector_device::MemoryDevice;
 use std::alloc::Global;
 use std::io::ErrorKind;
 use std::num::NonZeroU64;
@@ -107,9 +109,47 @@ fn a_part_of_a_ledger_is_looked_at_and_left(rt: HostRuntime) -> Result<(), Fail>
 fn a_part_of_a_ledger_is_not_grown_for_a_script(rt: HostRuntime) -> Result<(), Fail> {
     for (begin, sectors, _) in PARTS {
         let disk = disk_of(rt.alloc(), &begin, sectors)?;
-        let device = open_for_script(&disk.files(), rt.alloc(), "ledger", 400)?;
+        let device = open_for_script(&disk.files(), rt.alloc(), "ledger", 400, Making::IfMissing)?;
         assert!(rt; device.sectors() == sectors as u64);
         expect_kept(&rt, &disk, begin.as_slice(), sectors);
+    }
+    Ok(())
+}
+
+#[test]
+fn a_script_makes_no_file_that_it_is_not_told_to_make(rt: HostRuntime) -> Result<(), Fail> {
+    let disk = Disk::new(rt.alloc(), "ledger", ".", WHOLE);
+    let opened = open_for_script(&disk.files(), rt.alloc(), "ledger", 0, Making::Never);
+    assert!(rt; opened.err() == Some(DeviceRefusal::File(FileFault::Missing)));
+    assert!(rt; disk.take_bytes().is_none());
+    Ok(())
+}
+
+// An older device of four slots without a record, or of none.
+fn older(alloc: Global, version: u8) -> Result<MemoryDevice, Fail> {
+    let mut device = MemoryDevice::new(alloc, 9)?;
+    let mut first = [0; SECTOR];
+    first[..16].copy_from_slice(&superblock(version, 4));
+    device.write(0, &first)?;
+    device.sync()?;
+    Ok(device)
+}
+
+// A file that the copy made is taken back where it is refused, and one that was there stays.
+#[test]
+fn a_copy_that_is_refused_leaves_what_was_there(rt: HostRuntime) -> Result<(), Fail> {
+    let alloc = rt.alloc();
+    for (version, was_there, is_left) in [(3, false, false), (3, true, true), (1, false, true)] {
+        let disk = if was_there {
+            disk_of(alloc, b"", 55)?
+        } else {
+            Disk::new(alloc, "ledger", ".", WHOLE)
+        };
+        let old = older(alloc, version)?;
+        let copied = copy_ledger(&disk.files(), alloc, old, "ledger", four_slots(&rt, false));
+        let is_refused = matches!(copied, Err(CopyRefusal::Migrate(MigrateRefusal::Source(_))));
+        assert!(rt; is_refused == (version == 3));
+        assert!(rt; disk.take_bytes().is_some() == is_left);
     }
     Ok(())
 }
@@ -135,7 +175,8 @@ fn what_may_grow_is_looked_at_first(rt: HostRuntime) -> Result<(), Fail> {
         b"SQLite format 3".as_slice(),
     ] {
         let disk = disk_of(rt.alloc(), begin, 55)?;
-        assert!(rt; open_for_script(&disk.files(), rt.alloc(), "ledger", 60)?.sectors() == 60);
+        let device = open_for_script(&disk.files(), rt.alloc(), "ledger", 60, Making::Never)?;
+        assert!(rt; device.sectors() == 60);
     }
     Ok(())
 }

@@ -51,7 +51,7 @@ const FULL: [Asked; 6] = [
 ];
 
 /// What follows a growth that failed, of a file that this opening made and of one that was there.
-const TAKEN_BACK: [Asked; 3] = [Asked::Length(0), Asked::Look, Asked::Remove];
+const TAKEN_BACK: [Asked; 2] = [Asked::Length(0), Asked::Remove];
 
 const CUT_BACK: [Asked; 1] = [Asked::Length(305_664)];
 

@@ -174,7 +174,7 @@ fn device_to_format<'a, F: DeviceFile + Drop, R: Files<File = F>>(
         sectors: sectors_to_format(slots, file.sectors(), file.is_disk(), formatting.sectors)?,
         overwrite: formatting.overwrite,
     };
-    let made = file.made()?;
+    let made = file.made();
     Ok((file.into_device(rt, wanted)?, made))
 }
 
