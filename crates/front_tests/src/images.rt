@@ -2,7 +2,7 @@
 ghost use Rattle.std.specs.Prelude.{◌≤◌};
 
 use gate_journal::{Journal, PAYLOAD, PLACE, Record, Snapshot, format};
-use ledger_inspection::{Inspection, Status, inspect_device};
+use ledger_inspection::{Status, inspect_device};
 use program_front::{Request, read_request};
 use sector_device::MemoryDevice;
 use std::alloc::Global;
@@ -101,19 +101,16 @@ pub struct Printed {
     pub errors: Vec<u8>,
 }
 
-/// What these words ask of a ledger.
-pub fn wish_of<'a>(alloc: Global, words: &'a [&'a str]) -> Result<Inspection<'a>, Fail> {
-    match read_request(alloc, words) {
-        Ok(Request::Inspect(wish)) => Ok(wish),
-        _ => Err(Fail::from("other words")),
-    }
-}
-
 /// What these words get of a device.
 pub fn printed_of(alloc: Global, words: &[&str], device: MemoryDevice) -> Result<Printed, Fail> {
-    let wish = wish_of(alloc, words)?;
+    let Ok(request) = read_request(alloc, words) else {
+        return Err(Fail::from("wrong words"));
+    };
+    let Request::Inspect(wish) = &request else {
+        return Err(Fail::from("another command"));
+    };
     let (mut output, mut errors) = (Vec::new(alloc), Vec::new(alloc));
-    let end = inspect_device(alloc, &wish, device, &mut output, &mut errors, false);
+    let end = inspect_device(alloc, wish, device, &mut output, &mut errors, false);
     Ok(Printed {
         end,
         output,

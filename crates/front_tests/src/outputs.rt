@@ -1,8 +1,8 @@
 //! Outputs that fail.
-use crate::images::{Office, wish_of};
+use crate::images::Office;
 use ledger_inspection::{Status, inspect_device};
 use office_engine::Terminal;
-use program_front::run_derbyfig;
+use program_front::{Request, read_request, run_derbyfig};
 use std::alloc::Global;
 use std::io;
 use std::io::{ErrorKind, Write};
@@ -25,11 +25,16 @@ impl Write for Failing {
 
 // How a command ends whose output fails so, and what it tells.
 fn ended(alloc: Global, words: &[&str], reason: ErrorKind) -> Result<(Status, Vec<u8>), Fail> {
-    let wish = wish_of(alloc, words)?;
+    let Ok(request) = read_request(alloc, words) else {
+        return Err(Fail::from("wrong words"));
+    };
+    let Request::Inspect(wish) = &request else {
+        return Err(Fail::from("another command"));
+    };
     let device = Office::new(alloc, 1)?.into_device();
     let mut errors = Vec::new(alloc);
     let mut output = Failing(reason);
-    let end = inspect_device(alloc, &wish, device, &mut output, &mut errors, false);
+    let end = inspect_device(alloc, wish, device, &mut output, &mut errors, false);
     Ok((end, errors))
 }
 

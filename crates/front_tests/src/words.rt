@@ -6,7 +6,6 @@ use program_front::{Request, read_request, run_derbyfig, run_derbyfig_words};
 use std::alloc::Global;
 use std::io;
 use std::io::ErrorKind;
-use std::process::Abort;
 
 fn terminal(alloc: Global) -> Terminal<&'static [u8], Vec<u8>> {
     Terminal {
@@ -15,25 +14,21 @@ fn terminal(alloc: Global) -> Terminal<&'static [u8], Vec<u8>> {
     }
 }
 
-// Whether words ask for what they should.
-fn ask(rt: &impl Abort, alloc: Global, words: &[&str], is_asked: impl Fn(&Request<'_>) -> bool) {
-    match read_request(alloc, words) {
-        Ok(request) => assert!(rt; is_asked(&request), "{words:?}: {request:?}"),
-        Err(_) => panic!(rt; "{words:?}"),
-    }
-}
-
 #[test]
-fn each_command_has_its_words(rt: HostRuntime) {
+fn a_script_and_an_office_have_their_words(rt: HostRuntime) {
     let alloc = rt.alloc();
-    ask(&rt, alloc, &["derbyfig", "run"], |request| {
-        matches!(request, Request::Run(run) if run.path.is_none() && run.sectors.is_none())
-    });
-    let run = ["derbyfig", "run", "book", "--sectors", "4000039"];
-    ask(&rt, alloc, &run, |request| {
-        matches!(request, Request::Run(run) if run.path == Some("book") && run.sectors == Some(4_000_039))
-    });
-    let serve = [
+    let words = ["derbyfig", "run"];
+    let asked = read_request(alloc, &words);
+    assert!(rt;
+        matches!(&asked, Ok(Request::Run(run)) if run.path.is_none() && run.sectors.is_none())
+    );
+    let words = ["derbyfig", "run", "book", "--sectors", "4000039"];
+    let asked = read_request(alloc, &words);
+    assert!(rt;
+        matches!(&asked, Ok(Request::Run(run))
+        if run.path == Some("book") && run.sectors == Some(4_000_039))
+    );
+    let words = [
         "derbyfig",
         "serve",
         "book",
@@ -45,25 +40,35 @@ fn each_command_has_its_words(rt: HostRuntime) {
         "--sectors=1",
         "--terminal",
     ];
-    ask(&rt, alloc, &serve, |request| {
-        matches!(request, Request::Serve(office) if office.path == "book"
-            && office.counters.as_slice() == ["a", "b"].as_slice()
-            && office.stations == Some(64)
-            && office.format.map(|slots| slots.get()) == Some(1_000_000)
-            && office.sectors == Some(1)
-            && office.overwrite
-            && office.terminal)
-    });
-    let check = ["derbyfig", "check", "-q", "--unlocked", "book"];
-    ask(&rt, alloc, &check, |request| {
-        matches!(request, Request::Inspect(wish) if wish.path == "book"
-            && wish.locking == Locking::Unlocked
-            && matches!(wish.task, Task::Check { quiet: true }))
-    });
-    ask(&rt, alloc, &["derbyfig", "map", "book"], |request| {
-        matches!(request, Request::Inspect(wish) if wish.locking == Locking::Shared && matches!(wish.task, Task::Map))
-    });
-    let format = [
+    let asked = read_request(alloc, &words);
+    assert!(rt;
+        matches!(&asked, Ok(Request::Serve(office)) if office.path == "book"
+        && office.counters.as_slice() == ["a", "b"].as_slice()
+        && office.stations == Some(64)
+        && office.format.map(|slots| slots.get()) == Some(1_000_000)
+        && office.sectors == Some(1)
+        && office.overwrite
+        && office.terminal)
+    );
+}
+
+#[test]
+fn each_command_has_its_words(rt: HostRuntime) {
+    let alloc = rt.alloc();
+    let words = ["derbyfig", "check", "-q", "--unlocked", "book"];
+    let asked = read_request(alloc, &words);
+    assert!(rt;
+        matches!(&asked, Ok(Request::Inspect(wish)) if wish.path == "book"
+        && wish.locking == Locking::Unlocked
+        && matches!(wish.task, Task::Check { quiet: true }))
+    );
+    let words = ["derbyfig", "map", "book"];
+    let asked = read_request(alloc, &words);
+    assert!(rt;
+        matches!(&asked, Ok(Request::Inspect(wish))
+        if wish.locking == Locking::Shared && matches!(wish.task, Task::Map))
+    );
+    let words = [
         "derbyfig",
         "format",
         "book",
@@ -71,18 +76,20 @@ fn each_command_has_its_words(rt: HostRuntime) {
         "1000000",
         "--overwrite",
     ];
-    ask(&rt, alloc, &format, |request| {
-        matches!(request, Request::Format { path, formatting } if *path == "book"
-            && formatting.slots.get() == 1_000_000
-            && formatting.overwrite)
-    });
-    let migrate = ["derbyfig", "migrate", "old", "new", "--slots", "1"];
-    ask(&rt, alloc, &migrate, |request| {
-        matches!(request, Request::Migrate { old, path, formatting } if *old == "old"
-            && *path == "new"
-            && formatting.slots.get() == 1
-            && !formatting.overwrite)
-    });
+    let asked = read_request(alloc, &words);
+    assert!(rt;
+        matches!(&asked, Ok(Request::Format { path, formatting }) if *path == "book"
+        && formatting.slots.get() == 1_000_000
+        && formatting.overwrite)
+    );
+    let words = ["derbyfig", "migrate", "old", "new", "--slots", "1"];
+    let asked = read_request(alloc, &words);
+    assert!(rt;
+        matches!(&asked, Ok(Request::Migrate { old, path, formatting }) if *old == "old"
+        && *path == "new"
+        && formatting.slots.get() == 1
+        && !formatting.overwrite)
+    );
 }
 
 #[test]
