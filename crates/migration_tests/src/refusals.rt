@@ -55,7 +55,9 @@ fn a_device_that_is_no_older_ledger_is_refused(rt: HostRuntime) -> Result<(), Fa
 fn a_refusal_tells_what_it_holds(rt: HostRuntime) -> Result<(), Fail> {
     let refusal = MigrateRefusal::Source(OpenRefusal::Version(3));
     let told = format!(in rt.alloc(); "{refusal}")?;
-    assert!(rt; told.as_str() == "the old device wasn't read: the device has version 3");
+    assert!(rt;
+        told.as_str() == "the old device wasn't read: its ledger has version 3, which isn't known"
+    );
     Ok(())
 }
 

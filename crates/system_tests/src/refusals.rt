@@ -46,10 +46,13 @@ fn refusals_of_a_journal_name_the_number(rt: HostRuntime) -> Result<(), Fail> {
 #[test]
 fn damages_that_recovery_meets_name_the_place(rt: HostRuntime) -> Result<(), Fail> {
     let table = [
-        (Cause::Entry(14), "damage at 3: place 14 is no entry"),
+        (
+            Cause::Entry(14),
+            "damage at 3: place 14 of a record is no entry",
+        ),
         (
             Cause::Verdict(0),
-            "damage at 3: the entry at place 0 breaks a rule of the ledger",
+            "damage at 3: the entry at place 0 of a record breaks a rule of the ledger",
         ),
     ];
     let told = table.map(|(cause, text)| (OpenRefusal::Damaged { slot: 3, cause }, text));
@@ -62,7 +65,10 @@ fn refusals_of_a_day_are_told_as_what_they_hold(rt: HostRuntime) -> Result<(), F
     let (opening, closing) = (OpenRefusal::Version(2), CloseRefusal::SeatMissing);
     let table = [
         (Memory, "out of memory"),
-        (Opening(opening), "the device has version 2"),
+        (
+            Opening(opening),
+            "its ledger has version 2, which isn't known",
+        ),
         (Closing(closing), "the seat of a station is missing"),
     ];
     read_as(&rt, rt.alloc(), &table)
