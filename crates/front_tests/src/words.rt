@@ -92,77 +92,79 @@ fn each_command_has_its_words(rt: HostRuntime) {
     );
 }
 
+// Words, and how it is told that they are wrong.
+const WRONG: [(&[&str], &str); 17] = [
+    (
+        &["journal", "book", "--from", "x"],
+        "error: invalid value 'x' for '--from <N>'",
+    ),
+    (
+        &["journal", "book", "--account", "0"],
+        "error: invalid value '0' for '--account <A>'",
+    ),
+    (
+        &["journal", "book", "--account", "1025"],
+        "error: invalid value '1025' for '--account <A>'",
+    ),
+    (
+        &["balances", "book", "--as", "xml"],
+        "error: invalid value 'xml' for '--as <FORMAT>'",
+    ),
+    (
+        &["journal", "book", "--date", "2023-02-29"],
+        "error: a date has the form YYYY-MM-DD",
+    ),
+    (
+        &["check", "book", "-q", "more"],
+        "error: unexpected argument 'more' found",
+    ),
+    (
+        &["balances", "book", "--from", "1"],
+        "error: unexpected argument '--from' found",
+    ),
+    (&["chart", "book"], "error: unrecognized subcommand 'chart'"),
+    (
+        &["run", "book", "--sectors", "0"],
+        "error: invalid value '0' for '--sectors <K>'",
+    ),
+    (
+        &["serve", "book", "--stations", "65"],
+        "error: invalid value '65' for '--stations <N>'",
+    ),
+    (
+        &["serve", "book", "--format", "1000001"],
+        "error: invalid value '1000001' for '--format <SLOTS>'",
+    ),
+    (
+        &["format", "book"],
+        "error: the following required arguments were not provided",
+    ),
+    (
+        &["migrate", "old", "--slots", "1"],
+        "error: the following required arguments were not provided",
+    ),
+    (
+        &["migrate", "book", "book", "--slots", "1"],
+        "error: NEW is OLD; take another path",
+    ),
+    (
+        &["serve", "book"],
+        "an office needs a --counter or --terminal\n",
+    ),
+    (
+        &["serve", "book", "--terminal", "--overwrite"],
+        "--overwrite needs --format\n",
+    ),
+    (
+        &[],
+        "error: 'derbyfig' requires a subcommand but one was not provided",
+    ),
+];
+
 #[test]
 fn wrong_words_are_told(rt: HostRuntime) {
     let alloc = rt.alloc();
-    let table: [(&[&str], &str); 17] = [
-        (
-            &["journal", "book", "--from", "x"],
-            "error: invalid value 'x' for '--from <N>'",
-        ),
-        (
-            &["journal", "book", "--account", "0"],
-            "error: invalid value '0' for '--account <A>'",
-        ),
-        (
-            &["journal", "book", "--account", "1025"],
-            "error: invalid value '1025' for '--account <A>'",
-        ),
-        (
-            &["balances", "book", "--as", "xml"],
-            "error: invalid value 'xml' for '--as <FORMAT>'",
-        ),
-        (
-            &["journal", "book", "--date", "2023-02-29"],
-            "error: a date has the form YYYY-MM-DD",
-        ),
-        (
-            &["check", "book", "-q", "more"],
-            "error: unexpected argument 'more' found",
-        ),
-        (
-            &["balances", "book", "--from", "1"],
-            "error: unexpected argument '--from' found",
-        ),
-        (&["chart", "book"], "error: unrecognized subcommand 'chart'"),
-        (
-            &["run", "book", "--sectors", "0"],
-            "error: invalid value '0' for '--sectors <K>'",
-        ),
-        (
-            &["serve", "book", "--stations", "65"],
-            "error: invalid value '65' for '--stations <N>'",
-        ),
-        (
-            &["serve", "book", "--format", "1000001"],
-            "error: invalid value '1000001' for '--format <SLOTS>'",
-        ),
-        (
-            &["format", "book"],
-            "error: the following required arguments were not provided",
-        ),
-        (
-            &["migrate", "old", "--slots", "1"],
-            "error: the following required arguments were not provided",
-        ),
-        (
-            &["migrate", "book", "book", "--slots", "1"],
-            "error: NEW is OLD; take another path",
-        ),
-        (
-            &["serve", "book"],
-            "an office needs a --counter or --terminal\n",
-        ),
-        (
-            &["serve", "book", "--terminal", "--overwrite"],
-            "--overwrite needs --format\n",
-        ),
-        (
-            &[],
-            "error: 'derbyfig' requires a subcommand but one was not provided",
-        ),
-    ];
-    for (asked, wanted) in table {
+    for (asked, wanted) in WRONG {
         let mut words = Vec::new(alloc);
         let _ = words.push("derbyfig");
         let _ = words.extend_from_slice(asked);

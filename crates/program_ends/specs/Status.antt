@@ -14,8 +14,6 @@ use Rattle.file_device.specs.declared.refusal.DiskFault.{DiskFault}
 use Rattle.file_device.specs.declared.refusal.DiskFault.TheVariants as disk
 use Rattle.ledger_file.specs.declared.refusal.LedgerRefusal.{LedgerRefusal}
 use Rattle.ledger_file.specs.declared.refusal.LedgerRefusal.TheVariants as ledger
-use Rattle.ledger_file.specs.declared.refusal.CopyRefusal.{CopyRefusal}
-use Rattle.ledger_file.specs.declared.refusal.CopyRefusal.TheVariants as copy
 use Rattle.program_ends.specs.declared.status.Status.{Status}
 use Rattle.program_ends.specs.declared.status.Status.TheVariants.{Done, Refused, WrongWords, Failed}
 
@@ -70,7 +68,3 @@ of_ledger (ledger.Device refusal) = of_device refusal
 of_ledger (ledger.Format refusal) = of_format refusal
 of_ledger ledger.Missing = Failed
 of_ledger _ = Refused
-
-abbrev pub of_copy : CopyRefusal → Status
-of_copy (copy.Target refusal) = of_ledger refusal
-of_copy (copy.Migrate refusal) = of_migration refusal

@@ -5,7 +5,7 @@ ghost use Rattle.program_ends.specs.Status.{code_of, console_code_of};
 use file_device::{DeviceRefusal, DiskFault};
 use gate_journal::FormatRefusal;
 use journal_recovery::{MigrateRefusal, OpenRefusal};
-use ledger_file::{CopyRefusal, LedgerRefusal};
+use ledger_file::LedgerRefusal;
 use turn_clerk::TurnRefusal;
 
 /// How a program ended.
@@ -161,21 +161,6 @@ impl From<LedgerRefusal> for Status {
             | LedgerRefusal::Part(_)
             | LedgerRefusal::Held(_)
             | LedgerRefusal::TooSmall { .. } => Status::Refused,
-        }
-    }
-}
-
-/// That of what was refused.
-impl From<CopyRefusal> for Status {
-    ghost use Rattle.std.specs.Prelude.{◌≡◌};
-    ghost use Rattle.program_ends.specs.Status.{of_copy};
-
-    ghost from_gives = { λ refusal status. status ≡ of_copy refusal };
-
-    fn from(refusal: CopyRefusal) -> Status {
-        match refusal {
-            CopyRefusal::Target(refusal) => Status::from(refusal),
-            CopyRefusal::Migrate(refusal) => Status::from(refusal),
         }
     }
 }

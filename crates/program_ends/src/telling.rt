@@ -1,7 +1,7 @@
 //! What a program tells on standard error.
-ghost use Rattle.std.specs.Prelude.{◌≡◌, ◌≢◌, ◌⊎◌, IfOk, IsOk};
+ghost use Rattle.std.specs.Prelude.{◌≡◌, ◌≢◌, ◌⊎◌, Ok, IfOk, IsOk};
 ghost use Rattle.clap.specs.Values.{kind_of};
-ghost use Rattle.clap.specs.declared.error.kind.ErrorKind.TheVariants.{DisplayHelp, DisplayVersion};
+ghost use Rattle.clap.specs.declared.error.kind.ErrorKind.TheVariants.{DisplayHelp, DisplayVersion, OutOfMemory};
 
 use crate::status::Status;
 use clap::Error;
@@ -58,6 +58,7 @@ pub fn tell_words<W: Write, E: Write>(
     ensures wrong { kind_of error ≢ DisplayHelp → kind_of error ≢ DisplayVersion
         → IfOk result (λ status. (status ≡ Status.WrongWords) ⊎ (status ≡ Status.Failed)) }
     ensures written { kind_of error ≢ DisplayHelp → kind_of error ≢ DisplayVersion → IsOk result }
+    ensures memory { kind_of error ≡ OutOfMemory → result ≡ Ok Status.Failed }
     ensures no_rule { IfOk result (λ status. status ≢ Status.Refused) }
 {
     if error.kind() == ErrorKind::OutOfMemory {

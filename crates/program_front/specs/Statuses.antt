@@ -1,5 +1,7 @@
 -- By which status a fault ends `derbyfig`.
 use Rattle.program_ends.specs.Status.{of_ledger, of_migration}
+use Rattle.ledger_file.specs.declared.refusal.CopyRefusal.{CopyRefusal}
+use Rattle.ledger_file.specs.declared.refusal.CopyRefusal.TheVariants as copy
 use Rattle.program_ends.specs.declared.status.Status.{Status}
 use Rattle.program_ends.specs.declared.status.Status.TheVariants.{Refused, Failed}
 use Rattle.console_engine.specs.Faults.{status_of_script}
@@ -16,3 +18,8 @@ status_of (fault.Older path inner) = Failed
 status_of (fault.Migration (migration.Refused refusal)) = of_migration refusal
 status_of (fault.Migration migration.NotEmpty) = Refused
 status_of (fault.Office inner) = office.status_of inner
+
+-- and of a ledger that wasn't copied, that of its path or of the copying
+abbrev pub of_copy : CopyRefusal → Status
+of_copy (copy.Target refusal) = of_ledger refusal
+of_copy (copy.Migrate refusal) = of_migration refusal

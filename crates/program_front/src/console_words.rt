@@ -41,7 +41,7 @@ An example script, which shows that a deposit survives a power loss:
 ";
 
 /// What `clap` tells before this is met.
-pub(crate) const OUT_OF_RANGE: &str = "a number is out of range";
+const OUT_OF_RANGE: &str = "a number is out of range";
 
 /// What `clap` reads from the program's words, of which the first is the program's name; or what it answers to wrong
 /// words, to the wish for help, and if there is no memory.

@@ -1,9 +1,10 @@
 //! All of `derbyfig`, over the words and streams that it is handed.
-ghost use Rattle.std.specs.Prelude.{◌≡◌, ◌≢◌, ◌≤◌, ◌⊎◌, None, IfSome, OnOk};
+ghost use Rattle.std.specs.Prelude.{◌≡◌, ◌≢◌, ◌≤◌, ◌⊎◌, None, IsOk, IfErr, IfSome, OnOk};
 ghost use Rattle.clap.specs.Values.{kind_of};
 ghost use Rattle.clap.specs.declared.error.kind.ErrorKind.TheVariants.{DisplayHelp, DisplayVersion};
 ghost use Rattle.std.specs.Str.Lines.{lines};
 ghost use Rattle.console_engine.specs.Lines.{first_fault};
+ghost use Rattle.program_front.specs.Statuses.{status_of};
 
 use crate::faults::Fault;
 use crate::request::{Request, Running};
@@ -81,7 +82,10 @@ pub fn run_derbyfig<
 }
 
 // How a command ended, which is told if it is a fault.
-fn ended<E: Write>(alloc: Global, outcome: Result<(), Fault<'_>>, errors: &mut E) -> Status {
+fn ended<E: Write>(alloc: Global, outcome: Result<(), Fault<'_>>, errors: &mut E) -> Status
+    ensures done { IsOk outcome → result ≡ Status.Done }
+    ensures fault { IfErr outcome (λ fault. result ≡ status_of fault.entry) }
+{
     match outcome {
         Ok(()) => Status::Done,
         Err(fault) => {

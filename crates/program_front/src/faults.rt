@@ -1,7 +1,7 @@
 //! Why a command of `derbyfig` ends early.
 ghost use Rattle.std.specs.Prelude.{◌≡◌};
-ghost use Rattle.program_ends.specs.Status.{of_ledger, of_copy};
-ghost use Rattle.program_front.specs.Statuses.{status_of};
+ghost use Rattle.program_ends.specs.Status.{of_ledger};
+ghost use Rattle.program_front.specs.Statuses.{status_of, of_copy};
 
 use console_engine::ScriptFault;
 use file_device::FileFault;
@@ -119,16 +119,5 @@ impl From<ScriptFault> for Fault<'_> {
 
     fn from(fault: ScriptFault) -> Self {
         Fault::Script(fault)
-    }
-}
-
-impl<'a> From<OfficeFault<'a>> for Fault<'a> {
-    ghost use Rattle.std.specs.Prelude.{◌≡◌};
-    ghost use Rattle.program_front.specs.declared.faults.Fault.TheVariants.{Office};
-
-    ghost from_gives = { λ inner fault. fault ≡ Office inner };
-
-    fn from(fault: OfficeFault<'a>) -> Self {
-        Fault::Office(fault)
     }
 }

@@ -7,7 +7,7 @@ ghost use Rattle.program_front.specs.ConsoleWords.{path_option, number_option, f
 use clap::builder::ValueParser;
 use clap::{Arg, ArgAction, ArgMatches};
 use four_state::{FEWEST_STATIONS, MOST_STATIONS};
-use gate_journal::MOST_SLOTS;
+use gate_journal::{ACCOUNTS, MOST_SLOTS};
 use ledger_file::MOST_SECTORS;
 use std::alloc::Global;
 
@@ -66,7 +66,7 @@ pub(crate) const ACCOUNT: NumberOption = NumberOption {
     name: "account",
     value: "A",
     least: 1,
-    most: MOST_ACCOUNTS,
+    most: ACCOUNTS as u64,
 };
 
 /// Which reference.
@@ -76,8 +76,6 @@ pub(crate) const REFERENCE: NumberOption = NumberOption {
     least: 0,
     most: u64::MAX,
 };
-
-const MOST_ACCOUNTS: u64 = 1_024;
 
 /// That a number is out of its limits.
 #[derive(Clone, Copy, Debug, Drop)]
