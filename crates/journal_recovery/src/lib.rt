@@ -20,6 +20,7 @@ pub use gate_journal::{Journal, JournalCause, JournalRefusal, Record};
 pub use laws::{one_old_recovery, one_recovery, seals_are_recovered};
 pub use migration::{MigrateRefusal, migrate, snapshot_of};
 pub use old::{Old, read_old};
+pub use places::read_entry;
 pub use postings::may_hold_postings;
 pub use recovery::{Recovered, recover};
 pub use refusals::{Cause, OpenName, OpenRefusal};
