@@ -1,7 +1,7 @@
 //! What the dispatcher does for one counter.
 ghost use Rattle.std.specs.Prelude.{◌≡◌, ◌≤◌, ◌<◌, false, [], ◌++◌, map, IsTrue, IfOk, IfSome, Some, None};
 ghost use Rattle.rtrb.specs.Ring.{known_free, sent, received};
-ghost use Rattle.script_grammar.specs.declared.requests.Request.TheVariants.{Post, Balance, Find};
+ghost use Rattle.script_grammar.specs.declared.requests.Request.TheVariants.{Post, Balance, Find, Close};
 ghost use Rattle.station_desk.specs.Messages.{entries_of};
 ghost use Rattle.station_desk.specs.Rings.{StandsAt};
 ghost use Rattle.live_office.specs.declared.messages.Message.TheVariants.{Asked};
@@ -167,14 +167,18 @@ impl Session {
         ensures feed { StandsAt self.old.feed self.new.feed }
         ensures handled { IsTrue result → pending self.new.next ≡ [] }
     {
-        if let Message::Asked(Request::Post(entry)) = message {
-            return self.submit(scheduler, entry);
-        }
-        if self.unanswered > 0 {
-            return false;
-        }
         match message {
-            Message::Asked(request) => self.answer_request(rt, scheduler, request),
+            Message::Asked(Request::Post(entry)) => self.submit(scheduler, entry),
+            // all else is answered behind what was asked before it
+            _ if self.unanswered > 0 => false,
+            Message::Asked(Request::Balance { account }) => {
+                self.tell_balance(rt, scheduler, account)
+            }
+            Message::Asked(Request::Find { reference }) => {
+                self.tell_found(rt, scheduler, reference)
+            }
+            Message::Asked(Request::Help) => self.respond(Response::Help),
+            Message::Asked(Request::Close) => self.close(scheduler),
             Message::Wrong(wrong) => self.respond(Response::Wrong(wrong)),
             Message::Ended => {
                 if self.closes_at_end {
@@ -185,25 +189,16 @@ impl Session {
         }
     }
 
-    // Answers a request that posts nothing, behind all that was asked before it; false if it isn't answered yet.
-    fn answer_request<R: Wait>(&mut self, rt: &R, scheduler: &Scheduler, request: Request) -> bool
+    // Closes the office, as the counter asks, and tells it so.
+    fn close(&mut self, scheduler: &Scheduler) -> bool
         requires place { self.old.unanswered < known_free self.old.responses }
-        requires behind { self.old.unanswered ≡ 0 }
-        requires next { self.old.next ≡ Some (Asked request) }
-        ensures feed { StandsAt self.old.feed self.new.feed }
-        ensures handled { IsTrue result → pending self.new.next ≡ [] }
+        requires next { self.old.next ≡ Some (Asked Close) }
+        ensures feed { self.new.feed ≡ self.old.feed }
+        ensures next { self.new.next ≡ self.old.next }
     {
-        match request {
-            Request::Post(entry) => self.submit(scheduler, entry),
-            Request::Balance { account } => self.tell_balance(rt, scheduler, account),
-            Request::Find { reference } => self.tell_found(rt, scheduler, reference),
-            Request::Help => self.respond(Response::Help),
-            Request::Close => {
-                scheduler.close();
-                self.is_told_closing = true;
-                self.respond(Response::Closing)
-            }
-        }
+        scheduler.close();
+        self.is_told_closing = true;
+        self.respond(Response::Closing)
     }
 
     // Submits the entry that is asked for next, for whose response there is a place.
