@@ -48,16 +48,20 @@ def counters_that_are_none(case):
 
 
 def a_ledger_that_is_there(case):
-    """A ledger is neither formatted again nor used twice, and a file without one has to be formatted."""
-    client, = case.counters(1)
+    """A ledger is neither formatted again nor used twice, nor a counter, and a file without one has to be formatted."""
+    client, beside = case.counters(2)
     with case.office([client]) as office:
         require_refused(office, f"{case.device}: ")
     with case.formatted([client], 4) as office:
         office.opened(client)
         require_same(client.ask("deposit 1 5"), ["posted 0 1"], "a posting")
         before = case.device.read_bytes()
-        with case.office([client], kept_as="second") as other:
+        with case.office([beside], kept_as="second") as other:
             require_refused(other, f"{case.device}: ")
+        elsewhere = case.folder / "elsewhere"
+        with case.run(str(elsewhere), "--format", "4", "--counter", str(client.folder), kept_as="second") as other:
+            require_refused(other, f"{client.folder}/in: another office has it")
+        require(not elsewhere.exists(), "a ledger is made for an office that is refused its counter")
         require_same(client.ask("close"), ["closing"], "the answer to close")
         office.closed()
     for slots in (4, 5):

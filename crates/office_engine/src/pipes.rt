@@ -41,10 +41,13 @@ pub enum PipeRefusal {
     NoPipe,
     /// It is one that was opened before.
     Taken,
+    /// Another office has it.
+    InUse,
 }
 
 /// Opens a pipe in a counter's folder, for reading and writing: so it never ends, whoever hangs up. It is none of those
-/// that were opened before, and becomes one.
+/// that were opened before, and becomes one. It is locked for as long as it is open, since each of two offices would
+/// read a part of what its counter says.
 ///
 /// # Errors
 /// [`PipeRefusal`].
@@ -68,6 +71,9 @@ pub fn open_pipe<R: Files<File = File>>(
         return Err(PipeRefusal::Unopened);
     };
     note_pipe(&file, opened)?;
+    if file.try_lock().is_err() {
+        return Err(PipeRefusal::InUse);
+    }
     clear_of_streams(file)
 }
 
