@@ -24,6 +24,8 @@ CASES = (
     makings.as_many_sectors_as_needed,
     makings.without_room,
     makings.killed,
+    copies.of_ledgers,
+    copies.that_are_no_ledgers,
     copies.of_earlier_versions,
     copies.that_are_refused,
 )

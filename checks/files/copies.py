@@ -1,4 +1,4 @@
-"""Copies of older ledgers, and what is left where one is refused."""
+"""Copies of ledgers and of older ones, and what is left where one is refused."""
 from holdings import FOREIGN, LEDGER
 from parts import make
 from programs import Said, kept, require_same
@@ -37,6 +37,53 @@ def second_layout():
 
 def migrate(programs, old, new, *words):
     return programs.run(programs.derbyfig, "migrate", str(old), str(new), "--slots", "4", *words)
+
+
+def closed(ledger, slots):
+    """A ledger neither of whose banks is open."""
+    second = 512 * (1 + 19 + 2 * slots)
+    return ledger[:512] + bytes(512) + ledger[1024:second] + bytes(512) + ledger[second + 512:]
+
+
+def copy(programs, old, new, slots, *words):
+    return programs.run(programs.derbyfig, "copy", str(old), str(new), "--slots", str(slots), *words)
+
+
+def of_ledgers(programs, _moments):
+    """A copy has the balances and the seals, the next number and its own slots, and goes on; the ledger stays."""
+    old, new = programs.folder / "old", programs.folder / "new"
+    posted = "open 2 00 10\npost 0 deposit 7 70\nturn 0\npost 1 seal 7\nturn 1\n"
+    require_same(programs.run_script(old, f"format 3\n{posted}", "--sectors", "51").status, 0, "the ledger")
+    old.chmod(0o400)
+    before = kept(old)
+    for slots in (5_000, 1):
+        require_same(copy(programs, old, new, slots), Said(0, f"copied {slots}\n", ""), f"a copy to {slots} slots")
+        require_same(new.stat().st_size, 512 * (39 + 4 * slots), "the length of the copy")
+        told = [programs.run(programs.derbyfig, "balances", str(path)).printed for path in (old, new)]
+        require_same(told[1], told[0], "the balances of the copy")
+        goes_on = "opened 2 next 2 total 70\n"
+        require_same(programs.run_script(new, "open 2 00 10\n").printed, goes_on, "the copy that is opened")
+        require_same(copy(programs, old, new, 1), Said(1, "", f"{new}: {LEDGER}"), "a copy onto a ledger")
+        require_same(copy(programs, old, new, 1, "--overwrite"), Said(0, "copied 1\n", ""), "a copy that erases one")
+        new.unlink()
+    require_same(kept(old), before, "the ledger that was copied")
+
+
+def that_are_no_ledgers(programs, _moments):
+    """What isn't a sound ledger is told with its path, and nothing is made of it."""
+    old, new = programs.folder / "old", programs.folder / "new"
+    present = kept(make(programs, "present", 4, 30))
+    for held, status, sentence in (
+        (None, 3, "there is no such file"),
+        (first_layout(), 1, "it holds a ledger of version 1; derbyfig migrate copies one of version 1 or 2 to a new file"),
+        (present[:512 * 50], 1, "its number of slots is out of range, or it is too short for them"),
+        (closed(present, 4), 1, "damage at 0: a bank isn't sound, or none is live"),
+        (b"2026-11-26 opening balance\n".ljust(512), 1, "it holds no ledger"),
+    ):
+        if held is not None:
+            old.write_bytes(held)
+        require_same(copy(programs, old, new, 4), Said(status, "", f"{old}: {sentence}"), "a copy of what is no ledger")
+        require_same(kept(new), None, f"the copy of what is told as {sentence}")
 
 
 def of_earlier_versions(programs, _moments):

@@ -3,7 +3,7 @@ use crate::fake_disk::{Asked, Disk, Limits, WHOLE};
 use file_device::{Device, DeviceRefusal, FileFault, SECTOR};
 use ledger_file::{
     CopyRefusal, Formatting, HeldFault, LedgerRefusal, Making, MigrateRefusal, PartFault,
-    copy_ledger, format_ledger, open_for_script, open_ledger,
+    copy_ledger, format_ledger, migrate_ledger, open_for_script, open_ledger,
 };
 use sector_device::MemoryDevice;
 use std::alloc::Global;
@@ -146,11 +146,16 @@ fn a_copy_that_is_refused_leaves_what_was_there(rt: HostRuntime) -> Result<(), F
             Disk::new(alloc, "ledger", ".", WHOLE)
         };
         let old = older(alloc, version)?;
-        let copied = copy_ledger(&disk.files(), alloc, old, "ledger", four_slots(&rt, false));
-        let is_refused = matches!(copied, Err(CopyRefusal::Migrate(MigrateRefusal::Source(_))));
+        let copied = migrate_ledger(&disk.files(), alloc, old, "ledger", four_slots(&rt, false));
+        let is_refused = matches!(copied, Err(CopyRefusal::Copy(MigrateRefusal::Source(_))));
         assert!(rt; is_refused == (version == 3));
         assert!(rt; disk.take_bytes().is_some() == is_left);
     }
+    let disk = Disk::new(alloc, "ledger", ".", WHOLE);
+    let old = older(alloc, 1)?;
+    let copied = copy_ledger(&disk.files(), alloc, old, "ledger", four_slots(&rt, false));
+    let is_refused = matches!(copied, Err(CopyRefusal::Copy(MigrateRefusal::Source(_))));
+    assert!(rt; is_refused && disk.take_bytes().is_none());
     Ok(())
 }
 

@@ -85,15 +85,23 @@ fn each_command_has_its_words(rt: HostRuntime) {
     let words = ["derbyfig", "migrate", "old", "new", "--slots", "1"];
     let asked = read_request(alloc, &words);
     assert!(rt;
-        matches!(&asked, Ok(Request::Migrate { old, path, formatting }) if *old == "old"
-        && *path == "new"
-        && formatting.slots.get() == 1
-        && !formatting.overwrite)
+        matches!(&asked, Ok(Request::Migrate(copying)) if copying.old == "old"
+        && copying.path == "new"
+        && copying.formatting.slots.get() == 1
+        && !copying.formatting.overwrite)
+    );
+    let words = ["derbyfig", "copy", "old", "new", "--slots=7", "--overwrite"];
+    let asked = read_request(alloc, &words);
+    assert!(rt;
+        matches!(&asked, Ok(Request::Copy(copying)) if copying.old == "old"
+        && copying.path == "new"
+        && copying.formatting.slots.get() == 7
+        && copying.formatting.overwrite)
     );
 }
 
 // Words, and how it is told that they are wrong.
-const WRONG: [(&[&str], &str); 17] = [
+const WRONG: [(&[&str], &str); 18] = [
     (
         &["journal", "book", "--from", "x"],
         "error: invalid value 'x' for '--from <N>'",
@@ -146,6 +154,10 @@ const WRONG: [(&[&str], &str); 17] = [
     (
         &["migrate", "book", "book", "--slots", "1"],
         "error: NEW is OLD; take another path",
+    ),
+    (
+        &["copy", "book", "book", "--slots", "1"],
+        "error: NEW is LEDGER; take another path",
     ),
     (
         &["serve", "book"],

@@ -5,6 +5,7 @@
 //! example.
 #![tactic(auto)]
 
+mod copying;
 mod entries;
 mod laws;
 mod migration;
@@ -16,6 +17,7 @@ mod recovery;
 mod refusals;
 mod replay;
 
+pub use copying::copy;
 pub use gate_journal::{Journal, JournalCause, JournalRefusal, Record};
 pub use laws::{one_old_recovery, one_recovery, seals_are_recovered};
 pub use migration::{MigrateRefusal, migrate, snapshot_of};

@@ -16,7 +16,8 @@ pub use file_device::{DeviceRefusal, DiskFault, FileDevice, FileFault, Making};
 pub use gate_journal::FormatRefusal;
 pub use journal_recovery::MigrateRefusal;
 pub use opening::{
-    Formatting, MOST_SECTORS, copy_ledger, format_ledger, open_for_script, open_ledger,
+    Formatting, MOST_SECTORS, copy_ledger, format_ledger, migrate_ledger, open_for_script,
+    open_ledger,
 };
 pub use plan::{HeldFault, PartFault, check_formatting, sectors_planned};
 pub use refusal::{CopyRefusal, LedgerRefusal};

@@ -2,12 +2,13 @@
 ghost use Rattle.std.specs.Prelude.{◌≡◌, ◌≢◌, ◌+◌, ◌*◌, ◌<◌, ◌≤◌, ◌^◌, ◌↔◌, max, false, IsOk, IsTrue, IfOk, Err};
 ghost use Rattle.std.specs.Int.NonZero.{non_zero_u64_get};
 ghost use Rattle.journal_recovery.specs.Older.{OldRecoveryRefuses};
+ghost use Rattle.journal_recovery.specs.Refused.{RecoveryRefuses};
 
 use crate::plan::{check_formatting, sectors_planned};
 use crate::refusal::{CopyRefusal, LedgerRefusal};
 use file_device::{DeviceFile, DeviceOn, DeviceRefusal, LockedFile, MadeFile, Making, Wanted};
 use gate_journal::{FirstSector, FormatRefusal, MOST_SLOTS, format, sectors_needed};
-use journal_recovery::{MigrateRefusal, OpenRefusal, migrate};
+use journal_recovery::{MigrateRefusal, OpenRefusal, copy, migrate};
 use sector_device::Device;
 use std::alloc::Global;
 use std::fs::Files;
@@ -124,7 +125,35 @@ pub fn format_ledger<F: DeviceFile + Drop, R: Files<File = F>>(
 /// this call made is removed. The older device is read alone, and let go of.
 ///
 /// # Errors
-/// [`CopyRefusal`]. After `Migrate(Target)` nothing is known of the sectors of a file or a disk that was there.
+/// [`CopyRefusal`]. After `Copy(Target)` nothing is known of the sectors of a file or a disk that was there.
+pub fn migrate_ledger<D: Device + Drop, F: DeviceFile + Drop, R: Files<File = F>>(
+    rt: &R,
+    alloc: Global,
+    old: D,
+    path: &str,
+    formatting: Formatting,
+) -> Result<DeviceOn<F>, CopyRefusal>
+    ensures enough { IfOk result (λ device. formatting.sectors ≤ device.inner.sectors) }
+    ensures needed { IfOk result (λ device.
+        39 + 4 * non_zero_u64_get formatting.slots ≤ device.inner.sectors) }
+    ensures fits { IfOk result (λ device. device.inner.sectors * 512 < 2 ^ 63) }
+    ensures source { (D.state old).honest → (refusal : OpenRefusal)
+        → result ≡ Err (CopyRefusal.Copy (MigrateRefusal.Source refusal))
+        → refusal ≢ OpenRefusal.Memory → refusal ≢ OpenRefusal.Device
+        → OldRecoveryRefuses (D.state old).reads refusal }
+{
+    let (mut device, made) = device_to_format(rt, alloc, path, formatting)?;
+    let (_old, migrated) = migrate(alloc, old, &mut device, formatting.slots.get());
+    if let Err(refusal) = migrated {
+        return Err(taken_back(rt, made, refusal));
+    }
+    Ok(device)
+}
+
+/// The same of a device of the present layout.
+///
+/// # Errors
+/// As of [`migrate_ledger`].
 pub fn copy_ledger<D: Device + Drop, F: DeviceFile + Drop, R: Files<File = F>>(
     rt: &R,
     alloc: Global,
@@ -137,19 +166,30 @@ pub fn copy_ledger<D: Device + Drop, F: DeviceFile + Drop, R: Files<File = F>>(
         39 + 4 * non_zero_u64_get formatting.slots ≤ device.inner.sectors) }
     ensures fits { IfOk result (λ device. device.inner.sectors * 512 < 2 ^ 63) }
     ensures source { (D.state old).honest → (refusal : OpenRefusal)
-        → result ≡ Err (CopyRefusal.Migrate (MigrateRefusal.Source refusal))
+        → result ≡ Err (CopyRefusal.Copy (MigrateRefusal.Source refusal))
         → refusal ≢ OpenRefusal.Memory → refusal ≢ OpenRefusal.Device
-        → OldRecoveryRefuses (D.state old).reads refusal }
+        → RecoveryRefuses (D.state old).reads refusal }
 {
     let (mut device, made) = device_to_format(rt, alloc, path, formatting)?;
-    let (_old, migrated) = migrate(alloc, old, &mut device, formatting.slots.get());
-    if let Err(refusal) = migrated {
-        if let Some(made) = made {
-            made.remove(rt);
-        }
-        return Err(CopyRefusal::Migrate(refusal));
+    let (_old, copied) = copy(alloc, old, &mut device, formatting.slots.get());
+    if let Err(refusal) = copied {
+        return Err(taken_back(rt, made, refusal));
     }
     Ok(device)
+}
+
+// That nothing was copied. A file that was made for the copy is removed.
+fn taken_back<F: DeviceFile + Drop, R: Files<File = F>>(
+    rt: &R,
+    made: Option<MadeFile<'_>>,
+    refusal: MigrateRefusal,
+) -> CopyRefusal
+    ensures { result ≡ CopyRefusal.Copy refusal }
+{
+    if let Some(made) = made {
+        made.remove(rt);
+    }
+    CopyRefusal::Copy(refusal)
 }
 
 // The device on which a ledger is to be made, and its file, if this call made it.

@@ -41,9 +41,9 @@ pub enum CopyRefusal {
     /// There can't be a ledger at the path.
     #[error("{0}")]
     Target(LedgerRefusal),
-    /// The older ledger couldn't be read, or the new one not written.
+    /// The ledger couldn't be read, or the new one not written.
     #[error("{0}")]
-    Migrate(MigrateRefusal),
+    Copy(MigrateRefusal),
 }
 
 impl LedgerRefusal {

@@ -1,8 +1,10 @@
-//! Tests of devices of layouts 1 and 2: what they are copied to, and what is listed of a ledger. Of a device of any
-//! layout they see which calls opening makes, and writing it anew. The devices are written by the tables of the
-//! formats, and in no word of the crates that are tested.
+//! Tests of devices of layouts 1 and 2 and of ledgers: what they are copied to, and what is listed of a ledger. Of a
+//! device of any layout they see which calls opening makes, and writing it anew. The devices are written by the tables
+//! of the formats, and in no word of the crates that are tested.
 #![tactic(auto)]
 
+#[cfg(test)]
+mod copies;
 #[cfg(test)]
 mod listings;
 #[cfg(test)]

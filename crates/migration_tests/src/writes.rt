@@ -3,8 +3,8 @@ use crate::old_devices::{ZERO, deposited, of_layout_1};
 use crate::openings::{Faulty, failing_at};
 use fault_injector::Call;
 use gate_journal::{ACCOUNTS, FormatRefusal, Snapshot, format, format_with};
-use journal_recovery::{MigrateRefusal, migrate};
-use sector_device::Device;
+use journal_recovery::{MigrateRefusal, copy, migrate};
+use sector_device::{Device, MemoryDevice};
 use std::alloc::Global;
 use std::process::Abort;
 use std::test::Fail;
@@ -48,6 +48,7 @@ enum Maker {
     Format,
     FormatWith,
     Migrate,
+    Copy,
 }
 
 impl Maker {
@@ -62,11 +63,12 @@ impl Maker {
             }
             Maker::Migrate => {
                 let old = of_layout_1(rt, alloc, &[deposited(1, 5); 3])?;
-                return match migrate(alloc, old, device, 2) {
-                    (_, Ok(())) => Ok(false),
-                    (_, Err(MigrateRefusal::Target)) => Ok(true),
-                    (_, Err(refusal)) => panic!(rt; "{refusal}"),
-                };
+                return target_failed(rt, migrate(alloc, old, device, 2));
+            }
+            Maker::Copy => {
+                let mut old = MemoryDevice::new(alloc, SECTORS as u64)?;
+                format(&mut old, 2)?;
+                return target_failed(rt, copy(alloc, old, device, 2));
             }
         };
         match made {
@@ -77,11 +79,28 @@ impl Maker {
     }
 }
 
+// Whether the device that was copied to failed.
+fn target_failed(
+    rt: &impl Abort,
+    (_, answer): (MemoryDevice, Result<(), MigrateRefusal>),
+) -> Result<bool, Fail> {
+    match answer {
+        Ok(()) => Ok(false),
+        Err(MigrateRefusal::Target) => Ok(true),
+        Err(refusal) => panic!(rt; "{refusal}"),
+    }
+}
+
 // Without a fault too, which the last number is of. The call that fails isn't noted.
 #[test]
 fn the_superblock_is_written_last(rt: HostRuntime) -> Result<(), Fail> {
     let alloc = rt.alloc();
-    for maker in [Maker::Format, Maker::FormatWith, Maker::Migrate] {
+    for maker in [
+        Maker::Format,
+        Maker::FormatWith,
+        Maker::Migrate,
+        Maker::Copy,
+    ] {
         for number in 0..=CALLS.len() {
             let mut device = failing_at(&rt, alloc, &[ZERO; SECTORS], number)?;
             let fails = maker.fails(&rt, alloc, &mut device)?;

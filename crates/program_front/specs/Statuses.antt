@@ -1,5 +1,5 @@
 -- By which status a fault ends `derbyfig`.
-use Rattle.program_ends.specs.Status.{of_ledger, of_migration}
+use Rattle.program_ends.specs.Status.{of_ledger, of_migration, of_opening}
 use Rattle.ledger_file.specs.declared.refusal.CopyRefusal.{CopyRefusal}
 use Rattle.ledger_file.specs.declared.refusal.CopyRefusal.TheVariants as copy
 use Rattle.program_ends.specs.declared.status.Status.{Status}
@@ -14,7 +14,8 @@ use Rattle.program_front.specs.declared.faults.Fault.TheVariants as fault
 abbrev pub status_of : Fault → Status
 status_of (fault.Script inner) = status_of_script inner
 status_of (fault.Ledger path refusal) = of_ledger refusal
-status_of (fault.Older path inner) = Failed
+status_of (fault.Unread path inner) = Failed
+status_of (fault.NoLedger path refusal) = of_opening refusal
 status_of (fault.Migration (migration.Refused refusal)) = of_migration refusal
 status_of (fault.Migration migration.NotEmpty) = Refused
 status_of (fault.Office inner) = office.status_of inner
@@ -22,4 +23,4 @@ status_of (fault.Office inner) = office.status_of inner
 -- and of a ledger that wasn't copied, that of its path or of the copying
 abbrev pub of_copy : CopyRefusal → Status
 of_copy (copy.Target refusal) = of_ledger refusal
-of_copy (copy.Migrate refusal) = of_migration refusal
+of_copy (copy.Copy refusal) = of_migration refusal

@@ -50,6 +50,7 @@ pub(crate) fn derbyfig_command<'a>(alloc: Global) -> Result<Command<'a>, Error>
         .subcommand(balances(alloc)?)?
         .subcommand(map(alloc)?)?
         .subcommand(format(alloc)?)?
+        .subcommand(copy(alloc)?)?
         .subcommand(migrate(alloc)?)?;
     Ok(command)
 }
@@ -177,16 +178,42 @@ fn format<'a>(alloc: Global) -> Result<Command<'a>, Error>
     Ok(command)
 }
 
+fn copy<'a>(alloc: Global) -> Result<Command<'a>, Error>
+    ensures memory { IfErr result (λ error. kind_of error ≡ OutOfMemory) }
+{
+    let ledger = positional(
+        alloc,
+        "LEDGER",
+        "The file or the disk that has the ledger; it is only read",
+    );
+    let about = "Copy a ledger to another file or disk, with as many slots as are asked for";
+    command_that_copies(alloc, "copy", about, ledger)
+}
+
 fn migrate<'a>(alloc: Global) -> Result<Command<'a>, Error>
     ensures memory { IfErr result (λ error. kind_of error ≡ OutOfMemory) }
 {
-    let command = Command::new(alloc, "migrate")
-        .about("Copy a ledger of layout 1 or 2 to another file or disk, in layout 3")
-        .arg(positional(
-            alloc,
-            "OLD",
-            "The file or the disk that has the older ledger; it is only read",
-        ))?
+    let old = positional(
+        alloc,
+        "OLD",
+        "The file or the disk that has the older ledger; it is only read",
+    );
+    let about = "Copy a ledger of layout 1 or 2 to another file or disk, in layout 3";
+    command_that_copies(alloc, "migrate", about, old)
+}
+
+// A command that copies this ledger.
+fn command_that_copies<'a>(
+    alloc: Global,
+    name: &'a str,
+    about: &'a str,
+    ledger: Arg<'a>,
+) -> Result<Command<'a>, Error>
+    ensures memory { IfErr result (λ error. kind_of error ≡ OutOfMemory) }
+{
+    let command = Command::new(alloc, name)
+        .about(about)
+        .arg(ledger)?
         .arg(positional(
             alloc,
             "NEW",

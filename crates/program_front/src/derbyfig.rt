@@ -7,12 +7,14 @@ ghost use Rattle.console_engine.specs.Lines.{first_fault};
 ghost use Rattle.program_front.specs.Statuses.{status_of};
 
 use crate::faults::Fault;
-use crate::request::{Request, Running};
+use crate::request::{Copying, Request, Running};
 use crate::words::read_request;
 use clap::Error;
 use console_engine::{ScriptFault, run_script};
 use file_device::{FileDevice, Locking, Making, ReadOnlyFile};
-use ledger_file::{Formatting, LedgerRefusal, copy_ledger, format_ledger, open_for_script};
+use ledger_file::{
+    Formatting, LedgerRefusal, copy_ledger, format_ledger, migrate_ledger, open_for_script,
+};
 use ledger_inspection::inspect_file;
 use office_engine::{Serving, Terminal, serve};
 use program_ends::{Status, Watched, fail, tell_words, tell_wrong, unwritten};
@@ -68,15 +70,10 @@ pub fn run_derbyfig<
         Request::Format { path, formatting } => {
             ended(alloc, make(rt, alloc, path, formatting, writer), errors)
         }
-        Request::Migrate {
-            old,
-            path,
-            formatting,
-        } => ended(
-            alloc,
-            copy(rt, alloc, old, path, formatting, writer),
-            errors,
-        ),
+        Request::Migrate(copying) => {
+            ended(alloc, migrate_file(rt, alloc, copying, writer), errors)
+        }
+        Request::Copy(copying) => ended(alloc, copy_file(rt, alloc, copying, writer), errors),
     };
     status.code()
 }
@@ -181,22 +178,53 @@ fn make<'a, F: Files<File = File>, W: Write>(
     }
 }
 
-// Copies an older ledger, which is opened first, so that nothing is made if it isn't there.
-fn copy<'a, F: Files<File = File>, W: Write>(
+// Copies an older ledger.
+fn migrate_file<'a, F: Files<File = File>, W: Write>(
     rt: &F,
     alloc: Global,
-    old: &'a str,
-    path: &'a str,
-    formatting: Formatting,
+    copying: Copying<'a>,
     writer: &mut W,
 ) -> Result<(), Fault<'a>> {
-    let older = match ReadOnlyFile::open(rt, alloc, old, Locking::Shared) {
-        Ok(older) => older,
-        Err(fault) => return Err(Fault::of_older(old, fault)),
-    };
-    match copy_ledger(rt, alloc, older, path, formatting) {
+    let Copying {
+        old,
+        path,
+        formatting,
+    } = copying;
+    let older = opened_first(rt, alloc, old)?;
+    match migrate_ledger(rt, alloc, older, path, formatting) {
         Ok(_) => say(alloc, format_args!("migrated {}", formatting.slots), writer),
-        Err(refusal) => Err(Fault::of_copy(path, refusal)),
+        Err(refusal) => Err(Fault::of_migration(path, refusal)),
+    }
+}
+
+// Copies a ledger of the present layout.
+fn copy_file<'a, F: Files<File = File>, W: Write>(
+    rt: &F,
+    alloc: Global,
+    copying: Copying<'a>,
+    writer: &mut W,
+) -> Result<(), Fault<'a>> {
+    let Copying {
+        old,
+        path,
+        formatting,
+    } = copying;
+    let ledger = opened_first(rt, alloc, old)?;
+    match copy_ledger(rt, alloc, ledger, path, formatting) {
+        Ok(_) => say(alloc, format_args!("copied {}", formatting.slots), writer),
+        Err(refusal) => Err(Fault::of_copy(old, path, refusal)),
+    }
+}
+
+// A ledger that is to be copied, which is opened first, so that nothing is made if it isn't there.
+fn opened_first<'a, F: Files<File = File>>(
+    rt: &F,
+    alloc: Global,
+    path: &'a str,
+) -> Result<ReadOnlyFile, Fault<'a>> {
+    match ReadOnlyFile::open(rt, alloc, path, Locking::Shared) {
+        Ok(file) => Ok(file),
+        Err(fault) => Err(Fault::of_source(path, fault)),
     }
 }
 

@@ -1,12 +1,12 @@
 //! Why a command of `derbyfig` ends early.
 ghost use Rattle.std.specs.Prelude.{◌≡◌};
-ghost use Rattle.program_ends.specs.Status.{of_ledger};
+ghost use Rattle.program_ends.specs.Status.{of_ledger, of_opening};
 ghost use Rattle.program_front.specs.Statuses.{status_of, of_copy};
 
 use console_engine::ScriptFault;
 use file_device::FileFault;
 use journal_recovery::{MigrateRefusal, OpenName, OpenRefusal};
-use ledger_file::{CopyRefusal, LedgerRefusal};
+use ledger_file::{CopyRefusal, FormatRefusal, LedgerRefusal, PartFault};
 use office_engine::OfficeFault;
 use program_ends::Status;
 use std::fmt;
@@ -47,11 +47,17 @@ pub enum Fault<'a> {
         path: &'a str,
         refusal: LedgerRefusal,
     },
-    /// An older ledger can't be looked at.
+    /// A ledger that is to be copied can't be looked at.
     #[error("{path}: {fault}")]
-    Older {
+    Unread {
         path: &'a str,
         fault: FileFault,
+    },
+    /// A ledger that is to be copied isn't sound.
+    #[error("{path}: {refusal}")]
+    NoLedger {
+        path: &'a str,
+        refusal: OpenRefusal,
     },
     /// An older ledger wasn't copied.
     #[error("{0}")]
@@ -75,7 +81,8 @@ impl<'a> Fault<'a> {
             Fault::Migration(MigrationFault::Refused(refusal)) => Status::from(refusal),
             Fault::Migration(MigrationFault::NotEmpty) => Status::Refused,
             Fault::Office(fault) => fault.status(),
-            Fault::Older { .. } => Status::Failed,
+            Fault::NoLedger { refusal, .. } => Status::from(refusal),
+            Fault::Unread { .. } => Status::Failed,
         }
     }
 
@@ -89,24 +96,60 @@ impl<'a> Fault<'a> {
         Fault::Ledger { path, refusal }
     }
 
-    // Of an older ledger that can't be looked at.
-    pub(crate) fn of_older(path: &'a str, fault: FileFault) -> Fault<'a>
+    // Of a ledger that is to be copied, and can't be looked at.
+    pub(crate) fn of_source(path: &'a str, fault: FileFault) -> Fault<'a>
         ensures { status_of result ≡ Status.Failed }
     {
         match fault {
             FileFault::Memory => Fault::MEMORY,
-            fault => Fault::Older { path, fault },
+            fault => Fault::Unread { path, fault },
         }
     }
 
-    // Of a ledger that wasn't copied to a path.
-    pub(crate) fn of_copy(path: &'a str, refusal: CopyRefusal) -> Fault<'a>
+    // Of an older ledger that wasn't copied to a path.
+    pub(crate) fn of_migration(path: &'a str, refusal: CopyRefusal) -> Fault<'a>
         ensures { status_of result ≡ of_copy refusal }
     {
         match refusal {
             CopyRefusal::Target(refusal) => Fault::of_ledger(path, refusal),
-            CopyRefusal::Migrate(MigrateRefusal::Source(OpenRefusal::Memory)) => Fault::MEMORY,
-            CopyRefusal::Migrate(refusal) => Fault::Migration(MigrationFault::Refused(refusal)),
+            CopyRefusal::Copy(MigrateRefusal::Source(OpenRefusal::Memory)) => Fault::MEMORY,
+            CopyRefusal::Copy(refusal) => Fault::Migration(MigrationFault::Refused(refusal)),
+        }
+    }
+
+    // Of a ledger that wasn't copied from one path to another.
+    pub(crate) fn of_copy(old: &'a str, path: &'a str, refusal: CopyRefusal) -> Fault<'a>
+        ensures { status_of result ≡ of_copy refusal }
+    {
+        let refusal = match refusal {
+            CopyRefusal::Target(refusal) => refusal,
+            CopyRefusal::Copy(MigrateRefusal::Source(refusal)) => {
+                return Fault::of_opening(old, refusal);
+            }
+            CopyRefusal::Copy(MigrateRefusal::TooManySlots) => {
+                LedgerRefusal::Format(FormatRefusal::TooManySlots)
+            }
+            CopyRefusal::Copy(MigrateRefusal::TooSmall) => {
+                LedgerRefusal::Format(FormatRefusal::TooSmall)
+            }
+            CopyRefusal::Copy(MigrateRefusal::Target) => {
+                LedgerRefusal::Format(FormatRefusal::Device)
+            }
+        };
+        Fault::of_ledger(path, refusal)
+    }
+
+    // Of a path where there is no sound ledger of the present layout.
+    fn of_opening(path: &'a str, refusal: OpenRefusal) -> Fault<'a>
+        ensures { status_of result ≡ of_opening refusal }
+    {
+        match refusal {
+            OpenRefusal::Memory => Fault::MEMORY,
+            OpenRefusal::Version(version) => Fault::Ledger {
+                path,
+                refusal: LedgerRefusal::Part(PartFault::OtherVersion(version)),
+            },
+            refusal => Fault::NoLedger { path, refusal },
         }
     }
 }

@@ -33,5 +33,5 @@ pub use ledger_file::{DeviceRefusal, DiskFault, FileFault, Formatting, LedgerRef
 pub use ledger_inspection::{Date, Format, Inspection, JournalWish, Locking, Selection, Task};
 pub use office_engine::{Serving, Terminal};
 pub use program_ends::Status;
-pub use request::{Request, Running};
+pub use request::{Copying, Request, Running};
 pub use words::read_request;

@@ -17,12 +17,20 @@ pub enum Request<'a> {
         path: &'a str,
         formatting: Formatting,
     },
-    /// To copy the ledger of an older file to this path.
-    Migrate {
-        old: &'a str,
-        path: &'a str,
-        formatting: Formatting,
-    },
+    /// To copy a ledger of an older layout.
+    Migrate(Copying<'a>),
+    /// To copy a ledger of the present one.
+    Copy(Copying<'a>),
+}
+
+/// A ledger that is to be copied.
+#[derive(Clone, Copy, Debug)]
+pub struct Copying<'a> {
+    /// The path of the ledger, which is only read.
+    pub old: &'a str,
+    /// The path that the copy gets.
+    pub path: &'a str,
+    pub formatting: Formatting,
 }
 
 /// A script that is to be run.

@@ -5,7 +5,7 @@ ghost use Rattle.program_front.specs.Requests.{IsWithin};
 
 use crate::commands::derbyfig_command;
 use crate::option_table::{ACCOUNT, FORMAT, FROM, OutOfRange, REFERENCE, SECTORS, SLOTS, STATIONS};
-use crate::request::{Request, Running};
+use crate::request::{Copying, Request, Running};
 use clap::error::ErrorKind;
 use clap::{ArgMatches, Error};
 use ledger_file::Formatting;
@@ -48,8 +48,8 @@ enum WrongWord {
     NoDate,
     #[error("a number is out of range")]
     OutOfRange,
-    #[error("NEW is OLD; take another path")]
-    OnePath,
+    #[error("NEW is {0}; take another path")]
+    OnePath(&'static str),
 }
 
 impl From<OutOfRange> for WrongWord {
@@ -72,7 +72,8 @@ fn requested<'a>(alloc: Global, matches: &ArgMatches<'a>) -> Result<Request<'a>,
         "run" => running(options),
         "serve" => serving(alloc, options),
         "format" => making(options),
-        "migrate" => migration(options),
+        "migrate" => Ok(Request::Migrate(copying(options, "OLD")?)),
+        "copy" => Ok(Request::Copy(copying(options, "LEDGER")?)),
         _ => inspection(name, options),
     }
 }
@@ -142,15 +143,16 @@ fn formatting(options: &ArgMatches<'_>) -> Result<Formatting, WrongWord>
     })
 }
 
-fn migration<'a>(options: &ArgMatches<'a>) -> Result<Request<'a>, WrongWord>
-    ensures within { IfOk result IsWithin }
+// The ledger that has this name among the words, to be copied.
+fn copying<'a>(options: &ArgMatches<'a>, ledger: &'static str) -> Result<Copying<'a>, WrongWord>
+    ensures slots { IfOk result (λ copying. non_zero_u64_get copying.formatting.slots ≤ 1000000) }
 {
-    let (old, path) = (path(options, "OLD")?, path(options, "NEW")?);
+    let (old, path) = (path(options, ledger)?, path(options, "NEW")?);
     if old == path {
-        return Err(WrongWord::OnePath);
+        return Err(WrongWord::OnePath(ledger));
     }
     let formatting = formatting(options)?;
-    Ok(Request::Migrate {
+    Ok(Copying {
         old,
         path,
         formatting,
