@@ -1,0 +1,34 @@
+#!/bin/sh
+# Runs an office for systemd, or ends it. Words: start or stop, and the office's name.
+# The ledger is /var/lib/derbyfig/NAME.ledger, and is made where nothing is. The counters are folders with two pipes in
+# /run/derbyfig/NAME: `control`, for whoever runs the office, and those that COUNTERS in /etc/derbyfig/NAME names, with
+# blanks between them. SLOTS there says how many slots each bank of a ledger has that is made.
+set -eu
+task=$1 name=$2
+counters=/run/derbyfig/$name ledger=/var/lib/derbyfig/$name.ledger
+COUNTERS='' SLOTS=1024
+if [ -e "/etc/derbyfig/$name" ]; then . "/etc/derbyfig/$name"; fi
+
+start() {
+    set --
+    for counter in control $COUNTERS; do
+        mkdir -p "$counters/$counter"
+        for pipe in in out; do
+            [ -p "$counters/$counter/$pipe" ] || mkfifo -m 660 "$counters/$counter/$pipe"
+        done
+        set -- "$@" --counter "$counters/$counter"
+    done
+    [ -e "$ledger" ] || set -- "$@" --format "$SLOTS"
+    exec derbyfig serve "$ledger" "$@"
+}
+
+# Asks the office to close, and waits until it has ended: what was asked before is answered first.
+stop() {
+    timeout 5 sh -c 'echo close > "$1"' close "$counters/control/in"
+    exec timeout 60 tail --pid="$MAINPID" -f /dev/null
+}
+
+case $task in
+    start | stop) "$task" ;;
+    *) echo "start NAME or stop NAME" >&2 && exit 2 ;;
+esac
