@@ -1,5 +1,6 @@
 use Rattle.std.proofs.Common.{◌∙◌, ℕ, List, sym, ap, subst, refl}
-use Rattle.script_grammar.specs.Grammar.{IsRead, Spells, forms, is_skipped, line_fault}
+use Rattle.script_grammar.specs.Grammar.{IsRead, Spells, forms, line_fault}
+use Rattle.script_grammar.specs.Places.{is_skipped}
 use Rattle.script_grammar.specs.Script.{words_of}
 use Rattle.script_grammar.proofs.GrammarLemmas.{skipped}
 use Rattle.script_grammar.proofs.commands.read_command.Goals as goal

@@ -1,5 +1,5 @@
 use Rattle.std.proofs.Common.{◌∙◌, ℕ, List, sym, ap, subst, refl}
-use Rattle.script_grammar.specs.Grammar.{is_skipped}
+use Rattle.script_grammar.specs.Places.{is_skipped}
 use Rattle.script_grammar.specs.Requests.{IsRequestRead, SpellsRequest, request_fault, request_forms}
 use Rattle.script_grammar.specs.Script.{words_of}
 use Rattle.script_grammar.proofs.GrammarLemmas.{skipped}
