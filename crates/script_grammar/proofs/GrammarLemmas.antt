@@ -1,6 +1,7 @@
 -- What the grammar says of a line, form by form.
 use Rattle.std.proofs.Common.{◌≡◌, ◌≢◌, ◌∙◌, ℕ, suc, ◌<◌, ◌≤◌, ◌&&◌, Bool, true, false, if◌then◌else◌, Option, Some, None, Result, Ok, Err, List, [], ◌∷◌, ◌++◌, length, drop, map, filter, ◌==◌, nat_lt, arith, refl, sym, ap, subst}
 use Rattle.std.specs.Prelude.{IfErr, IfOk}
+use Rattle.std.specs.Option.{option_or}
 use Rattle.std.specs.Str.{bytes_eq, IsUtf8}
 use Rattle.std.specs.List.{All, list_all}
 use Rattle.std.proofs.Math.Dec.{eqb-suc-suc}
@@ -23,28 +24,20 @@ Word = List ℕ
 
 -- ---- the words of a form, and of another behind it
 
-wrong_before : (ok : Bool) (one more : Option LineFault) (known fault : LineFault) → (one ≡ Some fault → more ≡ Some fault)
-    → (if ok then one else Some known) ≡ Some fault → (if ok then more else Some known) ≡ Some fault
-wrong_before true one more known fault keep h = keep h
-wrong_before false one more known fault keep h = h
-
-pub wrong_first : (f g : List Field) (words : List Word) (fault : LineFault) → first_wrong f words ≡ Some fault → first_wrong (f ++ g) words ≡ Some fault
+first_of_both : (f g : List Field) (words : List Word) → length f ≤ length words
+    → first_wrong (f ++ g) words ≡ option_or (first_wrong f words) (first_wrong g (drop (length f) words))
 unfolding first_wrong
-wrong_first [] g words fault h = absurd (none-some _ h)
-wrong_first (place ∷ f) g [] fault h = absurd (none-some _ h)
-wrong_first (place ∷ f) g (word ∷ words) fault h = wrong_before (takes place word) _ _ _ fault (wrong_first f g words fault) h
+first_of_both [] g words enough = refl
+first_of_both (place ∷ f) g [] enough = absurd (omega (arith, enough))
+first_of_both (place ∷ f) g (word ∷ words) enough =
+    elim (takes place word)
+    as (λ ok. (if ok then first_wrong (f ++ g) words else Some (told_as place))
+    ≡ option_or (if ok then first_wrong f words else Some (told_as place)) (first_wrong g (drop (length f) words)))
+    [ true ↦ first_of_both f g words (omega (arith, enough)) | false ↦ refl ]
 
-right_before : (ok : Bool) (one more later : Option LineFault) (known : LineFault) → (one ≡ None → more ≡ later)
-    → (if ok then one else Some known) ≡ None → (if ok then more else Some known) ≡ later
-right_before true one more later known keep h = keep h
-right_before false one more later known keep h = absurd (none-some _ (sym h))
-
-right_first : (f g : List Field) (words : List Word) → length f ≤ length words → first_wrong f words ≡ None
-    → first_wrong (f ++ g) words ≡ first_wrong g (drop (length f) words)
-unfolding first_wrong
-right_first [] g words enough h = refl
-right_first (place ∷ f) g [] enough h = absurd (omega (arith, enough))
-right_first (place ∷ f) g (word ∷ words) enough h = right_before (takes place word) _ _ _ _ (right_first f g words (omega (arith, enough))) h
+pub wrong_first : (f g : List Field) (words : List Word) (fault : LineFault) → length f ≤ length words → first_wrong f words ≡ Some fault
+    → first_wrong (f ++ g) words ≡ Some fault
+wrong_first f g words fault enough h = first_of_both f g words enough ∙ ap (λ (o : Option LineFault). option_or o (first_wrong g (drop (length f) words))) h
 
 values_first : (f g : List Field) (words : List Word) → length f ≤ length words → values (f ++ g) words ≡ values f words ++ values g (drop (length f) words)
 values_first [] g words enough = refl
@@ -60,7 +53,9 @@ drop_first (place ∷ f) g (word ∷ words) = drop_first f g words
 -- the words of `g` come behind those of `f`, which were taken
 module _ (f g : List Field) (a : List Value) (old mid : List Word) (enough : length f ≤ length old) (taken : (first_wrong f old ≡ None) × AreTaken f a old mid) where
   pub then_told : (found : Option LineFault) → first_wrong g mid ≡ found → first_wrong (f ++ g) old ≡ found
-  then_told found h = right_first f g old enough taken.0 ∙ ap (first_wrong g) (sym taken.1.1) ∙ h
+  then_told found h =
+      first_of_both f g old enough ∙ ap (λ (o : Option LineFault). option_or o (first_wrong g (drop (length f) old))) taken.0
+      ∙ ap (first_wrong g) (sym taken.1.1) ∙ h
 
   pub then_taken : (b : List Value) (new : List Word) → (first_wrong g mid ≡ None) × AreTaken g b mid new
       → (first_wrong (f ++ g) old ≡ None) × AreTaken (f ++ g) (a ++ b) old new
@@ -157,26 +152,24 @@ alike text word name same plain =
     let each = AllPass-from_list_all (λ byte. nat_lt byte 128) name (and_parts _ _ plain).1 in
     same name (IsUtf8-from_ascii name (IsAscii-from_all name (λ k d low. ltb-true _ _ (each k d low)))) (ltb-true _ _ (and_parts _ _ plain).0)
 
-is_name : (text word name : Word) → IsText text word → is_plain name ≡ true → text ≡ name → word ≡ name
+pub is_name : (text word name : Word) → IsText text word → is_plain name ≡ true → text ≡ name → word ≡ name
 is_name text word name same plain e = (bytes_eq-Decides word name).0 (sym (alike text word name same plain) ∙ (bytes_eq-Decides text name).1 e)
 
 pub no_name : (text word name : Word) → IsText text word → is_plain name ≡ true → (text ≡ name → ⊥) → bytes_eq word name ≡ false
 no_name text word name same plain other = sym (alike text word name same plain) ∙ false_from_ne_true _ (λ t. other ((bytes_eq-Decides text name).0 t))
 
--- what is answered to words of which the first is this name
-pub named : {T : Type 0} (wrong : List Word → Option LineFault) (Spelled : List Word → T → Type 0) (text word name : Word) (words : List Word) (found : Option LineFault)
-    (r : Result T LineFault) → IsText text word → is_plain name ≡ true → text ≡ name → wrong (name ∷ words) ≡ found
-    → IsAnswer found (Spelled (name ∷ words)) r → IsAnswer (wrong (word ∷ words)) (Spelled (word ∷ words)) r
-named wrong Spelled text word name words found r same plain e known answer =
-    subst (λ (w : Word). IsAnswer (wrong (w ∷ words)) (Spelled (w ∷ words)) r) (sym (is_name text word name same plain e))
-    (subst (λ (l : Option LineFault). IsAnswer l (Spelled (name ∷ words)) r) (sym known) answer)
+-- words of which the first is this name, which these forms alone have
+module _ (text word name : Word) (words : List Word) (same : IsText text word) (plain : is_plain name ≡ true) (is : text ≡ name) where
+  pub told : (wrong : List Word → Option LineFault) (forms : List (List Field)) → wrong (name ∷ words) ≡ told_of_named (map (λ form. Name name ∷ form) forms) (name ∷ words)
+      → wrong (word ∷ words) ≡ told_of_named forms words
+  told wrong forms alone = ap (λ (w : Word). wrong (w ∷ words)) (is_name text word name same plain is) ∙ alone ∙ behind name forms words
 
--- and this name alone has the form
-pub named_form : {T : Type 0} (wrong : List Word → Option LineFault) (Spelled : List Word → T → Type 0) (text word name : Word) (places : List Field) (words : List Word)
-    (r : Result T LineFault) → IsText text word → is_plain name ≡ true → text ≡ name → wrong (name ∷ words) ≡ told_of_one (Name name ∷ places) (name ∷ words)
-    → IsAnswer (told_of_one places words) (Spelled (name ∷ words)) r → IsAnswer (wrong (word ∷ words)) (Spelled (word ∷ words)) r
-named_form wrong Spelled text word name places words r same plain e one answer =
-    named wrong Spelled text word name words _ r same plain e (one ∙ behind name (places ∷ []) words) answer
+  pub found : (wrong : List Word → Option LineFault) (places : List Field) (these : List Value) → wrong (name ∷ words) ≡ told_of_one (Name name ∷ places) (name ∷ words)
+      → (told_of_one places words ≡ None) × Fills words places these → (wrong (word ∷ words) ≡ None) × Fills (word ∷ words) (Name name ∷ places) these
+  found wrong places these alone h = (
+    told wrong (places ∷ []) alone ∙ h.0,
+    subst (λ (w : Word). Fills (w ∷ words) (Name name ∷ places) these) (sym (is_name text word name same plain is)) (fills_named name places words these h.1),
+  )
 
 -- nothing is wrong with a line that says nothing
 pub skipped : (table : List (List Field)) (words : List Word) → is_skipped words ≡ true → fault_by table words ≡ None

@@ -7,7 +7,7 @@ ghost use Rattle.script_grammar.specs.Script.{words_of};
 use crate::entries::{Reference, read_entry};
 use crate::faults::LineFault;
 use crate::numbers::Bits;
-use crate::places::{Place, Turns, exactly};
+use crate::places::{Nothing, One, Place, Three, Turns, exactly};
 use crate::words::{Words, first_name, text_of, word};
 use std::num::NonZeroU64;
 use turn_ledger::Entry;
@@ -38,6 +38,7 @@ pub enum Command {
 ///
 /// # Errors
 /// [`LineFault`], the first thing that is wrong with the line.
+#[tactic(auto, using(crate::proofs::GrammarLemmas::skipped), unfolding(crate::specs::Grammar::IsRead, crate::specs::Grammar::line_fault))]
 pub fn read_command(line: &[u8], number: u64) -> Result<Option<Command>, LineFault>
     ensures fault { IfErr result (λ fault. line_fault (words_of line.now) ≡ Some fault) }
     ensures sound { OnOk result (line_fault (words_of line.now) ≡ None) }
@@ -62,32 +63,32 @@ fn read_named(name: &[u8], words: Words<'_>, line: u64) -> Result<Command, LineF
 {
     match text_of(name) {
         "format" => {
-            let (slots,) = exactly(words)?;
+            let One(slots) = exactly(words)?;
             Ok(Command::Format { slots })
         }
         "open" => {
-            let (stations, x, up) = exactly(words)?;
+            let Three(stations, x, up) = exactly(words)?;
             Ok(Command::Open { stations, x, up })
         }
         "post" => read_post(words, line),
         "turn" => {
-            let (station,) = exactly(words)?;
+            let One(station) = exactly(words)?;
             Ok(Command::Turn { station })
         }
         "bits" => {
-            let () = exactly(words)?;
+            let Nothing = exactly(words)?;
             Ok(Command::Bits)
         }
         "balances" => {
-            let () = exactly(words)?;
+            let Nothing = exactly(words)?;
             Ok(Command::Balances)
         }
         "crash" => {
-            let () = exactly(words)?;
+            let Nothing = exactly(words)?;
             Ok(Command::Crash)
         }
         "day" => {
-            let (Turns(moves),) = exactly(words)?;
+            let One(Turns(moves)) = exactly(words)?;
             Ok(Command::Day { moves })
         }
         _ => Err(LineFault::UnknownCommand),

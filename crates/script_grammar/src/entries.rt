@@ -5,7 +5,7 @@ ghost use Rattle.script_grammar.specs.Places.{IsAnswer, told_by};
 ghost use Rattle.script_grammar.specs.declared.entries.Reference.TheVariants.{GivenOr};
 
 use crate::faults::LineFault;
-use crate::places::{Places, exactly, next};
+use crate::places::{One, Places, Three, Two, exactly, next};
 use crate::words::{Words, text_of};
 use turn_ledger::Entry;
 
@@ -25,7 +25,7 @@ pub fn read_entry(kind: &[u8], words: Words<'_>, reference: Reference) -> Result
 {
     match text_of(kind) {
         "deposit" => {
-            let ((to, amount), reference) = with_reference(words, reference)?;
+            let (Two(to, amount), reference) = with_reference(words, reference)?;
             Ok(Entry::Deposit {
                 to,
                 amount,
@@ -33,7 +33,7 @@ pub fn read_entry(kind: &[u8], words: Words<'_>, reference: Reference) -> Result
             })
         }
         "withdraw" => {
-            let ((from, amount), reference) = with_reference(words, reference)?;
+            let (Two(from, amount), reference) = with_reference(words, reference)?;
             Ok(Entry::Withdraw {
                 from,
                 amount,
@@ -41,7 +41,7 @@ pub fn read_entry(kind: &[u8], words: Words<'_>, reference: Reference) -> Result
             })
         }
         "transfer" => {
-            let ((from, to, amount), reference) = with_reference(words, reference)?;
+            let (Three(from, to, amount), reference) = with_reference(words, reference)?;
             Ok(Entry::Transfer {
                 from,
                 to,
@@ -50,7 +50,7 @@ pub fn read_entry(kind: &[u8], words: Words<'_>, reference: Reference) -> Result
             })
         }
         "seal" => {
-            let ((account,), reference) = with_reference(words, reference)?;
+            let (One(account), reference) = with_reference(words, reference)?;
             Ok(Entry::Seal { account, reference })
         }
         _ => Err(LineFault::UnknownCommand),

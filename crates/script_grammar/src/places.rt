@@ -129,7 +129,11 @@ pub trait Places: Copy {
             (λ these. AreTaken fields (values these) words.old words.new) result };
 }
 
-impl Places for () {
+/// What no words write.
+#[derive(Clone, Copy)]
+pub struct Nothing;
+
+impl Places for Nothing {
     ghost fields = { [] };
 
     ghost values = { λ _. [] };
@@ -139,12 +143,16 @@ impl Places for () {
     }
 
     #[tactic(auto, unfolding(crate::specs::Places::first_wrong))]
-    fn take(_words: &mut Words<'_>) -> Result<(), LineFault> {
-        Ok(())
+    fn take(_words: &mut Words<'_>) -> Result<Nothing, LineFault> {
+        Ok(Nothing)
     }
 }
 
-impl<A: Place> Places for (A,) {
+/// What one word writes.
+#[derive(Clone, Copy)]
+pub struct One<A>(pub A);
+
+impl<A: Place> Places for One<A> {
     ghost fields = { A.field ∷ [] };
 
     ghost values = { λ these. A.value these.0 ∷ [] };
@@ -153,12 +161,16 @@ impl<A: Place> Places for (A,) {
         1
     }
 
-    fn take(words: &mut Words<'_>) -> Result<(A,), LineFault> {
-        Ok((next(words)?,))
+    fn take(words: &mut Words<'_>) -> Result<One<A>, LineFault> {
+        Ok(One(next(words)?))
     }
 }
 
-impl<A: Place, B: Place> Places for (A, B) {
+/// What two words write.
+#[derive(Clone, Copy)]
+pub struct Two<A, B>(pub A, pub B);
+
+impl<A: Place, B: Place> Places for Two<A, B> {
     ghost fields = { A.field ∷ B.field ∷ [] };
 
     ghost values = { λ these. A.value these.0 ∷ B.value these.1 ∷ [] };
@@ -167,12 +179,16 @@ impl<A: Place, B: Place> Places for (A, B) {
         2
     }
 
-    fn take(words: &mut Words<'_>) -> Result<(A, B), LineFault> {
-        Ok((next(words)?, next(words)?))
+    fn take(words: &mut Words<'_>) -> Result<Two<A, B>, LineFault> {
+        Ok(Two(next(words)?, next(words)?))
     }
 }
 
-impl<A: Place, B: Place, C: Place> Places for (A, B, C) {
+/// What three words write.
+#[derive(Clone, Copy)]
+pub struct Three<A, B, C>(pub A, pub B, pub C);
+
+impl<A: Place, B: Place, C: Place> Places for Three<A, B, C> {
     ghost fields = { A.field ∷ B.field ∷ C.field ∷ [] };
 
     ghost values = { λ these. A.value these.0 ∷ B.value these.1 ∷ C.value these.2 ∷ [] };
@@ -181,8 +197,9 @@ impl<A: Place, B: Place, C: Place> Places for (A, B, C) {
         3
     }
 
-    fn take(words: &mut Words<'_>) -> Result<(A, B, C), LineFault> {
-        Ok((next(words)?, next(words)?, next(words)?))
+    fn take(words: &mut Words<'_>) -> Result<Three<A, B, C>, LineFault> {
+        let Two(first, second) = Two::take(words)?;
+        Ok(Three(first, second, next(words)?))
     }
 }
 

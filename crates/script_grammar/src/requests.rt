@@ -6,7 +6,7 @@ ghost use Rattle.script_grammar.specs.Script.{words_of};
 
 use crate::entries::{Reference, read_entry};
 use crate::faults::LineFault;
-use crate::places::exactly;
+use crate::places::{Nothing, One, exactly};
 use crate::words::{Words, first_name, text_of};
 use turn_ledger::Entry;
 
@@ -31,6 +31,7 @@ pub enum Request {
 ///
 /// # Errors
 /// [`LineFault`], the first thing that is wrong with the line; never `BadBits`.
+#[tactic(auto, using(crate::proofs::GrammarLemmas::skipped), unfolding(crate::specs::Requests::IsRequestRead, crate::specs::Requests::request_fault))]
 pub fn read_request(line: &[u8], number: u64) -> Result<Option<Request>, LineFault>
     ensures fault { IfErr result (λ fault. request_fault (words_of line.now) ≡ Some fault) }
     ensures sound { OnOk result (request_fault (words_of line.now) ≡ None) }
@@ -55,19 +56,19 @@ fn read_requested(name: &[u8], words: Words<'_>, line: u64) -> Result<Request, L
 {
     match text_of(name) {
         "balance" => {
-            let (account,) = exactly(words)?;
+            let One(account) = exactly(words)?;
             Ok(Request::Balance { account })
         }
         "find" => {
-            let (reference,) = exactly(words)?;
+            let One(reference) = exactly(words)?;
             Ok(Request::Find { reference })
         }
         "help" => {
-            let () = exactly(words)?;
+            let Nothing = exactly(words)?;
             Ok(Request::Help)
         }
         "close" => {
-            let () = exactly(words)?;
+            let Nothing = exactly(words)?;
             Ok(Request::Close)
         }
         _ => {

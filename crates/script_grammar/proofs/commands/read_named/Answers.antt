@@ -1,13 +1,13 @@
-use Rattle.std.proofs.Common.{◌≡◌, ◌∙◌, ℕ, List, [], ◌∷◌, Ok, Err, codes, refl, rules}
+use Rattle.std.proofs.Common.{◌≡◌, ◌∙◌, ℕ, List, [], ◌∷◌, codes, refl, rules, subst, sym}
 use Rattle.script_grammar.specs.Grammar.{IsRead, Spells, line_fault}
 use Rattle.script_grammar.specs.Places.{BitText, Moves, Number, Slots}
-use Rattle.script_grammar.specs.declared.commands.Command.TheVariants.{Format, Open, Turn, Bits, Balances, Crash, Day}
-use Rattle.script_grammar.proofs.GrammarLemmas.{fills_named, named, named_form, no_name}
+use Rattle.script_grammar.proofs.GrammarLemmas.{found, is_name, no_name, told}
 use Rattle.script_grammar.proofs.commands.read_named.Goals as goal
 
 pub returns-in-post : goal.returns-in-post
-unfolding IsRead
-returns-in-post c = named line_fault (λ l. Spells l c.args.line) _ _ (codes "post") c.args.words _ c.read_post.result c.text_of.ensures refl c.in-post.is refl c.read_post.ensures
+returns-in-post c =
+    subst (λ (w : List ℕ). IsRead (w ∷ c.args.words) c.args.line c.read_post.result)
+    (sym (is_name _ _ (codes "post") c.text_of.ensures refl c.in-post.is)) c.read_post.ensures
 
 pub returns-in_default : goal.returns-in_default
 unfolding IsRead line_fault
@@ -25,98 +25,56 @@ returns-in_default c = rw (
 
 pub returns-in_err-slots-in-format : goal.returns-in_err-slots-in-format
 unfolding IsRead line_fault
-returns-in_err-slots-in-format c = search (
-  rules,
-  named_form line_fault (λ l. Spells l c.args.line) _ _ (codes "format") (Slots ∷ []) c.args.words (Err _) c.text_of.ensures refl c.in-format.is refl c.in_err-slots-in-format.ensures,
-)
+returns-in_err-slots-in-format c = search (rules, told _ _ (codes "format") c.args.words c.text_of.ensures refl c.in-format.is line_fault ((Slots ∷ []) ∷ []) refl ∙ c.in_err-slots-in-format.ensures)
 
 pub returns-in_ok-slots-in-format : goal.returns-in_ok-slots-in-format
 unfolding IsRead Spells line_fault
-returns-in_ok-slots-in-format c =
-    let h = c.in_ok-slots-in-format in
-    named_form line_fault (λ l. Spells l c.args.line) _ _ (codes "format") (Slots ∷ []) c.args.words (Ok (Format h.field-0.0)) c.text_of.ensures refl c.in-format.is refl
-    (h.ensures.0, fills_named (codes "format") _ _ _ h.ensures.1)
+returns-in_ok-slots-in-format c = found _ _ (codes "format") c.args.words c.text_of.ensures refl c.in-format.is line_fault (Slots ∷ []) _ refl c.in_ok-slots-in-format.ensures
 
 pub returns-in_err-stations-in-open : goal.returns-in_err-stations-in-open
 unfolding IsRead line_fault
-returns-in_err-stations-in-open c = search (
-  rules,
-  named_form line_fault (λ l. Spells l c.args.line) _ _ (codes "open") (Number ∷ BitText ∷ BitText ∷ []) c.args.words (Err _) c.text_of.ensures refl c.in-open.is refl c.in_err-stations-in-open.ensures,
-)
+returns-in_err-stations-in-open c = search (rules, told _ _ (codes "open") c.args.words c.text_of.ensures refl c.in-open.is line_fault ((Number ∷ BitText ∷ BitText ∷ []) ∷ []) refl ∙ c.in_err-stations-in-open.ensures)
 
 pub returns-in_ok-stations-in-open : goal.returns-in_ok-stations-in-open
 unfolding IsRead Spells line_fault
-returns-in_ok-stations-in-open c =
-    let h = c.in_ok-stations-in-open in
-    named_form line_fault (λ l. Spells l c.args.line) _ _ (codes "open") (Number ∷ BitText ∷ BitText ∷ []) c.args.words (Ok (Open h.stations h.x h.up)) c.text_of.ensures refl c.in-open.is refl
-    (h.ensures.0, fills_named (codes "open") _ _ _ h.ensures.1)
+returns-in_ok-stations-in-open c = found _ _ (codes "open") c.args.words c.text_of.ensures refl c.in-open.is line_fault (Number ∷ BitText ∷ BitText ∷ []) _ refl c.in_ok-stations-in-open.ensures
 
 pub returns-in_err-station-in-turn : goal.returns-in_err-station-in-turn
 unfolding IsRead line_fault
-returns-in_err-station-in-turn c = search (
-  rules,
-  named_form line_fault (λ l. Spells l c.args.line) _ _ (codes "turn") (Number ∷ []) c.args.words (Err _) c.text_of.ensures refl c.in-turn.is refl c.in_err-station-in-turn.ensures,
-)
+returns-in_err-station-in-turn c = search (rules, told _ _ (codes "turn") c.args.words c.text_of.ensures refl c.in-turn.is line_fault ((Number ∷ []) ∷ []) refl ∙ c.in_err-station-in-turn.ensures)
 
 pub returns-in_ok-station-in-turn : goal.returns-in_ok-station-in-turn
 unfolding IsRead Spells line_fault
-returns-in_ok-station-in-turn c =
-    let h = c.in_ok-station-in-turn in
-    named_form line_fault (λ l. Spells l c.args.line) _ _ (codes "turn") (Number ∷ []) c.args.words (Ok (Turn h.field-0.0)) c.text_of.ensures refl c.in-turn.is refl
-    (h.ensures.0, fills_named (codes "turn") _ _ _ h.ensures.1)
+returns-in_ok-station-in-turn c = found _ _ (codes "turn") c.args.words c.text_of.ensures refl c.in-turn.is line_fault (Number ∷ []) _ refl c.in_ok-station-in-turn.ensures
 
 pub returns-in_err-exactly-in-bits : goal.returns-in_err-exactly-in-bits
 unfolding IsRead line_fault
-returns-in_err-exactly-in-bits c = search (
-  rules,
-  named_form line_fault (λ l. Spells l c.args.line) _ _ (codes "bits") ([]) c.args.words (Err _) c.text_of.ensures refl c.in-bits.is refl c.in_err-exactly-in-bits.ensures,
-)
+returns-in_err-exactly-in-bits c = search (rules, told _ _ (codes "bits") c.args.words c.text_of.ensures refl c.in-bits.is line_fault (([]) ∷ []) refl ∙ c.in_err-exactly-in-bits.ensures)
 
 pub returns-in_ok-exactly-in-bits : goal.returns-in_ok-exactly-in-bits
 unfolding IsRead Spells line_fault
-returns-in_ok-exactly-in-bits c =
-    let h = c.in_ok-exactly-in-bits in
-    named_form line_fault (λ l. Spells l c.args.line) _ _ (codes "bits") ([]) c.args.words (Ok (Bits)) c.text_of.ensures refl c.in-bits.is refl
-    (h.ensures.0, fills_named (codes "bits") _ _ _ h.ensures.1)
+returns-in_ok-exactly-in-bits c = found _ _ (codes "bits") c.args.words c.text_of.ensures refl c.in-bits.is line_fault ([]) _ refl c.in_ok-exactly-in-bits.ensures
 
 pub returns-in_err-exactly-in-balances : goal.returns-in_err-exactly-in-balances
 unfolding IsRead line_fault
-returns-in_err-exactly-in-balances c = search (
-  rules,
-  named_form line_fault (λ l. Spells l c.args.line) _ _ (codes "balances") ([]) c.args.words (Err _) c.text_of.ensures refl c.in-balances.is refl c.in_err-exactly-in-balances.ensures,
-)
+returns-in_err-exactly-in-balances c = search (rules, told _ _ (codes "balances") c.args.words c.text_of.ensures refl c.in-balances.is line_fault (([]) ∷ []) refl ∙ c.in_err-exactly-in-balances.ensures)
 
 pub returns-in_ok-exactly-in-balances : goal.returns-in_ok-exactly-in-balances
 unfolding IsRead Spells line_fault
-returns-in_ok-exactly-in-balances c =
-    let h = c.in_ok-exactly-in-balances in
-    named_form line_fault (λ l. Spells l c.args.line) _ _ (codes "balances") ([]) c.args.words (Ok (Balances)) c.text_of.ensures refl c.in-balances.is refl
-    (h.ensures.0, fills_named (codes "balances") _ _ _ h.ensures.1)
+returns-in_ok-exactly-in-balances c = found _ _ (codes "balances") c.args.words c.text_of.ensures refl c.in-balances.is line_fault ([]) _ refl c.in_ok-exactly-in-balances.ensures
 
 pub returns-in_err-exactly-in-crash : goal.returns-in_err-exactly-in-crash
 unfolding IsRead line_fault
-returns-in_err-exactly-in-crash c = search (
-  rules,
-  named_form line_fault (λ l. Spells l c.args.line) _ _ (codes "crash") ([]) c.args.words (Err _) c.text_of.ensures refl c.in-crash.is refl c.in_err-exactly-in-crash.ensures,
-)
+returns-in_err-exactly-in-crash c = search (rules, told _ _ (codes "crash") c.args.words c.text_of.ensures refl c.in-crash.is line_fault (([]) ∷ []) refl ∙ c.in_err-exactly-in-crash.ensures)
 
 pub returns-in_ok-exactly-in-crash : goal.returns-in_ok-exactly-in-crash
 unfolding IsRead Spells line_fault
-returns-in_ok-exactly-in-crash c =
-    let h = c.in_ok-exactly-in-crash in
-    named_form line_fault (λ l. Spells l c.args.line) _ _ (codes "crash") ([]) c.args.words (Ok (Crash)) c.text_of.ensures refl c.in-crash.is refl
-    (h.ensures.0, fills_named (codes "crash") _ _ _ h.ensures.1)
+returns-in_ok-exactly-in-crash c = found _ _ (codes "crash") c.args.words c.text_of.ensures refl c.in-crash.is line_fault ([]) _ refl c.in_ok-exactly-in-crash.ensures
 
 pub returns-in_err-moves-in-day : goal.returns-in_err-moves-in-day
 unfolding IsRead line_fault
-returns-in_err-moves-in-day c = search (
-  rules,
-  named_form line_fault (λ l. Spells l c.args.line) _ _ (codes "day") (Moves ∷ []) c.args.words (Err _) c.text_of.ensures refl c.in-day.is refl c.in_err-moves-in-day.ensures,
-)
+returns-in_err-moves-in-day c = search (rules, told _ _ (codes "day") c.args.words c.text_of.ensures refl c.in-day.is line_fault ((Moves ∷ []) ∷ []) refl ∙ c.in_err-moves-in-day.ensures)
 
 pub returns-in_ok-moves-in-day : goal.returns-in_ok-moves-in-day
 unfolding IsRead Spells line_fault
-returns-in_ok-moves-in-day c =
-    let h = c.in_ok-moves-in-day in
-    named_form line_fault (λ l. Spells l c.args.line) _ _ (codes "day") (Moves ∷ []) c.args.words (Ok (Day h.field-0.0.0)) c.text_of.ensures refl c.in-day.is refl
-    (h.ensures.0, fills_named (codes "day") _ _ _ h.ensures.1)
+returns-in_ok-moves-in-day c = found _ _ (codes "day") c.args.words c.text_of.ensures refl c.in-day.is line_fault (Moves ∷ []) _ refl c.in_ok-moves-in-day.ensures

@@ -1,7 +1,7 @@
-use Rattle.std.proofs.Common.{◌≡◌, ◌∙◌, ℕ, true, false, if◌then◌else◌, Bool, Option, List, [], ◌∷◌, Some, None, codes, filter, refl, rules, sym, ap, subst}
+use Rattle.std.proofs.Common.{◌≡◌, ◌∙◌, ◌⊎◌, inl, inr, ℕ, true, false, if◌then◌else◌, Bool, Option, List, [], ◌∷◌, Some, None, codes, filter, refl, rules, sym, ap, subst}
 use Rattle.std.specs.List.{All}
 use Rattle.std.proofs.Math.Dec.{eqb-suc-suc}
-use Rattle.std.proofs.lemmas.Bool.{and_parts, false≢true}
+use Rattle.std.proofs.lemmas.Bool.{and_parts, cases_cond, cond-true, cond_both}
 use Rattle.std.proofs.lemmas.List.Elements.{All-filter, All-from_recursion, filter_passes}
 use Rattle.std.proofs.lemmas.Option.{none-some, same_Some}
 use Rattle.script_grammar.specs.Entries.{SpellsEntry, entries}
@@ -22,15 +22,6 @@ Numbers [] = Unit {0}
 Numbers (Name name ∷ places) = Numbers places
 Numbers (place ∷ places) = (told_as place ≡ BadNumber) × Numbers places
 
-passed : (ok : Bool) (more : Option LineFault) (known fault : LineFault) → ok ≡ true → (if ok then more else Some known) ≡ Some fault → more ≡ Some fault
-passed true more known fault e h = h
-passed false more known fault e h = absurd (false≢true e)
-
-bad_or_later : (ok : Bool) (more : Option LineFault) (known fault : LineFault) → known ≡ BadNumber → (more ≡ Some fault → fault ≡ BadNumber)
-    → (if ok then more else Some known) ≡ Some fault → fault ≡ BadNumber
-bad_or_later true more known fault bad keep h = keep h
-bad_or_later false more known fault bad keep h = sym (same_Some _ _ h) ∙ bad
-
 bad_number : (form : List Field) (words : List Word) (fault : LineFault) → Numbers form → has_names form words ≡ true
     → first_wrong form words ≡ Some fault → fault ≡ BadNumber
 unfolding first_wrong takes
@@ -38,10 +29,11 @@ bad_number [] words fault numbers names h = absurd (none-some _ h)
 bad_number (Name name ∷ places) [] fault numbers names h = absurd (none-some _ h)
 bad_number (Name name ∷ places) (word ∷ words) fault numbers names h =
     let both = and_parts _ _ names in
-    bad_number places words fault numbers both.1 (passed _ _ _ fault both.0 h)
+    bad_number places words fault numbers both.1 (sym (cond-true _ _ _ both.0) ∙ h)
 bad_number (place ∷ places) [] fault numbers names h = absurd (none-some _ h)
 bad_number (place ∷ places) (word ∷ words) fault numbers names h =
-    bad_or_later (takes place word) _ (told_as place) fault numbers.0 (bad_number places words fault numbers.1 names) h
+    elim (cases_cond (takes place word) _ _ _ (sym h))
+    [ inl later ↦ bad_number places words fault numbers.1 names (sym later) | inr here ↦ same_Some _ _ here ∙ numbers.0 ]
 
 -- what is told of an entry's words is `found`, and with `post` and a station in front `more`
 post_told : (s : Word) (rest : List Word) (found more : Option LineFault) → ((fault : LineFault) → found ≡ Some fault → more ≡ Some fault)
@@ -58,14 +50,12 @@ post_told s rest found more on each h =
     ∙ told_in_front post_form rest longer found more (λ form. eqb-suc-suc _ _ ∙ eqb-suc-suc _ _) on kept
     (λ k d low. each _ (numbers k d low) (filter_passes (λ form. has_names form rest) entries k d low)) h
 
-either_way : (ok : Bool) (one : Option LineFault) (fault : LineFault) → fault ≡ BadNumber → one ≡ Some fault → (if ok then one else Some BadNumber) ≡ Some fault
-either_way true one fault bad e = e
-either_way false one fault bad e = ap (λ (f : LineFault). Some f) (sym bad)
-
 post_wrong : (s : Word) (rest : List Word) (fault : LineFault) → told_by entries rest ≡ Some fault → line_fault (codes "post" ∷ s ∷ rest) ≡ Some fault
 unfolding first_wrong takes
 post_wrong s rest fault h =
-    post_told s rest (Some fault) (Some fault) (λ other e. e) (λ form numbers names e. either_way (takes Number s) _ fault (bad_number form rest fault numbers names e) e) h
+    post_told s rest (Some fault) (Some fault) (λ other e. e)
+    (λ form numbers names e. cond_both (takes Number s) _ _ (λ o. o ≡ Some fault) (λ _. e)
+    (λ _. ap (λ (f : LineFault). Some f) (sym (bad_number form rest fault numbers names e)))) h
 
 station_wrong : (s : Word) (rest : List Word) → takes Number s ≡ false → told_by entries rest ≡ None → line_fault (codes "post" ∷ s ∷ rest) ≡ Some BadNumber
 unfolding first_wrong takes

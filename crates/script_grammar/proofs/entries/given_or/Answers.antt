@@ -9,7 +9,7 @@ use Rattle.script_grammar.proofs.entries.given_or.Goals as goal
 pub returns-in_err-places : goal.returns-in_err-places
 returns-in_err-places g c =
     let long : length g.P.Places.fields + 1 ≡ length c.args.words = grind (arith, nat_tests) in
-    search (rules, is_given _ _ long ∙ wrong_first g.P.Places.fields (Number ∷ []) _ _ c.in_err-places.ensures)
+    search (rules, is_given _ _ long ∙ wrong_first g.P.Places.fields (Number ∷ []) _ _ (omega (arith, long)) c.in_err-places.ensures)
 
 pub returns-in_err-given : goal.returns-in_err-given
 returns-in_err-given g c =

@@ -1,5 +1,5 @@
 use Rattle.std.proofs.Common.{rules}
-use Rattle.script_grammar.proofs.places.Tuple1Places.take.Goals as goal
+use Rattle.script_grammar.proofs.places.OnePlaces.take.Goals as goal
 
 pub returns-in_err-next : goal.returns-in_err-next
 returns-in_err-next g c = search (rules, c.in_err-next.ensures)
