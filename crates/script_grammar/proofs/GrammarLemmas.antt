@@ -1,113 +1,141 @@
 -- What the grammar says of a line, form by form.
-use Rattle.std.proofs.Common.{◌≡◌, ◌≢◌, ◌∙◌, ◌⊎◌, inl, inr, ℕ, suc, ◌<◌, ◌&&◌, Bool, true, false, Option, Some, None, Result, List, [], ◌∷◌, length, ◌==◌, nat_lt, arith, refl, sym, ap, subst, codes}
-use Rattle.std.specs.Prelude.{slice_index}
+use Rattle.std.proofs.Common.{◌≡◌, ◌≢◌, ◌∙◌, ℕ, suc, ◌<◌, ◌≤◌, ◌&&◌, Bool, true, false, if◌then◌else◌, Option, Some, None, Result, Ok, Err, List, [], ◌∷◌, ◌++◌, length, drop, map, filter, ◌==◌, nat_lt, arith, refl, sym, ap, subst}
+use Rattle.std.specs.Prelude.{IfErr, IfOk}
+use Rattle.std.specs.Option.{option_or}
 use Rattle.std.specs.Str.{bytes_eq, IsUtf8}
-use Rattle.std.specs.List.{list_all}
+use Rattle.std.specs.List.{All, list_all}
+use Rattle.std.proofs.Math.Dec.{eqb-suc-suc}
+use Rattle.std.proofs.Math.Seq.{drop-nil}
 use Rattle.std.proofs.lemmas.Bool.{eq-eqb, ne_eqb, false_from_ne_true, and_parts, ltb-true}
-use Rattle.std.proofs.lemmas.Bool.Decides.{eqb_tells}
+use Rattle.std.proofs.lemmas.List.{append-nil, append_assoc}
+use Rattle.std.proofs.lemmas.List.Elements.{All-filter, All-head}
 use Rattle.std.proofs.lemmas.List.Sums.{AllPass-from_list_all}
+use Rattle.std.proofs.lemmas.Option.{none-some}
 use Rattle.std.proofs.lemmas.Slice.Eq.{bytes_eq-Decides}
 use Rattle.std.proofs.lemmas.Str.{IsUtf8-from_ascii}
 use Rattle.std.proofs.lemmas.Str.Ascii.{IsAscii-from_all}
-use Rattle.script_grammar.specs.Grammar.{Fills, IsRead, Field, Value, fault_by, first_wrong, is_skipped, line_fault, takes, told_as, told_of_one, values}
-use Rattle.script_grammar.specs.Grammar.{Name, Number}
-use Rattle.script_grammar.specs.declared.commands.Command.{Command}
+use Rattle.script_grammar.specs.Places.{AreTaken, Field, Fills, IsAnswer, Value, fault_by, first_wrong, is_skipped, takes, told_as, told_of, told_of_named, told_of_one, values, written}
+use Rattle.script_grammar.specs.Places.{Name}
 use Rattle.script_grammar.specs.declared.faults.LineFault.{LineFault}
 use Rattle.script_grammar.specs.declared.faults.LineFault.TheVariants.{UnknownCommand, WrongNumberOfWords}
 
 abbrev pub Word : Type 0
 Word = List ℕ
 
--- ---- the first word that may not stand at its place
+-- ---- the words of a form, and of another behind it
 
-pub taken : (place : Field) (places : List Field) (word : Word) (words : List Word) → takes place word ≡ true
-    → first_wrong (place ∷ places) (word ∷ words) ≡ first_wrong places words
+first_of_both : (f g : List Field) (words : List Word) → length f ≤ length words
+    → first_wrong (f ++ g) words ≡ option_or (first_wrong f words) (first_wrong g (drop (length f) words))
 unfolding first_wrong
-taken place places word words ok = rw ok refl
+first_of_both [] g words enough = refl
+first_of_both (place ∷ f) g [] enough = absurd (omega (arith, enough))
+first_of_both (place ∷ f) g (word ∷ words) enough =
+    elim (takes place word)
+    as (λ ok. (if ok then first_wrong (f ++ g) words else Some (told_as place))
+    ≡ option_or (if ok then first_wrong f words else Some (told_as place)) (first_wrong g (drop (length f) words)))
+    [ true ↦ first_of_both f g words (omega (arith, enough)) | false ↦ refl ]
 
-pub wrong : (place : Field) (places : List Field) (word : Word) (words : List Word) → takes place word ≡ false
-    → first_wrong (place ∷ places) (word ∷ words) ≡ Some (told_as place)
+pub wrong_first : (f g : List Field) (words : List Word) (fault : LineFault) → length f ≤ length words → first_wrong f words ≡ Some fault
+    → first_wrong (f ++ g) words ≡ Some fault
+wrong_first f g words fault enough h = first_of_both f g words enough ∙ ap (λ (o : Option LineFault). option_or o (first_wrong g (drop (length f) words))) h
+
+values_first : (f g : List Field) (words : List Word) → length f ≤ length words → values (f ++ g) words ≡ values f words ++ values g (drop (length f) words)
+values_first [] g words enough = refl
+values_first (place ∷ f) g [] enough = absurd (omega (arith, enough))
+values_first (place ∷ f) g (word ∷ words) enough =
+    ap (λ (l : List Value). written place word ++ l) (values_first f g words (omega (arith, enough))) ∙ sym (append_assoc (written place word) (values f words) _)
+
+drop_first : (f g : List Field) (words : List Word) → drop (length (f ++ g)) words ≡ drop (length g) (drop (length f) words)
+drop_first [] g words = refl
+drop_first (place ∷ f) g [] = sym (drop-nil (length g))
+drop_first (place ∷ f) g (word ∷ words) = drop_first f g words
+
+-- the words of `g` come behind those of `f`, which were taken
+module _ (f g : List Field) (a : List Value) (old mid : List Word) (enough : length f ≤ length old) (taken : (first_wrong f old ≡ None) × AreTaken f a old mid) where
+  pub then_told : (found : Option LineFault) → first_wrong g mid ≡ found → first_wrong (f ++ g) old ≡ found
+  then_told found h =
+      first_of_both f g old enough ∙ ap (λ (o : Option LineFault). option_or o (first_wrong g (drop (length f) old))) taken.0
+      ∙ ap (first_wrong g) (sym taken.1.1) ∙ h
+
+  pub then_taken : (b : List Value) (new : List Word) → (first_wrong g mid ≡ None) × AreTaken g b mid new
+      → (first_wrong (f ++ g) old ≡ None) × AreTaken (f ++ g) (a ++ b) old new
+  then_taken b new h = (
+    then_told None h.0,
+    (
+      values_first f g old enough ∙ ap (λ (l : List Value). l ++ values g (drop (length f) old)) taken.1.0
+          ∙ ap (λ (l : List Word). a ++ values g l) (sym taken.1.1) ∙ ap (λ (l : List Value). a ++ l) h.1.0,
+      h.1.1 ∙ ap (drop (length g)) taken.1.1 ∙ sym (drop_first f g old),
+    ),
+  )
+
+-- the word at one place
+pub one_word : {T : Type 0} (place : Field) (shown : T → Value) (old new : List Word) (word : Word) (r : Result T LineFault) → old ≡ word ∷ new
+    → IfOk r (λ this. (takes place word ≡ true) × (written place word ≡ shown this ∷ [])) → IfErr r (λ fault. (takes place word ≡ false) × (fault ≡ told_as place))
+    → IsAnswer (first_wrong (place ∷ []) old) (λ this. AreTaken (place ∷ []) (shown this ∷ []) old new) r
 unfolding first_wrong
-wrong place places word words bad = rw bad refl
-
-pub none_wrong : first_wrong [] [] ≡ None
-unfolding first_wrong
-none_wrong = refl
-
--- a fault that is known by another name
-pub told : (found : Option LineFault) (known : LineFault) → found ≡ Some known → (fault : LineFault) → fault ≡ known → found ≡ Some fault
-told found known e fault same = e ∙ ap (λ (f : LineFault). Some f) (sym same)
-
--- ---- the one form with the names of a line
-
-pub as_long : (form : List Field) (words exact : List Word) → words ≡ exact → length form ≡ length exact → told_of_one form words ≡ first_wrong form exact
-as_long form words exact same long =
-    let test : (length form == length exact) ≡ true = eq-eqb _ _ long in
-    ap (told_of_one form) same ∙ rw test refl
-
-pub not_as_long : (form : List Field) (words : List Word) → length words ≢ length form → told_of_one form words ≡ Some WrongNumberOfWords
-not_as_long form words other =
-    let test : (length form == length words) ≡ false = ne_eqb _ _ (λ e. other (sym e)) in
-    rw test refl
-
-pub name_taken : (name : Word) → takes (Name name) name ≡ true
-unfolding takes
-name_taken name = (bytes_eq-Decides name name).1 refl
-
-name_aside : (name : Word) (places : List Field) (words : List Word)
-    → ((length places == length words) ≡ true) × (length places ≡ length words) ⊎ ((length places == length words) ≡ false) × (length places ≢ length words)
-    → told_of_one (Name name ∷ places) (name ∷ words) ≡ told_of_one places words
-name_aside name places words (inl same) =
-    as_long (Name name ∷ places) (name ∷ words) (name ∷ words) refl (ap suc same.1)
-    ∙ taken (Name name) places name words (name_taken name) ∙ sym (as_long places words words refl same.1)
-name_aside name places words (inr other) =
-    not_as_long (Name name ∷ places) (name ∷ words) (λ e. other.1 (omega arith)) ∙ sym (not_as_long places words (λ e. other.1 (sym e)))
-
--- what is told of words stays the same with a name in front
-pub behind_name : (name : Word) (places : List Field) (words : List Word) → told_of_one (Name name ∷ places) (name ∷ words) ≡ told_of_one places words
-behind_name name places words = name_aside name places words (eqb_tells (length places) (length words))
-
-second_taken : (place : Field) (name : Word) (places : List Field) (word : Word) (words : List Word)
-    → first_wrong (place ∷ Name name ∷ places) (word ∷ name ∷ words) ≡ first_wrong (place ∷ places) (word ∷ words)
-unfolding first_wrong
-second_taken place name places word words = rw (name_taken name) refl
-
-kind_aside : (place : Field) (name : Word) (places : List Field) (word : Word) (words : List Word)
-    → ((length places == length words) ≡ true) × (length places ≡ length words) ⊎ ((length places == length words) ≡ false) × (length places ≢ length words)
-    → told_of_one (place ∷ Name name ∷ places) (word ∷ name ∷ words) ≡ told_of_one (place ∷ places) (word ∷ words)
-kind_aside place name places word words (inl same) =
-    as_long (place ∷ Name name ∷ places) (word ∷ name ∷ words) (word ∷ name ∷ words) refl (ap (λ n. suc (suc n)) same.1)
-    ∙ second_taken place name places word words ∙ sym (as_long (place ∷ places) (word ∷ words) (word ∷ words) refl (ap suc same.1))
-kind_aside place name places word words (inr other) =
-    not_as_long (place ∷ Name name ∷ places) (word ∷ name ∷ words) (λ e. other.1 (omega arith))
-    ∙ sym (not_as_long (place ∷ places) (word ∷ words) (λ e. other.1 (omega arith)))
-
--- and with a name in the second place
-pub behind_kind : (place : Field) (name : Word) (places : List Field) (word : Word) (words : List Word)
-    → told_of_one (place ∷ Name name ∷ places) (word ∷ name ∷ words) ≡ told_of_one (place ∷ places) (word ∷ words)
-behind_kind place name places word words = kind_aside place name places word words (eqb_tells (length places) (length words))
+one_word place shown old new word (Err fault) same ok err = rw (same, err.0) (ap (λ (f : LineFault). Some f) (sym err.1))
+one_word place shown old new word (Ok this) same ok err = (rw (same, ok.0) refl, (rw same (append-nil (written place word) ∙ ok.1), rw same refl))
 
 -- ---- words that fill a form
 
-pub fills : (form : List Field) (words exact : List Word) (these : List Value) → words ≡ exact → length exact ≡ length form
-    → first_wrong form exact ≡ None → values form exact ≡ these → Fills words form these
+pub as_long : (form : List Field) (words : List Word) → length form ≡ length words → told_of_one form words ≡ first_wrong form words
+as_long form words long =
+    let test : (length form == length words) ≡ true = eq-eqb _ _ long in
+    rw test refl
+
+pub not_as_long : (form : List Field) (words : List Word) → length form ≢ length words → told_of_one form words ≡ Some WrongNumberOfWords
+not_as_long form words other =
+    let test : (length form == length words) ≡ false = ne_eqb _ _ other in
+    rw test refl
+
+pub whole : {T : Type 0} (form : List Field) (shown : T → List Value) (words left : List Word) (r : Result T LineFault) → length form ≡ length words
+    → IsAnswer (first_wrong form words) (λ this. AreTaken form (shown this) words left) r → IsAnswer (told_of_one form words) (λ this. Fills words form (shown this)) r
 unfolding Fills
-fills form words exact these same long right written =
-    subst (λ (l : List Word). (length l ≡ length form) × (first_wrong form l ≡ None) × (values form l ≡ these)) (sym same) (long, right, written)
+whole form shown words left (Err fault) long h = as_long form words long ∙ h
+whole form shown words left (Ok this) long h = (as_long form words long ∙ h.0, (sym long, h.0, h.1.0))
+
+-- ---- forms and words with more in front
+
+kept : (front : List Field → List Field) (b : Bool) (form : List Field) (xs ys : List (List Field)) → xs ≡ map front ys
+    → (if b then front form ∷ xs else xs) ≡ map front (if b then form ∷ ys else ys)
+kept front true form xs ys e = ap (λ (l : List (List Field)). front form ∷ l) e
+kept front false form xs ys e = e
+
+pub filter_front : (front : List Field → List Field) (p q : List Field → Bool) → ((form : List Field) → q (front form) ≡ p form)
+    → (forms : List (List Field)) → filter q (map front forms) ≡ map front (filter p forms)
+filter_front front p q same [] = refl
+filter_front front p q same (form ∷ forms) = rw (same form) (kept front (p form) form _ _ (filter_front front p q same forms))
+
+-- what is told of the words without what stands in front is `found`, and with it `more`
+module _ (front : List Field → List Field) (words longer : List Word) (found more : Option LineFault) where
+  abbrev pub GoesOn : List Field → Type 0
+  GoesOn form = first_wrong form words ≡ found → first_wrong (front form) longer ≡ more
+
+  told_front : ((fault : LineFault) → found ≡ Some fault → more ≡ Some fault) → (named long : List (List Field)) → All GoesOn long
+      → told_of named long words ≡ found → told_of (map front named) (map front long) longer ≡ more
+  told_front on [] long all h = sym (on _ (sym h))
+  told_front on (form ∷ named) [] all h = sym (on _ (sym h))
+  told_front on (form ∷ named) (first ∷ long) all h = All-head GoesOn first long all h
+
+  pub told_in_front : ((form : List Field) → (length (front form) == length longer) ≡ (length form == length words))
+      → ((fault : LineFault) → found ≡ Some fault → more ≡ Some fault) → (named : List (List Field)) → All GoesOn named
+      → told_of_named named words ≡ found → told_of_named (map front named) longer ≡ more
+  told_in_front same on named all h =
+      ap (λ (long : List (List Field)). told_of (map front named) long longer) (filter_front front _ _ same named)
+      ∙ told_front on named _ (All-filter _ GoesOn named all) h
+
+-- what is told of words stays the same with a name in front
+pub behind : (name : Word) (forms : List (List Field)) (words : List Word)
+    → told_of_named (map (λ form. Name name ∷ form) forms) (name ∷ words) ≡ told_of_named forms words
+unfolding first_wrong takes
+behind name forms words =
+    told_in_front (λ form. Name name ∷ form) words (name ∷ words) _ _ (λ form. eqb-suc-suc (length form) (length words)) (λ fault e. e) forms
+    (λ k d low e. rw ((bytes_eq-Decides name name).1 refl) e) refl
 
 pub fills_named : (name : Word) (places : List Field) (words : List Word) (these : List Value) → Fills words places these
     → Fills (name ∷ words) (Name name ∷ places) these
-unfolding Fills
-fills_named name places words these full = (ap suc full.0, taken (Name name) places name words (name_taken name) ∙ full.1, full.2)
-
-pub fills_kind : (name : Word) (places : List Field) (word : Word) (words : List Word) (these : List Value) → Fills (word ∷ words) (Number ∷ places) these
-    → Fills (word ∷ name ∷ words) (Number ∷ Name name ∷ places) these
-unfolding Fills
-fills_kind name places word words these full = (omega (arith, full.0), second_taken Number name places word words ∙ full.1, full.2)
-
-pub nothing_told : (form : List Field) (words : List Word) (these : List Value) → Fills words form these → told_of_one form words ≡ None
-unfolding Fills
-nothing_told form words these full = as_long form words words refl (sym full.0) ∙ full.1
+unfolding Fills first_wrong takes
+fills_named name places words these full = (ap suc full.0, rw ((bytes_eq-Decides name name).1 refl) full.1, full.2)
 
 -- ---- names
 
@@ -115,74 +143,34 @@ nothing_told form words these full = as_long form words words refl (sym full.0) 
 abbrev pub is_plain : Word → Bool
 is_plain name = nat_lt 0 (length name) && list_all (λ byte. nat_lt byte 128) name
 
-plain_utf8 : (name : Word) → is_plain name ≡ true → IsUtf8 name
-plain_utf8 name plain =
+-- the text is the word, as far as names see it
+abbrev pub IsText : Word → Word → Type 0
+IsText text word = (name : Word) → IsUtf8 name → 0 < length name → bytes_eq text name ≡ bytes_eq word name
+
+alike : (text word name : Word) → IsText text word → is_plain name ≡ true → bytes_eq text name ≡ bytes_eq word name
+alike text word name same plain =
     let each = AllPass-from_list_all (λ byte. nat_lt byte 128) name (and_parts _ _ plain).1 in
-    IsUtf8-from_ascii name (IsAscii-from_all name (λ k d low. ltb-true _ _ (each k d low)))
+    same name (IsUtf8-from_ascii name (IsAscii-from_all name (λ k d low. ltb-true _ _ (each k d low)))) (ltb-true _ _ (and_parts _ _ plain).0)
 
-pub is_name : (text word name : Word)
-    → ((other : Word) → IsUtf8 other → 0 < length other → bytes_eq text other ≡ bytes_eq word other)
-    → is_plain name ≡ true → text ≡ name → word ≡ name
-is_name text word name same plain e =
-    let alike = same name (plain_utf8 name plain) (ltb-true _ _ (and_parts _ _ plain).0) in
-    (bytes_eq-Decides word name).0 (sym alike ∙ (bytes_eq-Decides text name).1 e)
+pub is_name : (text word name : Word) → IsText text word → is_plain name ≡ true → text ≡ name → word ≡ name
+is_name text word name same plain e = (bytes_eq-Decides word name).0 (sym (alike text word name same plain) ∙ (bytes_eq-Decides text name).1 e)
 
-pub no_name : (text word name : Word)
-    → ((other : Word) → IsUtf8 other → 0 < length other → bytes_eq text other ≡ bytes_eq word other)
-    → is_plain name ≡ true → (text ≡ name → ⊥) → bytes_eq word name ≡ false
-no_name text word name same plain other =
-    let alike = same name (plain_utf8 name plain) (ltb-true _ _ (and_parts _ _ plain).0) in
-    sym alike ∙ false_from_ne_true _ (λ t. other ((bytes_eq-Decides text name).0 t))
+pub no_name : (text word name : Word) → IsText text word → is_plain name ≡ true → (text ≡ name → ⊥) → bytes_eq word name ≡ false
+no_name text word name same plain other = sym (alike text word name same plain) ∙ false_from_ne_true _ (λ t. other ((bytes_eq-Decides text name).0 t))
 
--- ---- every line
+-- words of which the first is this name, which these forms alone have
+module _ (text word name : Word) (words : List Word) (same : IsText text word) (plain : is_plain name ≡ true) (is : text ≡ name) where
+  pub told : (wrong : List Word → Option LineFault) (forms : List (List Field)) → wrong (name ∷ words) ≡ told_of_named (map (λ form. Name name ∷ form) forms) (name ∷ words)
+      → wrong (word ∷ words) ≡ told_of_named forms words
+  told wrong forms alone = ap (λ (w : Word). wrong (w ∷ words)) (is_name text word name same plain is) ∙ alone ∙ behind name forms words
 
--- the word is the name of no command
-pub record NamesNoCommand (name : Word) : Type 0 where
-  pub not_format : bytes_eq name (codes "format") ≡ false
-  pub not_open : bytes_eq name (codes "open") ≡ false
-  pub not_post : bytes_eq name (codes "post") ≡ false
-  pub not_turn : bytes_eq name (codes "turn") ≡ false
-  pub not_bits : bytes_eq name (codes "bits") ≡ false
-  pub not_balances : bytes_eq name (codes "balances") ≡ false
-  pub not_crash : bytes_eq name (codes "crash") ≡ false
-  pub not_day : bytes_eq name (codes "day") ≡ false
-
-pub unnamed : (name : Word) (rest : List Word) → (slice_index name 0 == 35) ≡ false → NamesNoCommand name → line_fault (name ∷ rest) ≡ Some UnknownCommand
-unfolding line_fault first_wrong takes
-unnamed name rest no_comment names =
-    rw (no_comment, names.not_format, names.not_open, names.not_post, names.not_turn, names.not_bits, names.not_balances, names.not_crash, names.not_day) refl
+  pub found : (wrong : List Word → Option LineFault) (places : List Field) (these : List Value) → wrong (name ∷ words) ≡ told_of_one (Name name ∷ places) (name ∷ words)
+      → (told_of_one places words ≡ None) × Fills words places these → (wrong (word ∷ words) ≡ None) × Fills (word ∷ words) (Name name ∷ places) these
+  found wrong places these alone h = (
+    told wrong (places ∷ []) alone ∙ h.0,
+    subst (λ (w : Word). Fills (w ∷ words) (Name name ∷ places) these) (sym (is_name text word name same plain is)) (fills_named name places words these h.1),
+  )
 
 -- nothing is wrong with a line that says nothing
 pub skipped : (table : List (List Field)) (words : List Word) → is_skipped words ≡ true → fault_by table words ≡ None
 skipped table words e = rw e refl
-
--- the words of a line whose first word is told to be a name
-pub named : (text word name : Word) (words : List Word)
-    → ((other : Word) → IsUtf8 other → 0 < length other → bytes_eq text other ≡ bytes_eq word other)
-    → is_plain name ≡ true → text ≡ name → (word ∷ words) ≡ (name ∷ words)
-named text word name words same plain e = ap (λ (w : Word). w ∷ words) (is_name text word name same plain e)
-
--- ---- lines that begin with `post`
-
-pub post_alone : (rest : List Word) → rest ≡ [] → line_fault (codes "post" ∷ rest) ≡ Some WrongNumberOfWords
-unfolding line_fault first_wrong takes
-post_alone rest e = rw e refl
-
-pub post_one : (rest more : List Word) (s : Word) → rest ≡ s ∷ more → more ≡ [] → line_fault (codes "post" ∷ rest) ≡ Some WrongNumberOfWords
-unfolding line_fault first_wrong takes
-post_one rest more s e none = rw (e, none) refl
-
-pub post_words : (rest more after : List Word) (s kind name : Word) → rest ≡ s ∷ more → more ≡ kind ∷ after → kind ≡ name
-    → (codes "post" ∷ rest) ≡ (codes "post" ∷ s ∷ name ∷ after)
-post_words rest more after s kind name e f is = cc
-
-pub post_unknown : (rest more after : List Word) (s kind : Word) → rest ≡ s ∷ more → more ≡ kind ∷ after
-    → bytes_eq kind (codes "deposit") ≡ false → bytes_eq kind (codes "withdraw") ≡ false → bytes_eq kind (codes "transfer") ≡ false → bytes_eq kind (codes "seal") ≡ false
-    → line_fault (codes "post" ∷ rest) ≡ Some UnknownCommand
-unfolding line_fault first_wrong takes
-post_unknown rest more after s kind e f d w t l = rw (e, f, d, w, t, l) refl
-
--- ---- what is known of a line by other words
-
-pub same_words : (a b : List Word) (line : ℕ) (r : Result Command LineFault) → a ≡ b → IsRead b line r → IsRead a line r
-same_words a b line r e h = subst (λ (words : List Word). IsRead words line r) (sym e) h

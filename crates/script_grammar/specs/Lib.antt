@@ -1,6 +1,7 @@
 pub mod Script
 pub mod Bits
+pub mod Places
+pub mod Entries
 pub mod Grammar
-pub mod Given
 pub mod Requests
 pub mod Cutting

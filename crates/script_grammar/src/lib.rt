@@ -12,16 +12,18 @@
 
 mod commands;
 mod cutting;
+mod entries;
 mod faults;
 mod numbers;
 mod places;
 mod requests;
 mod words;
 
-pub use commands::{Command, DAY_LIMIT, read_command};
+pub use commands::{Command, read_command};
 pub use cutting::{Cut, LINE_LIMIT, LineCutter, line_limit_in_numbers};
 pub use faults::LineFault;
 pub use numbers::Bits;
+pub use places::DAY_LIMIT;
 pub use requests::{Request, read_request};
 pub use turn_ledger::Entry;
 pub use words::Lines;

@@ -1,131 +1,225 @@
-//! The words of a line, taken one after another, and what they write at their places.
-ghost use Rattle.std.specs.Prelude.{◌≡◌, ◌≢◌, ℕ, ◌<◌, true, false, List, [], ◌∷◌, ◌==◌, length, bytes_eq, slice_index, IfOk, IfErr, IfSome, IsNone, IsUtf8, OnOk};
-ghost use Rattle.std.specs.Str.Parse.{digits_value};
-ghost use Rattle.script_grammar.specs.Grammar.{Fills, is_skipped, takes, told_of_one};
-ghost use Rattle.script_grammar.specs.Grammar.{Account, Number};
-ghost use Rattle.script_grammar.specs.declared.faults.LineFault.TheVariants.{BadNumber, WrongNumberOfWords};
+//! What words write at the places of a line.
+ghost use Rattle.std.specs.Prelude.{◌≡◌, ◌<◌, ◌≤◌, true, false, List, [], ◌∷◌, length, IfOk, IfErr};
+ghost use Rattle.script_grammar.specs.Bits.{bits_of};
+ghost use Rattle.script_grammar.specs.Places.{AreTaken, Field, Fills, IsAnswer, Value, first_wrong, takes, told_as, told_of_one, written};
+ghost use Rattle.script_grammar.specs.Places.{Account, BitText, BitsAre, Moves, Number, NumberIs, Slots};
+ghost use Rattle.std.specs.Int.NonZero.{non_zero_u64_get};
 
 use crate::faults::LineFault;
-use crate::numbers::read_number;
-use crate::words::Words;
+use crate::numbers::{Bits, read_number};
+use crate::words::{Words, word};
+use std::num::NonZeroU64;
 
-/// The first word of a line, unless the line says nothing.
-pub fn first_name<'a>(words: &mut Words<'a>) -> Option<&'a [u8]>
-    ensures none { IsNone result → is_skipped words.old ≡ true }
-    ensures some { IfSome result (λ name.
-        (words.old ≡ name.now ∷ words.new) × ((slice_index name.now 0 == 35) ≡ false)) }
-{
-    let name = words.next()?;
-    if begins_comment(name) {
-        return None;
-    }
-    Some(name)
+/// The most turns that a line `day` may ask for.
+pub const DAY_LIMIT: u64 = 100_000;
+
+/// What a word writes at one place of a line.
+pub trait Place: Copy {
+    /// Which place that is.
+    ghost field: { Field };
+
+    /// The value that it is in the grammar.
+    ghost value: { Self → Value };
+
+    /// What the word writes, if it may stand at the place.
+    fn read(word: &[u8]) -> Result<Self, LineFault>
+        ensures ok { IfOk result (λ this.
+            (takes field word.now ≡ true) × (written field word.now ≡ value this ∷ [])) }
+        ensures err { IfErr result (λ fault.
+            (takes field word.now ≡ false) × (fault ≡ told_as field)) };
 }
 
-fn begins_comment(name: &[u8]) -> bool
-    ensures { result ≡ (slice_index name.now 0 == 35) }
-{
-    match name {
-        [b'#', ..] => true,
-        _ => false,
-    }
-}
+/// A number.
+impl Place for u64 {
+    ghost field = { Number };
 
-/// A word as text: the empty one, which is no name, where it isn't UTF-8.
-pub fn text_of(word: &[u8]) -> &str
-    ensures { (name : List ℕ) → IsUtf8 name → 0 < length name
-        → bytes_eq result.now name ≡ bytes_eq word.now name }
-{
-    match std::str::from_utf8(word) {
-        Ok(text) => text,
-        Err(_) => "",
-    }
-}
+    ghost value = { λ number. NumberIs number };
 
-/// The value, where there are no more words.
-pub fn alone<T: Copy>(value: T, words: Words<'_>) -> Result<T, LineFault>
-    ensures fault { IfErr result (λ fault. told_of_one [] words.entry ≡ Some fault) }
-    ensures ok { IfOk result (λ same. Fills words.entry [] [] × (same ≡ value)) }
-{
-    end(words)?;
-    Ok(value)
-}
-
-/// The one word that is left.
-pub fn one_word<'a>(mut words: Words<'a>) -> Result<&'a [u8], LineFault>
-    ensures ok { IfOk result (λ word. words.entry ≡ word.now ∷ []) }
-    ensures err { IfErr result (λ fault. (length words.entry ≢ 1) × (fault ≡ WrongNumberOfWords)) }
-{
-    let only = word(&mut words)?;
-    end(words)?;
-    Ok(only)
-}
-
-/// The two words that are left.
-pub fn two_words<'a>(mut words: Words<'a>) -> Result<(&'a [u8], &'a [u8]), LineFault>
-    ensures ok { IfOk result (λ pair. words.entry ≡ pair.0.now ∷ pair.1.now ∷ []) }
-    ensures err { IfErr result (λ fault. (length words.entry ≢ 2) × (fault ≡ WrongNumberOfWords)) }
-{
-    let first = word(&mut words)?;
-    let second = word(&mut words)?;
-    end(words)?;
-    Ok((first, second))
-}
-
-/// The three words that are left.
-pub fn three_words<'a>(mut words: Words<'a>) -> Result<(&'a [u8], &'a [u8], &'a [u8]), LineFault>
-    ensures ok { IfOk result (λ three. words.entry ≡ three.0.now ∷ three.1.now ∷ three.2.now ∷ []) }
-    ensures err { IfErr result (λ fault. (length words.entry ≢ 3) × (fault ≡ WrongNumberOfWords)) }
-{
-    let first = word(&mut words)?;
-    let second = word(&mut words)?;
-    let third = word(&mut words)?;
-    end(words)?;
-    Ok((first, second, third))
-}
-
-/// The next word, which has to be there.
-pub fn word<'a>(words: &mut Words<'a>) -> Result<&'a [u8], LineFault>
-    ensures ok { IfOk result (λ word. words.old ≡ word.now ∷ words.new) }
-    ensures err { IfErr result (λ fault. (words.old ≡ []) × (fault ≡ WrongNumberOfWords)) }
-{
-    match words.next() {
-        Some(word) => Ok(word),
-        None => Err(LineFault::WrongNumberOfWords),
+    #[tactic(auto, using(crate::proofs::TestLemmas::numeral), unfolding(crate::specs::Places::takes))]
+    fn read(word: &[u8]) -> Result<u64, LineFault> {
+        match read_number(word) {
+            Some(number) => Ok(number),
+            None => Err(LineFault::BadNumber),
+        }
     }
 }
 
-/// That there are no more words.
-pub fn end(mut words: Words<'_>) -> Result<(), LineFault>
-    ensures ok { OnOk result (words.entry ≡ []) }
-    ensures err { IfErr result (λ fault. (0 < length words.entry) × (fault ≡ WrongNumberOfWords)) }
-{
-    match words.next() {
-        Some(_) => Err(LineFault::WrongNumberOfWords),
-        None => Ok(()),
+/// An account, a number below 2^32.
+impl Place for u32 {
+    ghost field = { Account };
+
+    ghost value = { λ account. NumberIs account };
+
+    #[tactic(auto, unfolding(crate::specs::Places::takes))]
+    fn read(word: &[u8]) -> Result<u32, LineFault> {
+        match u32::try_from(u64::read(word)?) {
+            Ok(account) => Ok(account),
+            Err(_) => Err(LineFault::BadNumber),
+        }
     }
 }
 
-/// The number that a word writes, which has to be one.
-pub fn number(word: &[u8]) -> Result<u64, LineFault>
-    ensures ok { IfOk result (λ number.
-        (takes Number word.now ≡ true) × (number ≡ digits_value 10 word.now)) }
-    ensures err { IfErr result (λ fault. (takes Number word.now ≡ false) × (fault ≡ BadNumber)) }
-{
-    match read_number(word) {
-        Some(number) => Ok(number),
-        None => Err(LineFault::BadNumber),
+/// A number of slots, above zero.
+impl Place for NonZeroU64 {
+    ghost field = { Slots };
+
+    ghost value = { λ slots. NumberIs (non_zero_u64_get slots) };
+
+    #[tactic(auto, unfolding(crate::specs::Places::takes))]
+    fn read(word: &[u8]) -> Result<NonZeroU64, LineFault> {
+        match NonZeroU64::new(u64::read(word)?) {
+            Some(slots) => Ok(slots),
+            None => Err(LineFault::BadNumber),
+        }
     }
 }
 
-/// The account that a word writes, a number below 2^32, which has to be one.
-pub fn account(word: &[u8]) -> Result<u32, LineFault>
-    ensures ok { IfOk result (λ account.
-        (takes Account word.now ≡ true) × (account ≡ digits_value 10 word.now)) }
-    ensures err { IfErr result (λ fault. (takes Account word.now ≡ false) × (fault ≡ BadNumber)) }
+impl Place for Bits {
+    ghost field = { BitText };
+
+    ghost value = { λ bits. BitsAre (bits_of bits) };
+
+    #[tactic(auto, unfolding(crate::specs::Places::takes))]
+    fn read(word: &[u8]) -> Result<Bits, LineFault> {
+        match Bits::read(word) {
+            Some(bits) => Ok(bits),
+            None => Err(LineFault::BadBits),
+        }
+    }
+}
+
+/// How many turns a day has: 1 to [`DAY_LIMIT`].
+#[derive(Clone, Copy, Debug)]
+pub struct Turns(pub u64);
+
+impl Place for Turns {
+    ghost field = { Moves };
+
+    ghost value = { λ turns. NumberIs turns.0 };
+
+    #[tactic(auto, unfolding(crate::specs::Places::takes))]
+    fn read(word: &[u8]) -> Result<Turns, LineFault> {
+        let turns = u64::read(word)?;
+        if turns == 0 {
+            return Err(LineFault::BadNumber);
+        }
+        if turns > DAY_LIMIT {
+            return Err(LineFault::BadNumber);
+        }
+        Ok(Turns(turns))
+    }
+}
+
+/// What words write at several places, one behind another.
+pub trait Places: Copy {
+    /// Which places these are.
+    ghost fields: { List Field };
+
+    /// The values that they are in the grammar.
+    ghost values: { Self → List Value };
+
+    /// How many places these are.
+    fn count() -> u8
+        ensures { result ≡ length fields };
+
+    /// What the next words write, as many as there are places; the first wrong one decides.
+    fn take(words: &mut Words<'_>) -> Result<Self, LineFault>
+        requires { length fields ≤ length words.old }
+        ensures { IsAnswer (first_wrong fields words.old)
+            (λ these. AreTaken fields (values these) words.old words.new) result };
+}
+
+/// What no words write.
+#[derive(Clone, Copy)]
+pub struct Nothing;
+
+impl Places for Nothing {
+    ghost fields = { [] };
+
+    ghost values = { λ _. [] };
+
+    fn count() -> u8 {
+        0
+    }
+
+    #[tactic(auto, unfolding(crate::specs::Places::first_wrong))]
+    fn take(_words: &mut Words<'_>) -> Result<Nothing, LineFault> {
+        Ok(Nothing)
+    }
+}
+
+/// What one word writes.
+#[derive(Clone, Copy)]
+pub struct One<A>(pub A);
+
+impl<A: Place> Places for One<A> {
+    ghost fields = { A.field ∷ [] };
+
+    ghost values = { λ these. A.value these.0 ∷ [] };
+
+    fn count() -> u8 {
+        1
+    }
+
+    fn take(words: &mut Words<'_>) -> Result<One<A>, LineFault> {
+        Ok(One(next(words)?))
+    }
+}
+
+/// What two words write.
+#[derive(Clone, Copy)]
+pub struct Two<A, B>(pub A, pub B);
+
+impl<A: Place, B: Place> Places for Two<A, B> {
+    ghost fields = { A.field ∷ B.field ∷ [] };
+
+    ghost values = { λ these. A.value these.0 ∷ B.value these.1 ∷ [] };
+
+    fn count() -> u8 {
+        2
+    }
+
+    fn take(words: &mut Words<'_>) -> Result<Two<A, B>, LineFault> {
+        Ok(Two(next(words)?, next(words)?))
+    }
+}
+
+/// What three words write.
+#[derive(Clone, Copy)]
+pub struct Three<A, B, C>(pub A, pub B, pub C);
+
+impl<A: Place, B: Place, C: Place> Places for Three<A, B, C> {
+    ghost fields = { A.field ∷ B.field ∷ C.field ∷ [] };
+
+    ghost values = { λ these. A.value these.0 ∷ B.value these.1 ∷ C.value these.2 ∷ [] };
+
+    fn count() -> u8 {
+        3
+    }
+
+    fn take(words: &mut Words<'_>) -> Result<Three<A, B, C>, LineFault> {
+        let Two(first, second) = Two::take(words)?;
+        Ok(Three(first, second, next(words)?))
+    }
+}
+
+/// What the next word writes, if it may stand at the place.
+pub fn next<A: Place>(words: &mut Words<'_>) -> Result<A, LineFault>
+    requires { 0 < length words.old }
+    ensures { IsAnswer (first_wrong (A.field ∷ []) words.old)
+        (λ this. AreTaken (A.field ∷ []) (A.value this ∷ []) words.old words.new) result }
 {
-    match u32::try_from(number(word)?) {
-        Ok(account) => Ok(account),
-        Err(_) => Err(LineFault::BadNumber),
+    A::read(word(words)?)
+}
+
+/// What the words that are left write, which have to be as many as there are places.
+pub fn exactly<P: Places>(mut words: Words<'_>) -> Result<P, LineFault>
+    ensures { IsAnswer (told_of_one P.fields words.entry)
+        (λ these. Fills words.entry P.fields (P.values these)) result }
+{
+    if words.are(usize::from(P::count())) {
+        P::take(&mut words)
+    } else {
+        Err(LineFault::WrongNumberOfWords)
     }
 }

@@ -1,8 +1,11 @@
 //! Lines and words of a script.
-ghost use Rattle.std.specs.Prelude.{◌≡◌, ◌<◌, false, [], ◌∷◌, ◌++◌, ◌==◌, length, All, IfSome, IsNone, MatchOption};
+ghost use Rattle.std.specs.Prelude.{◌≡◌, ◌<◌, ℕ, true, false, List, [], ◌∷◌, ◌++◌, ◌==◌, length, bytes_eq, slice_index, All, IfErr, IfOk, IfSome, IsNone, IsUtf8, MatchOption};
 ghost use Rattle.std.specs.Str.Lines.{lines, strip_carriage_return};
+ghost use Rattle.script_grammar.specs.Places.{is_skipped};
 ghost use Rattle.script_grammar.specs.Script.{words_of};
+ghost use Rattle.script_grammar.specs.declared.faults.LineFault.TheVariants.{WrongNumberOfWords};
 
+use crate::faults::LineFault;
 use std::marker::Model;
 
 /// The lines of a script, seen as their list, without their ends: a line feed, and one carriage return before it. What
@@ -82,6 +85,19 @@ impl<'a> Words<'a> {
     {
         Words { rest: line }
     }
+
+    /// Whether so many words are left.
+    pub fn are(&self, count: usize) -> bool
+        ensures { result ≡ (length self.now == count) }
+    {
+        let mut words = Words { rest: self.rest };
+        for _taken in 0..count {
+            if words.next().is_none() {
+                return false;
+            }
+        }
+        words.next().is_none()
+    }
 }
 
 impl<'a> Iterator for Words<'a> {
@@ -105,6 +121,50 @@ impl<'a> Iterator for Words<'a> {
                 None => return last_piece(&mut self.rest),
             }
         }
+    }
+}
+
+/// The first word of a line, unless the line says nothing.
+pub fn first_name<'a>(words: &mut Words<'a>) -> Option<&'a [u8]>
+    ensures none { IsNone result → is_skipped words.old ≡ true }
+    ensures some { IfSome result (λ name.
+        (words.old ≡ name.now ∷ words.new) × ((slice_index name.now 0 == 35) ≡ false)) }
+{
+    let name = words.next()?;
+    if begins_comment(name) {
+        return None;
+    }
+    Some(name)
+}
+
+fn begins_comment(name: &[u8]) -> bool
+    ensures { result ≡ (slice_index name.now 0 == 35) }
+{
+    match name {
+        [b'#', ..] => true,
+        _ => false,
+    }
+}
+
+/// A word as text: the empty one, which is no name, where it isn't UTF-8.
+pub fn text_of(word: &[u8]) -> &str
+    ensures { (name : List ℕ) → IsUtf8 name → 0 < length name
+        → bytes_eq result.now name ≡ bytes_eq word.now name }
+{
+    match std::str::from_utf8(word) {
+        Ok(text) => text,
+        Err(_) => "",
+    }
+}
+
+/// The next word, which has to be there.
+pub fn word<'a>(words: &mut Words<'a>) -> Result<&'a [u8], LineFault>
+    ensures ok { IfOk result (λ word. words.old ≡ word.now ∷ words.new) }
+    ensures err { IfErr result (λ fault. (words.old ≡ []) × (fault ≡ WrongNumberOfWords)) }
+{
+    match words.next() {
+        Some(word) => Ok(word),
+        None => Err(LineFault::WrongNumberOfWords),
     }
 }
 

@@ -1,64 +1,80 @@
-use Rattle.std.proofs.Common.{◌≡◌, ◌∙◌, ℕ, List, [], ◌∷◌, Some, Result, Ok, Err, codes, subst, sym, refl}
-use Rattle.std.specs.Prelude.{IfErr, IfOk}
-use Rattle.script_grammar.specs.Grammar.{Fills, IsRead, Spells, line_fault, told_of_one}
-use Rattle.script_grammar.specs.Grammar.{Name}
-use Rattle.script_grammar.specs.declared.commands.Command.{Command}
-use Rattle.script_grammar.specs.declared.commands.Command.TheVariants.{Bits, Balances, Crash}
-use Rattle.script_grammar.specs.declared.faults.LineFault.{LineFault}
-use Rattle.script_grammar.proofs.GrammarLemmas.{behind_name, fills_named, named, no_name, nothing_told, same_words, unnamed}
+use Rattle.std.proofs.Common.{◌≡◌, ◌∙◌, ℕ, List, [], ◌∷◌, codes, refl, rules, subst, sym}
+use Rattle.script_grammar.specs.Grammar.{IsRead, Spells, line_fault}
+use Rattle.script_grammar.specs.Places.{BitText, Moves, Number, Slots}
+use Rattle.script_grammar.proofs.GrammarLemmas.{found, is_name, no_name, told}
 use Rattle.script_grammar.proofs.commands.read_named.Goals as goal
 
-pub returns-in-format : goal.returns-in-format
-returns-in-format c = same_words _ _ _ _ (named _ _ (codes "format") c.args.words c.text_of.ensures refl c.in-format.is) (c.read_format.ensures _)
-
-pub returns-in-open : goal.returns-in-open
-returns-in-open c = same_words _ _ _ _ (named _ _ (codes "open") c.args.words c.text_of.ensures refl c.in-open.is) (c.read_open.ensures _)
-
 pub returns-in-post : goal.returns-in-post
-returns-in-post c = same_words _ _ _ _ (named _ _ (codes "post") c.args.words c.text_of.ensures refl c.in-post.is) (c.read_post.ensures)
-
-pub returns-in-turn : goal.returns-in-turn
-returns-in-turn c = same_words _ _ _ _ (named _ _ (codes "turn") c.args.words c.text_of.ensures refl c.in-turn.is) (c.read_turn.ensures _)
-
--- a command of one word
-alone_read : (name : List ℕ) (command : Command) (words : List (List ℕ)) (line : ℕ) (r : Result Command LineFault)
-    → line_fault (name ∷ words) ≡ told_of_one (Name name ∷ []) (name ∷ words)
-    → (Fills (name ∷ words) (Name name ∷ []) [] → Spells (name ∷ words) line command)
-    → IfErr r (λ fault. told_of_one [] words ≡ Some fault) → IfOk r (λ same. Fills words [] [] × (same ≡ command)) → IsRead (name ∷ words) line r
-unfolding IsRead
-alone_read name command words line (Err fault) one spelled told ok = one ∙ behind_name name [] words ∙ told
-alone_read name command words line (Ok same) one spelled told ok = (
-  one ∙ behind_name name [] words ∙ nothing_told [] words [] ok.0,
-  subst (λ (this : Command). Spells (name ∷ words) line this) (sym ok.1) (spelled (fills_named name [] words [] ok.0)),
-)
-
-pub returns-in-bits : goal.returns-in-bits
-unfolding Spells line_fault
-returns-in-bits c = same_words _ _ _ _ (named _ _ (codes "bits") c.args.words c.text_of.ensures refl c.in-bits.is)
-    (alone_read (codes "bits") Bits _ _ _ refl (λ full. full) c.alone.ensures.fault c.alone.ensures.ok)
-
-pub returns-in-balances : goal.returns-in-balances
-unfolding Spells line_fault
-returns-in-balances c = same_words _ _ _ _ (named _ _ (codes "balances") c.args.words c.text_of.ensures refl c.in-balances.is)
-    (alone_read (codes "balances") Balances _ _ _ refl (λ full. full) c.alone-in-balances.ensures.fault c.alone-in-balances.ensures.ok)
-
-pub returns-in-crash : goal.returns-in-crash
-unfolding Spells line_fault
-returns-in-crash c = same_words _ _ _ _ (named _ _ (codes "crash") c.args.words c.text_of.ensures refl c.in-crash.is)
-    (alone_read (codes "crash") Crash _ _ _ refl (λ full. full) c.alone-in-crash.ensures.fault c.alone-in-crash.ensures.ok)
-
-pub returns-in-day : goal.returns-in-day
-returns-in-day c = same_words _ _ _ _ (named _ _ (codes "day") c.args.words c.text_of.ensures refl c.in-day.is) (c.read_day.ensures _)
+returns-in-post c =
+    subst (λ (w : List ℕ). IsRead (w ∷ c.args.words) c.args.line c.read_post.result)
+    (sym (is_name _ _ (codes "post") c.text_of.ensures refl c.in-post.is)) c.read_post.ensures
 
 pub returns-in_default : goal.returns-in_default
-unfolding IsRead
-returns-in_default c = unnamed _ _ c.requires (record {
-  not_format = no_name _ _ (codes "format") c.text_of.ensures refl c.in_default.not-format;
-  not_open = no_name _ _ (codes "open") c.text_of.ensures refl c.in_default.not-open;
-  not_post = no_name _ _ (codes "post") c.text_of.ensures refl c.in_default.not-post;
-  not_turn = no_name _ _ (codes "turn") c.text_of.ensures refl c.in_default.not-turn;
-  not_bits = no_name _ _ (codes "bits") c.text_of.ensures refl c.in_default.not-bits;
-  not_balances = no_name _ _ (codes "balances") c.text_of.ensures refl c.in_default.not-balances;
-  not_crash = no_name _ _ (codes "crash") c.text_of.ensures refl c.in_default.not-crash;
-  not_day = no_name _ _ (codes "day") c.text_of.ensures refl c.in_default.not-day;
-})
+unfolding IsRead line_fault
+returns-in_default c = rw (
+  c.requires,
+  no_name _ _ (codes "format") c.text_of.ensures refl c.in_default.not-format,
+  no_name _ _ (codes "open") c.text_of.ensures refl c.in_default.not-open,
+  no_name _ _ (codes "post") c.text_of.ensures refl c.in_default.not-post,
+  no_name _ _ (codes "turn") c.text_of.ensures refl c.in_default.not-turn,
+  no_name _ _ (codes "bits") c.text_of.ensures refl c.in_default.not-bits,
+  no_name _ _ (codes "balances") c.text_of.ensures refl c.in_default.not-balances,
+  no_name _ _ (codes "crash") c.text_of.ensures refl c.in_default.not-crash,
+  no_name _ _ (codes "day") c.text_of.ensures refl c.in_default.not-day,
+) refl
+
+pub returns-in_err-slots-in-format : goal.returns-in_err-slots-in-format
+unfolding IsRead line_fault
+returns-in_err-slots-in-format c = search (rules, told _ _ (codes "format") c.args.words c.text_of.ensures refl c.in-format.is line_fault ((Slots ∷ []) ∷ []) refl ∙ c.in_err-slots-in-format.ensures)
+
+pub returns-in_ok-slots-in-format : goal.returns-in_ok-slots-in-format
+unfolding IsRead Spells line_fault
+returns-in_ok-slots-in-format c = found _ _ (codes "format") c.args.words c.text_of.ensures refl c.in-format.is line_fault (Slots ∷ []) _ refl c.in_ok-slots-in-format.ensures
+
+pub returns-in_err-stations-in-open : goal.returns-in_err-stations-in-open
+unfolding IsRead line_fault
+returns-in_err-stations-in-open c = search (rules, told _ _ (codes "open") c.args.words c.text_of.ensures refl c.in-open.is line_fault ((Number ∷ BitText ∷ BitText ∷ []) ∷ []) refl ∙ c.in_err-stations-in-open.ensures)
+
+pub returns-in_ok-stations-in-open : goal.returns-in_ok-stations-in-open
+unfolding IsRead Spells line_fault
+returns-in_ok-stations-in-open c = found _ _ (codes "open") c.args.words c.text_of.ensures refl c.in-open.is line_fault (Number ∷ BitText ∷ BitText ∷ []) _ refl c.in_ok-stations-in-open.ensures
+
+pub returns-in_err-station-in-turn : goal.returns-in_err-station-in-turn
+unfolding IsRead line_fault
+returns-in_err-station-in-turn c = search (rules, told _ _ (codes "turn") c.args.words c.text_of.ensures refl c.in-turn.is line_fault ((Number ∷ []) ∷ []) refl ∙ c.in_err-station-in-turn.ensures)
+
+pub returns-in_ok-station-in-turn : goal.returns-in_ok-station-in-turn
+unfolding IsRead Spells line_fault
+returns-in_ok-station-in-turn c = found _ _ (codes "turn") c.args.words c.text_of.ensures refl c.in-turn.is line_fault (Number ∷ []) _ refl c.in_ok-station-in-turn.ensures
+
+pub returns-in_err-exactly-in-bits : goal.returns-in_err-exactly-in-bits
+unfolding IsRead line_fault
+returns-in_err-exactly-in-bits c = search (rules, told _ _ (codes "bits") c.args.words c.text_of.ensures refl c.in-bits.is line_fault (([]) ∷ []) refl ∙ c.in_err-exactly-in-bits.ensures)
+
+pub returns-in_ok-exactly-in-bits : goal.returns-in_ok-exactly-in-bits
+unfolding IsRead Spells line_fault
+returns-in_ok-exactly-in-bits c = found _ _ (codes "bits") c.args.words c.text_of.ensures refl c.in-bits.is line_fault ([]) _ refl c.in_ok-exactly-in-bits.ensures
+
+pub returns-in_err-exactly-in-balances : goal.returns-in_err-exactly-in-balances
+unfolding IsRead line_fault
+returns-in_err-exactly-in-balances c = search (rules, told _ _ (codes "balances") c.args.words c.text_of.ensures refl c.in-balances.is line_fault (([]) ∷ []) refl ∙ c.in_err-exactly-in-balances.ensures)
+
+pub returns-in_ok-exactly-in-balances : goal.returns-in_ok-exactly-in-balances
+unfolding IsRead Spells line_fault
+returns-in_ok-exactly-in-balances c = found _ _ (codes "balances") c.args.words c.text_of.ensures refl c.in-balances.is line_fault ([]) _ refl c.in_ok-exactly-in-balances.ensures
+
+pub returns-in_err-exactly-in-crash : goal.returns-in_err-exactly-in-crash
+unfolding IsRead line_fault
+returns-in_err-exactly-in-crash c = search (rules, told _ _ (codes "crash") c.args.words c.text_of.ensures refl c.in-crash.is line_fault (([]) ∷ []) refl ∙ c.in_err-exactly-in-crash.ensures)
+
+pub returns-in_ok-exactly-in-crash : goal.returns-in_ok-exactly-in-crash
+unfolding IsRead Spells line_fault
+returns-in_ok-exactly-in-crash c = found _ _ (codes "crash") c.args.words c.text_of.ensures refl c.in-crash.is line_fault ([]) _ refl c.in_ok-exactly-in-crash.ensures
+
+pub returns-in_err-moves-in-day : goal.returns-in_err-moves-in-day
+unfolding IsRead line_fault
+returns-in_err-moves-in-day c = search (rules, told _ _ (codes "day") c.args.words c.text_of.ensures refl c.in-day.is line_fault ((Moves ∷ []) ∷ []) refl ∙ c.in_err-moves-in-day.ensures)
+
+pub returns-in_ok-moves-in-day : goal.returns-in_ok-moves-in-day
+unfolding IsRead Spells line_fault
+returns-in_ok-moves-in-day c = found _ _ (codes "day") c.args.words c.text_of.ensures refl c.in-day.is line_fault (Moves ∷ []) _ refl c.in_ok-moves-in-day.ensures

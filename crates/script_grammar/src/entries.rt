@@ -1,0 +1,88 @@
+//! Entries as lines of scripts and of counters spell them.
+ghost use Rattle.std.specs.Prelude.{◌∷◌};
+ghost use Rattle.script_grammar.specs.Entries.{FillsEntry, SpellsEntry, entry_forms, told_of_entry};
+ghost use Rattle.script_grammar.specs.Places.{IsAnswer, told_by};
+ghost use Rattle.script_grammar.specs.declared.entries.Reference.TheVariants.{GivenOr};
+
+use crate::faults::LineFault;
+use crate::places::{One, Places, Three, Two, exactly, next};
+use crate::words::{Words, text_of};
+use turn_ledger::Entry;
+
+/// What an entry's reference is.
+#[derive(Clone, Copy, Debug)]
+pub enum Reference {
+    /// This one.
+    Fixed(u64),
+    /// A number behind the entry, and if there is none, this one.
+    GivenOr(u64),
+}
+
+/// The entry of this kind: `deposit A M`, `withdraw A M`, `transfer A B M` or `seal A`.
+pub fn read_entry(kind: &[u8], words: Words<'_>, reference: Reference) -> Result<Entry, LineFault>
+    ensures { IsAnswer (told_by (entry_forms reference) (kind.now ∷ words.entry))
+        (SpellsEntry reference (kind.now ∷ words.entry)) result }
+{
+    match text_of(kind) {
+        "deposit" => {
+            let (Two(to, amount), reference) = with_reference(words, reference)?;
+            Ok(Entry::Deposit {
+                to,
+                amount,
+                reference,
+            })
+        }
+        "withdraw" => {
+            let (Two(from, amount), reference) = with_reference(words, reference)?;
+            Ok(Entry::Withdraw {
+                from,
+                amount,
+                reference,
+            })
+        }
+        "transfer" => {
+            let (Three(from, to, amount), reference) = with_reference(words, reference)?;
+            Ok(Entry::Transfer {
+                from,
+                to,
+                amount,
+                reference,
+            })
+        }
+        "seal" => {
+            let (One(account), reference) = with_reference(words, reference)?;
+            Ok(Entry::Seal { account, reference })
+        }
+        _ => Err(LineFault::UnknownCommand),
+    }
+}
+
+// What the words of an entry behind its kind write, and its reference.
+#[tactic(auto, unfolding(crate::specs::Entries::FillsEntry))]
+fn with_reference<P: Places>(words: Words<'_>, reference: Reference) -> Result<(P, u64), LineFault>
+    ensures { IsAnswer (told_of_entry reference P.fields words.entry)
+        (λ both. FillsEntry words.entry P.fields (P.values both.0) reference both.1) result }
+{
+    match reference {
+        Reference::Fixed(fixed) => {
+            let places = exactly(words)?;
+            Ok((places, fixed))
+        }
+        Reference::GivenOr(line) => given_or(words, line),
+    }
+}
+
+// The same, where a number behind the words is the reference, and if there is none, the line's number.
+fn given_or<P: Places>(mut words: Words<'_>, line: u64) -> Result<(P, u64), LineFault>
+    ensures { IsAnswer (told_of_entry (GivenOr line) P.fields words.entry)
+        (λ both. FillsEntry words.entry P.fields (P.values both.0) (GivenOr line) both.1) result }
+{
+    if words.are(usize::from(P::count()) + 1) {
+        let places = P::take(&mut words)?;
+        let given = next(&mut words)?;
+        Ok((places, given))
+    } else {
+        let places = exactly(words)?;
+        Ok((places, line))
+    }
+}
