@@ -1,12 +1,12 @@
 -- What the bytes that a cutter keeps tell of all bytes since the last line feed.
-use Rattle.std.proofs.Common.{◌≡◌, ◌≢◌, ◌∙◌, ◌⊎◌, inl, inr, ℕ, ◌+◌, ◌-◌, ◌<◌, ◌≤◌, Bool, true, false, Option, Some}
-use Rattle.std.proofs.Common.{None, List, [], ◌∷◌, ◌++◌, length, take, ◌==◌, nat_lt, cond, min, arith, refl, sym, ap}
-use Rattle.std.proofs.Common.{subst}
+use Rattle.std.proofs.Common.{◌≡◌, ◌≢◌, ◌∙◌, ◌⊎◌, inl, inr, ℕ, ◌+◌, ◌-◌, ◌<◌, ◌≤◌, Bool, true, false, Option, Some, None, List, [], ◌∷◌}
+use Rattle.std.proofs.Common.{◌++◌, length, take, ◌==◌, nat_lt, cond, min, arith, refl, sym, ap, subst}
 use Rattle.std.specs.Prelude.{All, slice_index}
 use Rattle.std.specs.Str.Lines.{lines, strip_carriage_return}
 use Rattle.std.proofs.lemmas.Bool.{cases_lt, le-ltb, lt-ltb, ne_eqb}
 use Rattle.std.proofs.lemmas.List.{length-take, length-take-le, length-append, take_all, take-append-le}
 use Rattle.std.proofs.lemmas.List.Elements.{All-push}
+use Rattle.std.proofs.lemmas.Option.{same_Some}
 use Rattle.std.proofs.Math.Seq.{take-length}
 use Rattle.script_grammar.specs.Cutting.{Cutting, HasSeen, cut_of}
 use Rattle.script_grammar.specs.declared.cutting.Cut.{Cut}
@@ -65,17 +65,6 @@ no_longer kept bytes is =
     let size : length kept ≡ min 258 (length bytes) = ap (λ (l : List ℕ). length l) is ∙ length-take 258 bytes in
     omega (arith, size)
 
-feed_longer : (kept bytes : List ℕ) (n : ℕ) → kept ≡ take 258 bytes → n ≡ length (strip_carriage_return kept) → 256 < n
-    → (257 < length kept) ⊎ (length kept ≤ 257) → 256 < length (strip_carriage_return bytes)
-feed_longer kept bytes n is size more (inl long) =
-    let near = nearly_all bytes in
-    let least = no_longer kept bytes is in
-    omega (arith, near, least, long)
-feed_longer kept bytes n is size more (inr short) =
-    let same : length (strip_carriage_return kept) ≡ length (strip_carriage_return bytes) =
-    ap (λ (l : List ℕ). length (strip_carriage_return l)) (kept_all kept bytes is short) in
-    omega (arith, same, size, more)
-
 -- ---- how a line is told
 
 -- what is answered of a line, by the number of its bytes that count
@@ -84,62 +73,39 @@ pub record IsTold (whole : List ℕ) (r : Cut) (ended : Option (List ℕ)) : Typ
   pub lent : r ≡ Line → ended ≡ Some whole
   pub only : (line : List ℕ) → ended ≡ Some line → line ≡ whole
 
-some_is : (a b : List ℕ) → Some a ≡ Some b → a ≡ b
-some_is a b e = cc
+-- an end behind these bytes, of which the line keeps all but one at most
+module _ (line_of : List ℕ → List ℕ) (near : (l : List ℕ) → length l ≤ length (line_of l) + 1) (begins : (l : List ℕ) → take (length (line_of l)) l ≡ line_of l)
+    (kept since bytes : List ℕ) (n : ℕ) (r : Cut) (ended : Option (List ℕ)) (same : kept ≡ since) (is : since ≡ take 258 bytes) (size : n ≡ length (line_of kept))
+    (long : 256 < n → (r ≡ TooLong) × (ended ≡ None)) (short : n ≤ 256 → (r ≡ Line) × (ended ≡ Some (take n since))) where
+  longer : 256 < n → (257 < length kept) ⊎ (length kept ≤ 257) → 256 < length (line_of bytes)
+  longer more (inl full) = omega (arith, near bytes, no_longer kept bytes (same ∙ is), full)
+  longer more (inr few) = omega (arith, ap (λ (l : List ℕ). length (line_of l)) (kept_all kept bytes (same ∙ is) few), size, more)
 
-told_by : (whole part : List ℕ) (n : ℕ) (r : Cut) (ended : Option (List ℕ))
-    → (256 < n → 256 < length whole) → (n ≤ 256 → (part ≡ whole) × (length whole ≤ 256))
-    → (256 < n → (r ≡ TooLong) × (ended ≡ None)) → (n ≤ 256 → (r ≡ Line) × (ended ≡ Some part))
-    → (256 < n) ⊎ (n ≤ 256) → IsTold whole r ended
-told_by whole part n r ended longer as_long long short (inl more) =
-    let test : nat_lt 256 (length whole) ≡ true = lt-ltb _ _ (longer more) in
-    let is : r ≡ TooLong = (long more).0 in
-    let none : ended ≡ None = (long more).1 in
-    record {
-      told = is ∙ rw test refl;
-      lent = λ e. let wrong : TooLong ≡ Line = sym is ∙ e in cc;
-      only = λ line e. let wrong : None ≡ Some line = sym none ∙ e in cc;
-    }
-told_by whole part n r ended longer as_long long short (inr few) =
-    let test : nat_lt 256 (length whole) ≡ false = le-ltb 256 (length whole) (as_long few).1 in
-    let some : ended ≡ Some whole = (short few).1 ∙ ap (λ (l : List ℕ). Some l) (as_long few).0 in
-    record {
-      told = (short few).0 ∙ rw test refl;
-      lent = λ _. some;
-      only = λ line e. some_is line whole (sym e ∙ some);
-    }
+  told_by_size : (256 < n) ⊎ (n ≤ 256) → IsTold (line_of bytes) r ended
+  told_by_size (inl more) =
+      let test : nat_lt 256 (length (line_of bytes)) ≡ true = lt-ltb _ _ (longer more (cases_lt 257 (length kept))) in
+      let is_long : r ≡ TooLong = (long more).0 in
+      let none : ended ≡ None = (long more).1 in
+      record {
+        told = is_long ∙ rw test refl;
+        lent = λ e. let wrong : TooLong ≡ Line = sym is_long ∙ e in cc;
+        only = λ line e. let wrong : None ≡ Some line = sym none ∙ e in cc;
+      }
+  told_by_size (inr few) =
+      let all : kept ≡ bytes = kept_all kept bytes (same ∙ is) (omega (arith, near kept, size, few)) in
+      let same_size : length (line_of kept) ≡ length (line_of bytes) = ap (λ (l : List ℕ). length (line_of l)) all in
+      let test : nat_lt 256 (length (line_of bytes)) ≡ false = le-ltb 256 _ (omega (arith, same_size, size, few)) in
+      let whole : take n since ≡ line_of bytes =
+      ap (λ (l : List ℕ). take n l) (sym same) ∙ ap (λ (m : ℕ). take m kept) size ∙ begins kept ∙ ap line_of all in
+      let some : ended ≡ Some (line_of bytes) = (short few).1 ∙ ap (λ (l : List ℕ). Some l) whole in
+      record {
+        told = (short few).0 ∙ rw test refl;
+        lent = λ _. some;
+        only = λ line e. same_Some line (line_of bytes) (sym e ∙ some);
+      }
 
--- a line feed behind these bytes
-pub at_feed : (kept since bytes : List ℕ) (n : ℕ) (r : Cut) (ended : Option (List ℕ)) → kept ≡ since → since ≡ take 258 bytes
-    → n ≡ length (strip_carriage_return kept)
-    → (256 < n → (r ≡ TooLong) × (ended ≡ None)) → (n ≤ 256 → (r ≡ Line) × (ended ≡ Some (take n since)))
-    → IsTold (strip_carriage_return bytes) r ended
-at_feed kept since bytes n r ended same is size long short =
-    let near : length kept ≤ length (strip_carriage_return kept) + 1 = nearly_all kept in
-    told_by (strip_carriage_return bytes) (take n since) n r ended
-    (λ more. feed_longer kept bytes n (same ∙ is) size more (cases_lt 257 (length kept)))
-    (λ few.
-    let all : kept ≡ bytes = kept_all kept bytes (same ∙ is) (omega (arith, near, size, few)) in
-    let line : take n since ≡ strip_carriage_return bytes =
-    ap (λ (l : List ℕ). take n l) (sym same) ∙ ap (λ (m : ℕ). take m kept) size ∙ begins_line kept ∙ ap strip_carriage_return all in
-    let same_size : length (strip_carriage_return kept) ≡ length (strip_carriage_return bytes) =
-    ap (λ (l : List ℕ). length (strip_carriage_return l)) all in
-    (line, omega (arith, same_size, size, few)))
-    long short (cases_lt 256 n)
-
--- the end of the stream behind these bytes
-pub at_end : (kept since bytes : List ℕ) (n : ℕ) (r : Cut) (ended : Option (List ℕ)) → kept ≡ since → since ≡ take 258 bytes → n ≡ length kept
-    → (256 < n → (r ≡ TooLong) × (ended ≡ None)) → (n ≤ 256 → (r ≡ Line) × (ended ≡ Some (take n since))) → IsTold bytes r ended
-at_end kept since bytes n r ended same is size long short =
-    told_by bytes (take n since) n r ended
-    (λ more. omega (arith, size, more, no_longer kept bytes (same ∙ is)))
-    (λ few.
-    let all : kept ≡ bytes = kept_all kept bytes (same ∙ is) (omega (arith, size, few)) in
-    let line : take n since ≡ bytes =
-    ap (λ (l : List ℕ). take n l) (sym same) ∙ ap (λ (m : ℕ). take m kept) size ∙ take-length kept ∙ all in
-    let same_size : length kept ≡ length bytes = ap (λ (l : List ℕ). length l) all in
-    (line, omega (arith, same_size, size, few)))
-    long short (cases_lt 256 n)
+  pub at_end_of_line : IsTold (line_of bytes) r ended
+  at_end_of_line = told_by_size (cases_lt 256 n)
 
 -- ---- a byte that ends no line
 

@@ -1,28 +1,25 @@
 -- What the grammar says of an entry, whose reference may stand behind it.
-use Rattle.std.proofs.Common.{◌≡◌, ◌≢◌, ◌∙◌, ◌⊎◌, inl, inr, ℕ, ◌+◌, Bool, true, false, if◌then◌else◌, List, [], ◌∷◌, length, ◌==◌, arith, refl, sym}
+use Rattle.std.proofs.Common.{◌≡◌, ◌≢◌, ◌∙◌, inl, inr, ℕ, ◌+◌, true, false, if◌then◌else◌, List, [], ◌∷◌, length, ◌==◌, arith, refl, sym}
 use Rattle.std.proofs.lemmas.Bool.{eq-eqb, ne_eqb}
 use Rattle.std.proofs.lemmas.List.{length-append}
-use Rattle.script_grammar.specs.Entries.{FillsEntry, told_of_entry, with_reference}
+use Rattle.script_grammar.specs.Entries.{FillsEntry, with_reference}
 use Rattle.script_grammar.specs.Places.{Field, Value, first_wrong, told_of, told_of_named, told_of_one}
 use Rattle.script_grammar.specs.Places.{Name, Number}
 use Rattle.script_grammar.specs.declared.entries.Reference.{Reference}
 use Rattle.script_grammar.specs.declared.entries.Reference.TheVariants.{Fixed, GivenOr}
-use Rattle.script_grammar.proofs.GrammarLemmas.{Word, behind, fills_named}
+use Rattle.script_grammar.proofs.GrammarLemmas.{Word, fills_named}
 
 pub one_longer : (form : List Field) → length (with_reference form) ≡ length form + 1
 one_longer form = length-append form (Number ∷ [])
 
 -- words that give no reference, and words that give one
-either : (short : Bool) (form longer : List Field) (words : List Word)
-    → told_of (form ∷ longer ∷ []) (if short then form ∷ [] else []) words ≡ told_of (form ∷ []) (if short then form ∷ [] else []) words
-either true form longer words = refl
-either false form longer words = refl
-
 pub not_given : (form : List Field) (words : List Word) → length form + 1 ≢ length words
     → told_of_named (form ∷ with_reference form ∷ []) words ≡ told_of_one form words
 not_given form words other =
     let test : (length (with_reference form) == length words) ≡ false = ne_eqb _ _ (λ e. other (sym (one_longer form) ∙ e)) in
-    rw test (either (length form == length words) form (with_reference form) words)
+    rw test (elim (length form == length words)
+    as (λ short. told_of (form ∷ with_reference form ∷ []) (if short then form ∷ [] else []) words ≡ told_of (form ∷ []) (if short then form ∷ [] else []) words)
+    [ true ↦ refl | false ↦ refl ])
 
 pub is_given : (form : List Field) (words : List Word) → length form + 1 ≡ length words
     → told_of_named (form ∷ with_reference form ∷ []) words ≡ first_wrong (with_reference form) words
@@ -31,12 +28,7 @@ is_given form words long =
     let test : (length (with_reference form) == length words) ≡ true = eq-eqb _ _ (one_longer form ∙ long) in
     rw (short, test) refl
 
--- what is told of an entry stays the same with its kind in front
-pub entry_told : (by : Reference) (name : Word) (places : List Field) (words : List Word)
-    → told_of_entry by (Name name ∷ places) (name ∷ words) ≡ told_of_entry by places words
-entry_told (Fixed line) name places words = behind name (places ∷ []) words
-entry_told (GivenOr line) name places words = behind name (places ∷ with_reference places ∷ []) words
-
+-- the same with its kind in front
 pub entry_named : (by : Reference) (name : Word) (places : List Field) (words : List Word) (these : List Value) (reference : ℕ)
     → FillsEntry words places these by reference → FillsEntry (name ∷ words) (Name name ∷ places) these by reference
 unfolding FillsEntry

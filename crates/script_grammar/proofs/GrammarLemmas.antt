@@ -1,5 +1,6 @@
 -- What the grammar says of a line, form by form.
-use Rattle.std.proofs.Common.{◌≡◌, ◌≢◌, ◌∙◌, ℕ, suc, ◌<◌, ◌≤◌, ◌&&◌, Bool, true, false, if◌then◌else◌, Option, Some, None, Result, Ok, Err, List, [], ◌∷◌, ◌++◌, length, drop, map, filter, ◌==◌, nat_lt, arith, refl, sym, ap, subst}
+use Rattle.std.proofs.Common.{◌≡◌, ◌≢◌, ◌∙◌, ℕ, suc, ◌<◌, ◌≤◌, ◌&&◌, Bool, true, false, if◌then◌else◌, Option, Some, None, Result, Ok, Err, List, []}
+use Rattle.std.proofs.Common.{◌∷◌, ◌++◌, length, drop, map, filter, ◌==◌, nat_lt, arith, refl, sym, ap}
 use Rattle.std.specs.Prelude.{IfErr, IfOk}
 use Rattle.std.specs.Option.{option_or}
 use Rattle.std.specs.Str.{bytes_eq, IsUtf8}
@@ -10,14 +11,13 @@ use Rattle.std.proofs.lemmas.Bool.{eq-eqb, ne_eqb, false_from_ne_true, and_parts
 use Rattle.std.proofs.lemmas.List.{append-nil, append_assoc}
 use Rattle.std.proofs.lemmas.List.Elements.{All-filter, All-head}
 use Rattle.std.proofs.lemmas.List.Sums.{AllPass-from_list_all}
-use Rattle.std.proofs.lemmas.Option.{none-some}
 use Rattle.std.proofs.lemmas.Slice.Eq.{bytes_eq-Decides}
 use Rattle.std.proofs.lemmas.Str.{IsUtf8-from_ascii}
 use Rattle.std.proofs.lemmas.Str.Ascii.{IsAscii-from_all}
 use Rattle.script_grammar.specs.Places.{AreTaken, Field, Fills, IsAnswer, Value, fault_by, first_wrong, is_skipped, takes, told_as, told_of, told_of_named, told_of_one, values, written}
 use Rattle.script_grammar.specs.Places.{Name}
 use Rattle.script_grammar.specs.declared.faults.LineFault.{LineFault}
-use Rattle.script_grammar.specs.declared.faults.LineFault.TheVariants.{UnknownCommand, WrongNumberOfWords}
+use Rattle.script_grammar.specs.declared.faults.LineFault.TheVariants.{WrongNumberOfWords}
 
 abbrev pub Word : Type 0
 Word = List ℕ
@@ -147,29 +147,11 @@ is_plain name = nat_lt 0 (length name) && list_all (λ byte. nat_lt byte 128) na
 abbrev pub IsText : Word → Word → Type 0
 IsText text word = (name : Word) → IsUtf8 name → 0 < length name → bytes_eq text name ≡ bytes_eq word name
 
-alike : (text word name : Word) → IsText text word → is_plain name ≡ true → bytes_eq text name ≡ bytes_eq word name
-alike text word name same plain =
-    let each = AllPass-from_list_all (λ byte. nat_lt byte 128) name (and_parts _ _ plain).1 in
-    same name (IsUtf8-from_ascii name (IsAscii-from_all name (λ k d low. ltb-true _ _ (each k d low)))) (ltb-true _ _ (and_parts _ _ plain).0)
-
-pub is_name : (text word name : Word) → IsText text word → is_plain name ≡ true → text ≡ name → word ≡ name
-is_name text word name same plain e = (bytes_eq-Decides word name).0 (sym (alike text word name same plain) ∙ (bytes_eq-Decides text name).1 e)
-
 pub no_name : (text word name : Word) → IsText text word → is_plain name ≡ true → (text ≡ name → ⊥) → bytes_eq word name ≡ false
-no_name text word name same plain other = sym (alike text word name same plain) ∙ false_from_ne_true _ (λ t. other ((bytes_eq-Decides text name).0 t))
-
--- words of which the first is this name, which these forms alone have
-module _ (text word name : Word) (words : List Word) (same : IsText text word) (plain : is_plain name ≡ true) (is : text ≡ name) where
-  pub told : (wrong : List Word → Option LineFault) (forms : List (List Field)) → wrong (name ∷ words) ≡ told_of_named (map (λ form. Name name ∷ form) forms) (name ∷ words)
-      → wrong (word ∷ words) ≡ told_of_named forms words
-  told wrong forms alone = ap (λ (w : Word). wrong (w ∷ words)) (is_name text word name same plain is) ∙ alone ∙ behind name forms words
-
-  pub found : (wrong : List Word → Option LineFault) (places : List Field) (these : List Value) → wrong (name ∷ words) ≡ told_of_one (Name name ∷ places) (name ∷ words)
-      → (told_of_one places words ≡ None) × Fills words places these → (wrong (word ∷ words) ≡ None) × Fills (word ∷ words) (Name name ∷ places) these
-  found wrong places these alone h = (
-    told wrong (places ∷ []) alone ∙ h.0,
-    subst (λ (w : Word). Fills (w ∷ words) (Name name ∷ places) these) (sym (is_name text word name same plain is)) (fills_named name places words these h.1),
-  )
+no_name text word name same plain other =
+    let each = AllPass-from_list_all (λ byte. nat_lt byte 128) name (and_parts _ _ plain).1 in
+    let utf8 : IsUtf8 name = IsUtf8-from_ascii name (IsAscii-from_all name (λ k d low. ltb-true _ _ (each k d low))) in
+    sym (same name utf8 (ltb-true _ _ (and_parts _ _ plain).0)) ∙ false_from_ne_true _ (λ t. other ((bytes_eq-Decides text name).0 t))
 
 -- nothing is wrong with a line that says nothing
 pub skipped : (table : List (List Field)) (words : List Word) → is_skipped words ≡ true → fault_by table words ≡ None

@@ -4,3 +4,5 @@ pub mod GrammarLemmas
 pub mod TestLemmas
 pub mod CuttingLemmas
 pub mod EntryLemmas
+pub mod NameLemmas
+pub mod PostLemmas

@@ -63,11 +63,7 @@ last_word xs (Some piece) none h =
     ap (filter (λ word. nat_lt 0 (length word))) (slice_split_none (λ byte. byte == 32) xs none) ∙ kept_word xs [] some
     ∙ ap (λ (y : List ℕ). y ∷ []) (sym h.0)
 
--- what an iterator over a list has to say of a step
-pub shorter : (xs ys : List (List ℕ)) (x : List ℕ) → xs ≡ x ∷ ys → length ys < length xs
-shorter xs ys x e = rw e (omega arith)
-
--- and of the last one
+-- what an iterator over a list has to say of its last step
 pub last_step : (old now new : List (List ℕ)) (r : Option (Bor (List ℕ))) → now ≡ old → new ≡ []
     → MatchOption r (now ≡ []) (λ piece. now ≡ piece.now ∷ [])
     → MatchOption r ((old ≡ []) × (new ≡ [])) (λ piece. old ≡ piece.now ∷ new)

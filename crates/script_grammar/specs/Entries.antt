@@ -21,6 +21,7 @@ transfer_entry = Name (codes "transfer") ∷ Account ∷ Account ∷ Number ∷ 
 abbrev pub seal_entry : List Field
 seal_entry = Name (codes "seal") ∷ Account ∷ []
 
+-- the forms of all kinds
 abbrev pub entries : List (List Field)
 entries = deposit_entry ∷ withdraw_entry ∷ transfer_entry ∷ seal_entry ∷ []
 
@@ -28,15 +29,16 @@ entries = deposit_entry ∷ withdraw_entry ∷ transfer_entry ∷ seal_entry ∷
 abbrev pub with_reference : List Field → List Field
 with_reference form = form ++ (Number ∷ [])
 
+-- the forms where the reference may be given
 abbrev pub entries_given : List (List Field)
 entries_given = entries ++ map with_reference entries
 
--- the forms of entries whose reference is fixed, and of those where it may be given
+-- the forms of entries with such a reference
 abbrev pub entry_forms : Reference → List (List Field)
 entry_forms (Fixed line) = entries
 entry_forms (GivenOr line) = entries_given
 
--- what is told of words that have the names of an entry's form
+-- what is wrong with words that have the names of an entry's form
 abbrev pub told_of_entry : Reference → List Field → List (List ℕ) → Option LineFault
 told_of_entry (Fixed line) form words = told_of_one form words
 told_of_entry (GivenOr line) form words = told_of_named (form ∷ with_reference form ∷ []) words

@@ -57,6 +57,7 @@ pub fn read_command(line: &[u8], number: u64) -> Result<Option<Command>, LineFau
 }
 
 // The command of this name, which begins no comment.
+#[tactic(auto, using(crate::proofs::NameLemmas::commands), unfolding(crate::specs::Grammar::IsRead, crate::specs::Grammar::Spells))]
 fn read_named(name: &[u8], words: Words<'_>, line: u64) -> Result<Command, LineFault>
     requires { (slice_index name.now 0 == 35) ≡ false }
     ensures { IsRead (name.now ∷ words.entry) line result }
@@ -96,6 +97,7 @@ fn read_named(name: &[u8], words: Words<'_>, line: u64) -> Result<Command, LineF
 }
 
 // An entry for a station; the line's number is its reference.
+#[tactic(auto, using(crate::proofs::PostLemmas::posts), unfolding(crate::specs::Grammar::IsRead))]
 fn read_post(mut words: Words<'_>, line: u64) -> Result<Command, LineFault>
     ensures { IsRead (codes "post" ∷ words.entry) line result }
 {

@@ -14,11 +14,12 @@ use turn_ledger::Entry;
 pub enum Reference {
     /// This one.
     Fixed(u64),
-    /// A number behind the entry, and if there is none, this one.
+    /// The number behind the entry, or this one if there is none.
     GivenOr(u64),
 }
 
 /// The entry of this kind: `deposit A M`, `withdraw A M`, `transfer A B M` or `seal A`.
+#[tactic(auto, using(crate::proofs::NameLemmas::kinds), unfolding(crate::specs::Entries::SpellsEntry))]
 pub fn read_entry(kind: &[u8], words: Words<'_>, reference: Reference) -> Result<Entry, LineFault>
     ensures { IsAnswer (told_by (entry_forms reference) (kind.now ∷ words.entry))
         (SpellsEntry reference (kind.now ∷ words.entry)) result }
@@ -57,7 +58,7 @@ pub fn read_entry(kind: &[u8], words: Words<'_>, reference: Reference) -> Result
     }
 }
 
-// What the words of an entry behind its kind write, and its reference.
+// What the words behind an entry's kind write, and the entry's reference.
 #[tactic(auto, unfolding(crate::specs::Entries::FillsEntry))]
 fn with_reference<P: Places>(words: Words<'_>, reference: Reference) -> Result<(P, u64), LineFault>
     ensures { IsAnswer (told_of_entry reference P.fields words.entry)
@@ -72,7 +73,8 @@ fn with_reference<P: Places>(words: Words<'_>, reference: Reference) -> Result<(
     }
 }
 
-// The same, where a number behind the words is the reference, and if there is none, the line's number.
+// The same if the reference may be given: a number behind the other words is the reference.
+#[tactic(auto, using(crate::proofs::EntryLemmas::is_given, crate::proofs::EntryLemmas::not_given, crate::proofs::GrammarLemmas::then_told, crate::proofs::GrammarLemmas::wrong_first), unfolding(crate::specs::Entries::FillsEntry))]
 fn given_or<P: Places>(mut words: Words<'_>, line: u64) -> Result<(P, u64), LineFault>
     ensures { IsAnswer (told_of_entry (GivenOr line) P.fields words.entry)
         (λ both. FillsEntry words.entry P.fields (P.values both.0) (GivenOr line) both.1) result }

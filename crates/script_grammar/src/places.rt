@@ -213,6 +213,7 @@ pub fn next<A: Place>(words: &mut Words<'_>) -> Result<A, LineFault>
 }
 
 /// What the words that are left write, which have to be as many as there are places.
+#[tactic(auto, using(crate::proofs::GrammarLemmas::not_as_long))]
 pub fn exactly<P: Places>(mut words: Words<'_>) -> Result<P, LineFault>
     ensures { IsAnswer (told_of_one P.fields words.entry)
         (λ these. Fills words.entry P.fields (P.values these)) result }

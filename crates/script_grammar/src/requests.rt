@@ -50,6 +50,7 @@ pub fn read_request(line: &[u8], number: u64) -> Result<Option<Request>, LineFau
 }
 
 // The request of this name, which begins no comment.
+#[tactic(auto, using(crate::proofs::NameLemmas::requests), unfolding(crate::specs::Requests::IsRequestRead, crate::specs::Requests::SpellsRequest))]
 fn read_requested(name: &[u8], words: Words<'_>, line: u64) -> Result<Request, LineFault>
     requires { (slice_index name.now 0 == 35) ≡ false }
     ensures { IsRequestRead (name.now ∷ words.entry) line result }

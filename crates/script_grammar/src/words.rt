@@ -1,5 +1,5 @@
 //! Lines and words of a script.
-ghost use Rattle.std.specs.Prelude.{◌≡◌, ◌<◌, ℕ, true, false, List, [], ◌∷◌, ◌++◌, ◌==◌, length, bytes_eq, slice_index, All, IfErr, IfOk, IfSome, IsNone, IsUtf8, MatchOption};
+ghost use Rattle.std.specs.Prelude.{◌≡◌, ◌⊎◌, ◌<◌, ℕ, true, false, List, [], ◌∷◌, ◌++◌, ◌==◌, length, bytes_eq, slice_index, All, IfErr, IfOk, IfSome, IsNone, IsUtf8, MatchOption};
 ghost use Rattle.std.specs.Str.Lines.{lines, strip_carriage_return};
 ghost use Rattle.script_grammar.specs.Places.{is_skipped};
 ghost use Rattle.script_grammar.specs.Script.{words_of};
@@ -42,6 +42,7 @@ impl<'a> Iterator for Lines<'a> {
 
     ghost remaining = { item_count (λ lines. lines) };
 
+    #[tactic(auto, using(crate::proofs::ScriptLemmas::lines_cut))]
     fn next(&mut self) -> Option<&'a [u8]> {
         match split_at_byte(self.rest, b'\n') {
             Some((line, rest)) => {
@@ -109,6 +110,7 @@ impl<'a> Iterator for Words<'a> {
 
     ghost remaining = { item_count (λ words. words) };
 
+    #[tactic(auto, using(crate::proofs::ScriptLemmas::words_cut_some, crate::proofs::ScriptLemmas::words_cut_empty))]
     fn next(&mut self) -> Option<&'a [u8]> {
         'pieces: loop {
             match split_at_byte(self.rest, b' ') {
@@ -148,7 +150,8 @@ fn begins_comment(name: &[u8]) -> bool
 
 /// A word as text: the empty one, which is no name, where it isn't UTF-8.
 pub fn text_of(word: &[u8]) -> &str
-    ensures { (name : List ℕ) → IsUtf8 name → 0 < length name
+    ensures same { (result.now ≡ word.now) ⊎ (result.now ≡ []) }
+    ensures names { (name : List ℕ) → IsUtf8 name → 0 < length name
         → bytes_eq result.now name ≡ bytes_eq word.now name }
 {
     match std::str::from_utf8(word) {

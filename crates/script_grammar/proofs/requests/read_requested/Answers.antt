@@ -1,11 +1,9 @@
-use Rattle.std.proofs.Common.{◌≡◌, ◌∙◌, false, List, [], ◌∷◌, ◌==◌, codes, refl, rules}
+use Rattle.std.proofs.Common.{◌≡◌, ◌∙◌, false, List, ◌∷◌, ◌==◌, codes, refl, rules}
 use Rattle.std.specs.Prelude.{slice_index}
-use Rattle.std.specs.Str.{bytes_eq}
 use Rattle.script_grammar.specs.Entries.{entries_given}
 use Rattle.script_grammar.specs.Places.{told_by}
-use Rattle.script_grammar.specs.Places.{Account, Number}
 use Rattle.script_grammar.specs.Requests.{IsRequestRead, SpellsRequest, request_fault}
-use Rattle.script_grammar.proofs.GrammarLemmas.{IsText, Word, found, no_name, told}
+use Rattle.script_grammar.proofs.GrammarLemmas.{IsText, Word, no_name}
 use Rattle.script_grammar.proofs.requests.read_requested.Goals as goal
 
 -- what is told of a line of another name is told of it as an entry
@@ -24,43 +22,11 @@ pub returns-in_err-entry-in_default : goal.returns-in_err-entry-in_default
 unfolding IsRequestRead
 returns-in_err-entry-in_default c =
     let other = c.in_default in
-    search (rules, as_entry _ _ c.args.words c.requires c.text_of.ensures other.not-balance other.not-find other.not-help other.not-close ∙ c.in_err-entry-in_default.ensures)
+    search (rules, as_entry _ _ c.args.words c.requires c.text_of.ensures.names other.not-balance other.not-find other.not-help other.not-close ∙ c.in_err-entry-in_default.ensures)
 
 pub returns-in_ok-entry-in_default : goal.returns-in_ok-entry-in_default
 unfolding IsRequestRead SpellsRequest
 returns-in_ok-entry-in_default c =
     let other = c.in_default in
     let h = c.in_ok-entry-in_default.ensures in
-    (as_entry _ _ c.args.words c.requires c.text_of.ensures other.not-balance other.not-find other.not-help other.not-close ∙ h.0, h.1)
-
-pub returns-in_err-account-in-balance : goal.returns-in_err-account-in-balance
-unfolding IsRequestRead request_fault
-returns-in_err-account-in-balance c = search (rules, told _ _ (codes "balance") c.args.words c.text_of.ensures refl c.in-balance.is request_fault ((Account ∷ []) ∷ []) refl ∙ c.in_err-account-in-balance.ensures)
-
-pub returns-in_ok-account-in-balance : goal.returns-in_ok-account-in-balance
-unfolding IsRequestRead SpellsRequest request_fault
-returns-in_ok-account-in-balance c = found _ _ (codes "balance") c.args.words c.text_of.ensures refl c.in-balance.is request_fault (Account ∷ []) _ refl c.in_ok-account-in-balance.ensures
-
-pub returns-in_err-reference-in-find : goal.returns-in_err-reference-in-find
-unfolding IsRequestRead request_fault
-returns-in_err-reference-in-find c = search (rules, told _ _ (codes "find") c.args.words c.text_of.ensures refl c.in-find.is request_fault ((Number ∷ []) ∷ []) refl ∙ c.in_err-reference-in-find.ensures)
-
-pub returns-in_ok-reference-in-find : goal.returns-in_ok-reference-in-find
-unfolding IsRequestRead SpellsRequest request_fault
-returns-in_ok-reference-in-find c = found _ _ (codes "find") c.args.words c.text_of.ensures refl c.in-find.is request_fault (Number ∷ []) _ refl c.in_ok-reference-in-find.ensures
-
-pub returns-in_err-exactly-in-help : goal.returns-in_err-exactly-in-help
-unfolding IsRequestRead request_fault
-returns-in_err-exactly-in-help c = search (rules, told _ _ (codes "help") c.args.words c.text_of.ensures refl c.in-help.is request_fault (([]) ∷ []) refl ∙ c.in_err-exactly-in-help.ensures)
-
-pub returns-in_ok-exactly-in-help : goal.returns-in_ok-exactly-in-help
-unfolding IsRequestRead SpellsRequest request_fault
-returns-in_ok-exactly-in-help c = found _ _ (codes "help") c.args.words c.text_of.ensures refl c.in-help.is request_fault ([]) _ refl c.in_ok-exactly-in-help.ensures
-
-pub returns-in_err-exactly-in-close : goal.returns-in_err-exactly-in-close
-unfolding IsRequestRead request_fault
-returns-in_err-exactly-in-close c = search (rules, told _ _ (codes "close") c.args.words c.text_of.ensures refl c.in-close.is request_fault (([]) ∷ []) refl ∙ c.in_err-exactly-in-close.ensures)
-
-pub returns-in_ok-exactly-in-close : goal.returns-in_ok-exactly-in-close
-unfolding IsRequestRead SpellsRequest request_fault
-returns-in_ok-exactly-in-close c = found _ _ (codes "close") c.args.words c.text_of.ensures refl c.in-close.is request_fault ([]) _ refl c.in_ok-exactly-in-close.ensures
+    (as_entry _ _ c.args.words c.requires c.text_of.ensures.names other.not-balance other.not-find other.not-help other.not-close ∙ h.0, h.1)

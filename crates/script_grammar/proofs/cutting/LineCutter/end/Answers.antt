@@ -1,6 +1,7 @@
 use Rattle.std.proofs.Common.{◌≡◌, ◌<◌, ◌∙◌, ℕ, List, arith, length}
+use Rattle.std.proofs.Math.Seq.{take-length}
 use Rattle.script_grammar.specs.Cutting.{HasSeen}
-use Rattle.script_grammar.proofs.CuttingLemmas.{IsTold, at_end, goes_on, last_of_stream, no_longer}
+use Rattle.script_grammar.proofs.CuttingLemmas.{IsTold, at_end_of_line, goes_on, last_of_stream, no_longer}
 use Rattle.script_grammar.proofs.cutting.LineCutter.end.Goals as goal
 
 -- what the end is answered with, whatever the bytes before it are
@@ -8,7 +9,7 @@ told_at_end : (c : goal.After-cut) (bytes : List ℕ) → HasSeen c.args.self.no
 told_at_end c bytes seen =
     let inside = goes_on _ _ _ c.self.view_is c.begin.ensures.ended in
     let size : c.len-length.result ≡ length c.self.inside.kept.items = omega (arith, c.len-length.ensures) in
-    at_end c.self.inside.kept.items c.begin.new.self.since bytes _ _ _ inside.1 (c.begin.ensures.since ∙ seen.0) size
+    at_end_of_line (λ l. l) (λ l. omega arith) take-length c.self.inside.kept.items c.begin.new.self.since bytes _ _ _ inside.1 (c.begin.ensures.since ∙ seen.0) size
     c.cut.ensures.too_long c.cut.ensures.line
 
 pub returns-clause-cuts : goal.returns-clause-cuts

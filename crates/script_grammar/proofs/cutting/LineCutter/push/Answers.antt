@@ -1,7 +1,7 @@
 use Rattle.std.proofs.Common.{◌<◌, ◌≤◌, ◌∙◌, ℕ, List, [], ap, arith, cond, length, refl}
 use Rattle.std.specs.Str.Lines.{strip_carriage_return}
 use Rattle.script_grammar.specs.Cutting.{HasSeen}
-use Rattle.script_grammar.proofs.CuttingLemmas.{IsTold, at_feed, goes_on, next_line, no_feed, no_more, one_more}
+use Rattle.script_grammar.proofs.CuttingLemmas.{IsTold, at_end_of_line, begins_line, goes_on, nearly_all, next_line, no_feed, no_more, one_more}
 use Rattle.script_grammar.proofs.cutting.LineCutter.push.Goals as goal
 
 -- what a line feed is answered with, whatever the bytes before it are
@@ -10,7 +10,7 @@ told_at_feed : (c : goal.After-cut) (bytes : List ℕ) → HasSeen c.args.self.n
 told_at_feed c bytes seen =
     let inside = goes_on _ _ _ c.self.view_is c.begin.ensures.ended in
     let size = ap (λ (l : List ℕ). length l) c.without_return-length.ensures ∙ ap (λ (l : List ℕ). length (strip_carriage_return l)) c.deref.ensures.value in
-    at_feed c.self.inside.kept.items c.begin.new.self.since bytes _ _ _ inside.1 (c.begin.ensures.since ∙ seen.0) size
+    at_end_of_line strip_carriage_return nearly_all begins_line c.self.inside.kept.items c.begin.new.self.since bytes _ _ _ inside.1 (c.begin.ensures.since ∙ seen.0) size
     c.cut.ensures.too_long c.cut.ensures.line
 
 pub returns-then-byte-eq10-clause-cuts : goal.returns-then-byte-eq10-clause-cuts

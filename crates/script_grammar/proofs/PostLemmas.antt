@@ -1,11 +1,11 @@
-use Rattle.std.proofs.Common.{◌≡◌, ◌∙◌, ◌⊎◌, inl, inr, ℕ, true, false, if◌then◌else◌, Bool, Option, List, [], ◌∷◌, Some, None, codes, filter, refl, rules, sym, ap, subst}
-use Rattle.std.specs.List.{All}
+-- What is told of an entry behind `post` and a station.
+use Rattle.std.proofs.Common.{◌≡◌, ◌∙◌, inl, inr, ℕ, true, false, Option, List, [], ◌∷◌, Some, None, codes, filter, refl, sym, ap}
 use Rattle.std.proofs.Math.Dec.{eqb-suc-suc}
 use Rattle.std.proofs.lemmas.Bool.{and_parts, cases_cond, cond-true, cond_both}
 use Rattle.std.proofs.lemmas.List.Elements.{All-filter, All-from_recursion, filter_passes}
 use Rattle.std.proofs.lemmas.Option.{none-some, same_Some}
 use Rattle.script_grammar.specs.Entries.{SpellsEntry, entries}
-use Rattle.script_grammar.specs.Grammar.{IsRead, Spells, line_fault, post_form}
+use Rattle.script_grammar.specs.Grammar.{Spells, line_fault, post_form}
 use Rattle.script_grammar.specs.Places.{Field, Fills, first_wrong, has_names, takes, told_as, told_by, told_of_named, written}
 use Rattle.script_grammar.specs.Places.{Name, Number, NumberIs}
 use Rattle.script_grammar.specs.declared.commands.Command.TheVariants.{Post}
@@ -14,7 +14,6 @@ use Rattle.script_grammar.specs.declared.faults.LineFault.{LineFault}
 use Rattle.script_grammar.specs.declared.faults.LineFault.TheVariants.{BadNumber, WrongNumberOfWords}
 use Rattle.turn_ledger.specs.declared.entry.Entry.{Entry}
 use Rattle.script_grammar.proofs.GrammarLemmas.{GoesOn, Word, filter_front, told_in_front}
-use Rattle.script_grammar.proofs.commands.read_post.Goals as goal
 
 -- every wrong word at a place of the form is a bad number
 abbrev Numbers : List Field → Type 0
@@ -50,68 +49,33 @@ post_told s rest found more on each h =
     ∙ told_in_front post_form rest longer found more (λ form. eqb-suc-suc _ _ ∙ eqb-suc-suc _ _) on kept
     (λ k d low. each _ (numbers k d low) (filter_passes (λ form. has_names form rest) entries k d low)) h
 
-post_wrong : (s : Word) (rest : List Word) (fault : LineFault) → told_by entries rest ≡ Some fault → line_fault (codes "post" ∷ s ∷ rest) ≡ Some fault
+pub post_wrong : (s : Word) (rest : List Word) (fault : LineFault) → told_by entries rest ≡ Some fault → line_fault (codes "post" ∷ s ∷ rest) ≡ Some fault
 unfolding first_wrong takes
 post_wrong s rest fault h =
     post_told s rest (Some fault) (Some fault) (λ other e. e)
     (λ form numbers names e. cond_both (takes Number s) _ _ (λ o. o ≡ Some fault) (λ _. e)
     (λ _. ap (λ (f : LineFault). Some f) (sym (bad_number form rest fault numbers names e)))) h
 
-station_wrong : (s : Word) (rest : List Word) → takes Number s ≡ false → told_by entries rest ≡ None → line_fault (codes "post" ∷ s ∷ rest) ≡ Some BadNumber
+pub station_wrong : (s : Word) (rest : List Word) → takes Number s ≡ false → told_by entries rest ≡ None → line_fault (codes "post" ∷ s ∷ rest) ≡ Some BadNumber
 unfolding first_wrong takes
 station_wrong s rest bad h =
     post_told s rest None (Some BadNumber) (λ fault e. absurd (none-some _ e)) (λ form numbers names e. rw bad refl) h
 
-nothing_wrong : (s : Word) (rest : List Word) → takes Number s ≡ true → told_by entries rest ≡ None → line_fault (codes "post" ∷ s ∷ rest) ≡ None
+pub nothing_wrong : (s : Word) (rest : List Word) → takes Number s ≡ true → told_by entries rest ≡ None → line_fault (codes "post" ∷ s ∷ rest) ≡ None
 unfolding first_wrong takes
 nothing_wrong s rest ok h = post_told s rest None None (λ fault e. e) (λ form numbers names e. rw ok e) h
 
-spelled : (s : Word) (rest : List Word) (station line : ℕ) (entry : Entry) → takes Number s ≡ true → written Number s ≡ NumberIs station ∷ []
+pub spelled : (s : Word) (rest : List Word) (station line : ℕ) (entry : Entry) → takes Number s ≡ true → written Number s ≡ NumberIs station ∷ []
     → SpellsEntry (Fixed line) rest entry → Spells (codes "post" ∷ s ∷ rest) line (Post station entry)
 unfolding Spells Fills first_wrong takes
 spelled s rest station line entry ok value full = ((refl, rw ok refl, value), full)
 
-no_station : (words : List Word) → words ≡ [] → line_fault (codes "post" ∷ words) ≡ Some WrongNumberOfWords
+pub no_station : line_fault (codes "post" ∷ []) ≡ Some WrongNumberOfWords
 unfolding line_fault
-no_station words none = rw none refl
+no_station = refl
 
-no_kind : (words more : List Word) (s : Word) → words ≡ s ∷ more → more ≡ [] → line_fault (codes "post" ∷ words) ≡ Some WrongNumberOfWords
+pub no_kind : (s : Word) → line_fault (codes "post" ∷ s ∷ []) ≡ Some WrongNumberOfWords
 unfolding line_fault
-no_kind words more s one none = rw (one, none) refl
+no_kind s = refl
 
-pub returns-in_err-station : goal.returns-in_err-station
-unfolding IsRead
-returns-in_err-station c = search (rules, no_station _ c.in_err-station.ensures.err.0 ∙ ap (λ (f : LineFault). Some f) (sym c.in_err-station.ensures.err.1))
-
-pub returns-in_err-kind : goal.returns-in_err-kind
-unfolding IsRead
-returns-in_err-kind c =
-    search (rules, no_kind _ _ _ c.in_ok-station.ensures.ok c.in_err-kind.ensures.err.0 ∙ ap (λ (f : LineFault). Some f) (sym c.in_err-kind.ensures.err.1))
-
-two_words : (words more rest : List Word) (s kind : Word) → words ≡ s ∷ more → more ≡ kind ∷ rest → (codes "post" ∷ words) ≡ (codes "post" ∷ s ∷ kind ∷ rest)
-two_words words more rest s kind e f = ap (λ (l : List Word). codes "post" ∷ l) (e ∙ ap (λ (l : List Word). s ∷ l) f)
-
-pub returns-in_err-entry : goal.returns-in_err-entry
-unfolding IsRead
-returns-in_err-entry c =
-    search (rules, ap line_fault (two_words _ _ _ _ _ c.in_ok-station.ensures.ok c.in_ok-kind.ensures.ok) ∙ post_wrong _ _ _ c.in_err-entry.ensures)
-
-pub returns-in_err-station-2 : goal.returns-in_err-station-2
-unfolding IsRead
-returns-in_err-station-2 c =
-    let bad = c.in_err-station-2.ensures.err in
-    search (
-      rules,
-      ap line_fault (two_words _ _ _ _ _ c.in_ok-station.ensures.ok c.in_ok-kind.ensures.ok) ∙ station_wrong _ _ bad.0 c.in_ok-entry.ensures.0
-          ∙ ap (λ (f : LineFault). Some f) (sym bad.1),
-    )
-
-pub returns : goal.returns
-unfolding IsRead
-returns c =
-    let station = c.in_ok-station-2.ensures.ok in
-    let same = two_words _ _ _ _ _ c.in_ok-station.ensures.ok c.in_ok-kind.ensures.ok in (
-      ap line_fault same ∙ nothing_wrong _ _ station.0 c.in_ok-entry.ensures.0,
-      subst (λ (l : List Word). Spells l c.args.line (Post c.in_ok-station-2.station c.in_ok-entry.entry)) (sym same)
-          (spelled _ _ _ _ _ station.0 station.1 c.in_ok-entry.ensures.1),
-    )
+pub ruleset posts = (no_station, no_kind, post_wrong, station_wrong, nothing_wrong, spelled)
