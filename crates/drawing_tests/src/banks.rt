@@ -1,5 +1,5 @@
 //! Damage of banks.
-use crate::images::{Change, Row, Sound, THIRD, are_found};
+use crate::images::{Change, Row, SECOND, THIRD, are_found};
 use journal_recovery::Cause::Bank;
 use std::test::Fail;
 
@@ -18,7 +18,7 @@ fn damaged_heads_are_found(rt: HostRuntime) -> Result<(), Fail> {
         (&[(2, 7, 1)], 0, Bank, 2, 7),
         (&[(13, 30, 1)], 1, Bank, 13, 30),
     ];
-    are_found(&rt, rt.alloc(), Sound::Second, None, &table)
+    are_found(&rt, rt.alloc(), SECOND, None, &table)
 }
 
 // The gates are sectors 1 and 28, and both closed. The second bank has the epoch 1, in bytes 8 to 15 of its head, and
@@ -61,5 +61,5 @@ fn damaged_banks_of_layout_2_are_found(rt: HostRuntime) -> Result<(), Fail> {
         (&[(2, 15, 1)], 0, Bank, 2, 8),
         (&[(14, 504, 0x10)], 1, Bank, 14, 0),
     ];
-    are_found(&rt, rt.alloc(), Sound::Second, None, &table)
+    are_found(&rt, rt.alloc(), SECOND, None, &table)
 }

@@ -1,5 +1,5 @@
 //! The picture of a device, counted cell by cell.
-use crate::images::{Change, Sound, THIRD, changed, row};
+use crate::images::{Change, FIRST, SECOND, THIRD, changed};
 use device_drawing::{DrawFault, Place, draw};
 use fault_injector::{OneFault, Op};
 use sector_device::MemoryDevice;
@@ -8,6 +8,7 @@ use std::io;
 use std::io::{ErrorKind, Write};
 use std::process::Abort;
 use std::test::Fail;
+use test_scenes::Image;
 
 /// The classes of cells, in the order in which tables count them.
 const CLASSES: [&str; 10] = [
@@ -79,13 +80,13 @@ fn shows(
 // slots open.
 #[test]
 fn each_sector_is_a_cell_of_its_kind(rt: HostRuntime) -> Result<(), Fail> {
-    let table: [(Sound, Option<u64>, [usize; 10]); 6] = [
+    let table: [(Image<'static>, Option<u64>, [usize; 10]); 6] = [
         (THIRD, None, [0, 1, 2, 34, 2, 4, 6, 6, 0, 0]),
         (THIRD, Some(47), [1, 1, 2, 34, 1, 4, 6, 6, 0, 0]),
         (THIRD, Some(0), [1, 0, 2, 34, 2, 4, 6, 6, 0, 0]),
-        (Sound::Second, None, [0, 1, 2, 2, 2, 4, 6, 6, 0, 0]),
-        (Sound::Second, Some(16), [1, 1, 2, 2, 2, 3, 6, 6, 0, 0]),
-        (Sound::First, Some(8), [1, 1, 0, 0, 2, 2, 2, 1, 0, 0]),
+        (SECOND, None, [0, 1, 2, 2, 2, 4, 6, 6, 0, 0]),
+        (SECOND, Some(16), [1, 1, 2, 2, 2, 3, 6, 6, 0, 0]),
+        (FIRST, Some(8), [1, 1, 0, 0, 2, 2, 2, 1, 0, 0]),
     ];
     for (sound, damaged, expected) in table {
         let device = changed(&rt, rt.alloc(), sound, &[])?;
@@ -141,7 +142,7 @@ fn captions_tell_what_is_drawn(rt: HostRuntime) -> Result<(), Fail> {
     let none = drawn(alloc, none, None)?;
     let ends = [">bank 0, not live</text>", ">bank 1, not live</text>"];
     tells(&rt, none.as_slice(), &ends, 1);
-    let row = drawn(alloc, changed(&rt, alloc, Sound::First, &[])?, None)?;
+    let row = drawn(alloc, changed(&rt, alloc, FIRST, &[])?, None)?;
     let ends = [">layout 1, 4 slots, 9 sectors of 512 bytes</text>"];
     tells(&rt, row.as_slice(), &ends, 1);
     Ok(())
@@ -177,7 +178,12 @@ fn neighbours_of_slots_are_joined(rt: HostRuntime) -> Result<(), Fail> {
         (Some(4), [1, 1, 0, 0, 1, 0, 2_058, 0, 50, 0]),
         (Some(4_220), [1, 1, 0, 0, 2, 0, 2_058, 0, 49, 0]),
     ] {
-        let device = row(rt.alloc(), 2_060, 4_221)?;
+        let mut device = MemoryDevice::new(rt.alloc(), 4_221)?;
+        Image {
+            slots: 2_060,
+            ..FIRST
+        }
+        .write(&mut device)?;
         shows(&rt, rt.alloc(), device, damaged, expected)?;
     }
     Ok(())

@@ -1,5 +1,5 @@
 //! Damage of slots of layouts 1 and 2.
-use crate::images::{Row, Sound, are_found};
+use crate::images::{FIRST, Row, SECOND, are_found};
 use journal_recovery::Cause::{Entry, Header, Sequence, Tail, Verdict};
 use std::test::Fail;
 
@@ -15,7 +15,7 @@ fn damage_of_layout_1_is_found(rt: HostRuntime) -> Result<(), Fail> {
         (&[(3, 68, 1), (3, 79, 1)], 1, Entry(1), 3, 79),
         (&[(3, 43, 65)], 1, Verdict(0), 3, 32),
     ];
-    are_found(&rt, rt.alloc(), Sound::First, None, &table)
+    are_found(&rt, rt.alloc(), FIRST, None, &table)
 }
 
 // The second bank is live: slot k has its body in sector 15 + 2k, its gate in 16 + 2k, and the sequence 7 + k. The
@@ -29,10 +29,10 @@ fn damage_of_layout_2_is_found(rt: HostRuntime) -> Result<(), Fail> {
         (&[(17, 64, 4)], 1, Entry(1), 17, 64),
         (&[(17, 75, 65)], 1, Verdict(1), 17, 64),
     ];
-    are_found(&rt, rt.alloc(), Sound::Second, Some(1), &table)?;
+    are_found(&rt, rt.alloc(), SECOND, Some(1), &table)?;
     let table: [Row<'_>; 2] = [
         (&[(12, 0, 0), (5, 0, 0xa5)], 0, Header, 4, 0),
         (&[(12, 0, 0), (11, 0, 0xa5)], 3, Tail, 11, 0),
     ];
-    are_found(&rt, rt.alloc(), Sound::Second, Some(0), &table)
+    are_found(&rt, rt.alloc(), SECOND, Some(0), &table)
 }

@@ -1,8 +1,9 @@
 //! Damage of slots, in layout 3. Slot 0 of the live bank, which is the second one, has its body in sector 47 and one
 //! place, slot 1 its body in sector 49 and two places, in bytes 32 to 63 and 64 to 95.
-use crate::images::{Row, Sound, THIRD, are_found};
+use crate::images::{Row, THIRD, are_found};
 use journal_recovery::Cause::{Entry, Header, Sequence, Tail, Verdict};
 use std::test::Fail;
+use test_scenes::Image;
 
 // The magic has bytes 0 to 3; the station, at most 63, 4 and 5; the count, 1 to 15, 6 and 7; zeros stand behind the
 // used places. A count of one leaves the second place unused, which begins with its kind, 3. The first record has the
@@ -31,7 +32,7 @@ fn damaged_slots_are_found(rt: HostRuntime) -> Result<(), Fail> {
 #[test]
 fn the_last_number_is_found(rt: HostRuntime) -> Result<(), Fail> {
     for (base, slot, sector) in [(u64::MAX - 1, 1, 49), (u64::MAX, 0, 47)] {
-        let sound = Sound::Third { base };
+        let sound = Image { base, ..THIRD };
         let table: [Row<'_>; 1] = [(&[], slot, Sequence, sector, 8)];
         are_found(&rt, rt.alloc(), sound, Some(1), &table)?;
     }

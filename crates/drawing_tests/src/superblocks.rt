@@ -1,5 +1,5 @@
 //! Damage of the first sector.
-use crate::images::{Change, Sound, THIRD, changed, finds};
+use crate::images::{Change, FIRST, SECOND, THIRD, changed, finds};
 use device_drawing::{Place, locate};
 use journal_recovery::OpenRefusal;
 use journal_recovery::OpenRefusal::{Size, Unformatted, Version};
@@ -29,7 +29,7 @@ fn damaged_superblocks_are_found(rt: HostRuntime) -> Result<(), Fail> {
         (&[(0, 15, 5)], Size, 8),
     ];
     for (changes, refusal, byte) in table {
-        for sound in [Sound::First, Sound::Second, THIRD] {
+        for sound in [FIRST, SECOND, THIRD] {
             finds(&rt, rt.alloc(), sound, changes, refusal, at(byte))?;
         }
     }
@@ -39,7 +39,7 @@ fn damaged_superblocks_are_found(rt: HostRuntime) -> Result<(), Fail> {
 // What is asked of the present layout alone is told of an older one's version.
 #[test]
 fn an_older_version_is_found_and_nothing_without_a_sector(rt: HostRuntime) -> Result<(), Fail> {
-    for (sound, version) in [(Sound::First, 1), (Sound::Second, 2)] {
+    for (sound, version) in [(FIRST, 1), (SECOND, 2)] {
         let mut device = changed(&rt, rt.alloc(), sound, &[])?;
         assert!(rt; locate(&mut device, Version(version))? == Some(at(4)));
     }

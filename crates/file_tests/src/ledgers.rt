@@ -11,6 +11,7 @@ use std::io::ErrorKind;
 use std::num::NonZeroU64;
 use std::process::Abort;
 use std::test::Fail;
+use test_scenes::{put_sectors, superblock};
 
 /// How an opening begins, and where it ends if nothing is written.
 const LOOKED_AT: [Asked; 5] = [
@@ -20,14 +21,6 @@ const LOOKED_AT: [Asked; 5] = [
     Asked::Look,
     Asked::Read(0, 512),
 ];
-
-// A superblock by the table of the format.
-fn superblock(version: u8, slots: u8) -> [u8; 16] {
-    let mut bytes = *b"TLDG\0\0\0\0\0\0\0\0\0\0\0\0";
-    bytes[5] = version;
-    bytes[15] = slots;
-    bytes
-}
 
 // A disk whose file begins so, with so many sectors.
 fn disk_of(alloc: Global, begin: &[u8], sectors: usize) -> Result<Disk<'static>, Fail> {
@@ -60,10 +53,12 @@ fn four_slots(rt: &impl Abort, overwrite: bool) -> Formatting {
     }
 }
 
-// How the file begins, how many sectors it has, and why it is no whole ledger.
-const PARTS: [([u8; 16], usize, PartFault); 4] = [
+// The version and the number of slots with which the file begins, how many sectors it has, and why it is no whole
+// ledger.
+const PARTS: [(u16, u64, usize, PartFault); 4] = [
     (
-        *b"TLDG\0\x03\0\0\0\0\0\0\0\0\0\x04",
+        3,
+        4,
         54,
         PartFault::Short {
             slots: 4,
@@ -72,7 +67,8 @@ const PARTS: [([u8; 16], usize, PartFault); 4] = [
         },
     ),
     (
-        *b"TLDG\0\x03\0\0\0\0\0\0\0\0\0\x40",
+        3,
+        64,
         60,
         PartFault::Short {
             slots: 64,
@@ -80,17 +76,14 @@ const PARTS: [([u8; 16], usize, PartFault); 4] = [
             needed: 295,
         },
     ),
-    (
-        *b"TLDG\0\x01\0\0\0\0\0\0\0\0\0\x04",
-        9,
-        PartFault::OtherVersion(1),
-    ),
-    (*b"TLDG\0\x03\0\0\0\0\0\0\0\0\0\0", 55, PartFault::Unsound),
+    (1, 4, 9, PartFault::OtherVersion(1)),
+    (3, 0, 55, PartFault::Unsound),
 ];
 
 #[test]
 fn a_part_of_a_ledger_is_looked_at_and_left(rt: HostRuntime) -> Result<(), Fail> {
-    for (begin, sectors, fault) in PARTS {
+    for (version, slots, sectors, fault) in PARTS {
+        let begin = superblock(version, slots);
         let disk = disk_of(rt.alloc(), &begin, sectors)?;
         let opened = open_ledger(&disk.files(), rt.alloc(), "ledger", 400).err();
         assert!(rt; opened == Some(LedgerRefusal::Part(fault)), "{sectors}");
@@ -107,7 +100,8 @@ fn a_part_of_a_ledger_is_looked_at_and_left(rt: HostRuntime) -> Result<(), Fail>
 // A script gets it as it is, and finds what is wrong with it.
 #[test]
 fn a_part_of_a_ledger_is_not_grown_for_a_script(rt: HostRuntime) -> Result<(), Fail> {
-    for (begin, sectors, _) in PARTS {
+    for (version, slots, sectors, _) in PARTS {
+        let begin = superblock(version, slots);
         let disk = disk_of(rt.alloc(), &begin, sectors)?;
         let device = open_for_script(&disk.files(), rt.alloc(), "ledger", 400, Making::IfMissing)?;
         assert!(rt; device.sectors() == sectors as u64);
@@ -126,11 +120,9 @@ fn a_script_makes_no_file_that_it_is_not_told_to_make(rt: HostRuntime) -> Result
 }
 
 // An older device of four slots without a record, or of none.
-fn older(alloc: Global, version: u8) -> Result<MemoryDevice, Fail> {
+fn older(alloc: Global, version: u16) -> Result<MemoryDevice, Fail> {
     let mut device = MemoryDevice::new(alloc, 9)?;
-    let mut first = [0; SECTOR];
-    first[..16].copy_from_slice(&superblock(version, 4));
-    device.write(0, &first)?;
+    put_sectors(&mut device, &[(0, superblock(version, 4))])?;
     device.sync()?;
     Ok(device)
 }

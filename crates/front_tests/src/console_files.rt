@@ -7,6 +7,7 @@ use std::fs::{File, Files};
 use std::sync::Wait;
 use std::test::Fail;
 use std::thread::Threads;
+use test_scenes::superblock;
 
 // The status of the program on a file, and what it writes to its output and its errors.
 fn run_on<S: Files<File = File> + Threads + Wait + Sync>(
@@ -62,7 +63,7 @@ fn a_file_of_broken_sectors_is_refused_before_the_script(rt: HostRuntime) -> Res
 fn a_file_of_layout_1_is_refused_and_stays_as_it_is(rt: HostRuntime) -> Result<(), Fail> {
     let path = "older.ledger";
     let mut older = [0; 9 * 512];
-    older[..16].copy_from_slice(b"TLDG\0\x01\0\0\0\0\0\0\0\0\0\x04");
+    older[..512].copy_from_slice(&superblock(1, 4));
     fs::write(&rt, path, &older)?;
     let (status, output, errors) = run_on(&rt, rt.alloc(), path, "open 2 00 10\nbits\n");
     assert!(rt; (status, errors.len()) == (0, 0));

@@ -1,10 +1,7 @@
 //! Images in which several things were changed at random, beside the plain program of the format.
 use crate::course::opened;
-use crate::images::{found, holds, image_of, put, settled};
-use crate::plain::{
-    BASE_AT, BODY_MAGIC, COUNT_AT, EPOCH_AT, FIRST_PLACE, HEAD, HEAD_MAGIC, OPEN, PLACE, Plain,
-    SEQUENCE_AT, SLOTS, STATION_AT, number_at, told,
-};
+use crate::images::{found, holds, settled, told};
+use crate::plain::{Plain, sector};
 use gate_journal::format;
 use journal_recovery::{Cause, OpenRefusal};
 use rand_core::Rng;
@@ -13,7 +10,10 @@ use sector_device::{MemoryDevice, SECTOR, Sector};
 use std::alloc::Global;
 use std::process::Abort;
 use std::test::Fail;
-use test_scenes::{FIRST, deposit, second, sectors_needed, transfer};
+use test_scenes::{
+    BankAt, FIRST, Head, OPEN, Place, body, deposit, head, image_of, put_sectors, second,
+    sectors_needed, transfer,
+};
 
 const IMAGES: u32 = 100_000;
 
@@ -21,7 +21,7 @@ const IMAGES: u32 = 100_000;
 const FIELDS: [u8; 6] = [0, 1, 2, 3, 4, 0xff];
 
 // How many answers there were of each kind.
-#[derive(Clone, Copy, Debug)]
+#[derive(Clone, Copy, Debug, Default)]
 struct Kinds {
     ledgers: u32,
     unformatted: u32,
@@ -36,21 +36,6 @@ struct Kinds {
 }
 
 impl Kinds {
-    fn none() -> Kinds {
-        Kinds {
-            ledgers: 0,
-            unformatted: 0,
-            versions: 0,
-            sizes: 0,
-            banks: 0,
-            headers: 0,
-            sequences: 0,
-            tails: 0,
-            entries: 0,
-            verdicts: 0,
-        }
-    }
-
     fn count(&mut self, answer: &Result<Plain, OpenRefusal>) {
         let kind = match answer {
             Ok(_) => &mut self.ledgers,
@@ -95,25 +80,14 @@ fn some_byte(random: &mut Pcg32) -> u8 {
     first
 }
 
-fn one_of<const N: usize>(random: &mut Pcg32, numbers: &[u64; N]) -> u64 {
+fn one_of<T: Copy + Default, const N: usize>(random: &mut Pcg32, list: &[T; N]) -> T {
     let place = below(random, N);
-    numbers.get(place).copied().unwrap_or(0)
+    list.get(place).copied().unwrap_or_default()
 }
 
-// Writes a number into these places of a sector, its highest byte first.
-fn put_number(bytes: &mut Sector, (from, to): (usize, usize), number: u64) {
-    let mut rest = number;
-    if let Some(places) = bytes.get_mut(from..to) {
-        for place in places.iter_mut().rev() {
-            *place = (rest % 256) as u8;
-            rest /= 256;
-        }
-    }
-}
+const KINDS: [u8; 6] = [1, 1, 2, 3, 4, 5];
 
-const KINDS: [u64; 6] = [1, 1, 2, 3, 4, 5];
-
-const ACCOUNTS: [u64; 6] = [0, 1, 1, 2, 1024, 1025];
+const ACCOUNTS: [u32; 6] = [0, 1, 1, 2, 1024, 1025];
 
 const AMOUNTS: [u64; 7] = [
     0,
@@ -127,7 +101,7 @@ const AMOUNTS: [u64; 7] = [
 
 // The accounts of an entry of this kind, or nearly: of a deposit none to take from, of a withdrawal and a seal none to
 // give to.
-fn some_sides(random: &mut Pcg32, kind: u64) -> (u64, u64) {
+fn some_sides(random: &mut Pcg32, kind: u8) -> (u32, u32) {
     let from = one_of(random, &ACCOUNTS);
     let to = one_of(random, &ACCOUNTS);
     match kind {
@@ -138,7 +112,7 @@ fn some_sides(random: &mut Pcg32, kind: u64) -> (u64, u64) {
 }
 
 // The amount of an entry of this kind, or nearly: a seal has none.
-fn some_amount(random: &mut Pcg32, kind: u64) -> u64 {
+fn some_amount(random: &mut Pcg32, kind: u8) -> u64 {
     if kind == 4 {
         one_of(random, &[0, 0, 1])
     } else {
@@ -146,48 +120,35 @@ fn some_amount(random: &mut Pcg32, kind: u64) -> u64 {
     }
 }
 
-// Puts a number into these places of the entry that begins here.
-fn put_part(bytes: &mut Sector, at: usize, (from, to): (usize, usize), number: u64) {
-    let places = (at.saturating_add(from), at.saturating_add(to));
-    put_number(bytes, places, number);
-}
-
 // An entry, or something like one: kinds, accounts and amounts from both sides of each limit.
-fn put_entry(random: &mut Pcg32, bytes: &mut Sector, at: usize) {
+fn some_place(random: &mut Pcg32) -> Place {
     let kind = one_of(random, &KINDS);
     let (from, to) = some_sides(random, kind);
-    put_part(bytes, at, (0, 1), kind);
-    put_part(bytes, at, (4, 8), from);
-    put_part(bytes, at, (8, 12), to);
     let amount = some_amount(random, kind);
-    put_part(bytes, at, (16, 24), amount);
+    Place {
+        kind,
+        from,
+        to,
+        amount,
+        reference: 0,
+    }
 }
 
 // A body that is a record of this sequence, or nearly.
-fn body(random: &mut Pcg32, sequence: u64) -> Sector {
-    let mut bytes = [0; SECTOR];
+fn some_body(random: &mut Pcg32, sequence: u64) -> Sector {
     let count = below(random, 5);
-    put_number(&mut bytes, (0, 4), u64::from(BODY_MAGIC));
-    put_number(&mut bytes, STATION_AT, one_of(random, &[0, 0, 1, 63, 64]));
-    put_number(&mut bytes, COUNT_AT, count as u64);
-    put_number(&mut bytes, SEQUENCE_AT, sequence);
-    for place in 0..count {
-        let at = place.saturating_mul(PLACE).saturating_add(FIRST_PLACE);
-        put_entry(random, &mut bytes, at);
+    let station = one_of(random, &[0, 0, 1, 63, 64]);
+    let mut places = [Place::default(); 4];
+    for place in places.iter_mut().take(count) {
+        *place = some_place(random);
     }
-    bytes
+    body(station, sequence, places.get(..count).unwrap_or(&places))
 }
 
-fn head(random: &mut Pcg32) -> Sector {
-    let mut bytes = [0; SECTOR];
-    put_number(&mut bytes, (0, 4), u64::from(HEAD_MAGIC));
-    put_number(&mut bytes, EPOCH_AT, one_of(random, &[0, 1, 2]));
-    put_number(
-        &mut bytes,
-        BASE_AT,
-        one_of(random, &[0, 0, 1, u64::MAX - 1, u64::MAX]),
-    );
-    bytes
+fn some_head(random: &mut Pcg32) -> Sector {
+    let epoch = one_of(random, &[0, 1, 2]);
+    let base = one_of(random, &[0, 0, 1, u64::MAX - 1, u64::MAX]);
+    head(epoch, base)
 }
 
 fn set(image: &mut [Sector], at: usize, bytes: &Sector) {
@@ -202,35 +163,30 @@ fn open(image: &mut [Sector], gate: usize) {
     }
 }
 
-fn sector_at(image: &[Sector], at: usize) -> Sector {
-    image.get(at).copied().unwrap_or([0; SECTOR])
-}
-
-// The gate of the first bank, or of the second one where each has 1 slot, or 4.
-fn some_gate(random: &mut Pcg32) -> usize {
-    let gates = [FIRST.gate, second(1).gate, second(4).gate];
-    one_of(random, &gates) as usize
+// The first bank, or the second one where each has 1 slot, or 4.
+fn some_bank(random: &mut Pcg32) -> BankAt {
+    let banks = [FIRST, second(1), second(4)];
+    banks.get(below(random, 3)).copied().unwrap_or(FIRST)
 }
 
 // A sound head of a bank, behind an open gate.
 fn renew_head(random: &mut Pcg32, image: &mut [Sector]) {
-    let gate = some_gate(random);
-    open(image, gate);
-    set(image, gate.saturating_add(HEAD as usize), &head(random));
+    let bank = some_bank(random);
+    open(image, bank.gate as usize);
+    set(image, bank.head() as usize, &some_head(random));
 }
 
 // A body in one of a bank's first slots, with the sequence that is due there, behind an open gate.
 fn renew_body(random: &mut Pcg32, image: &mut [Sector]) {
-    let gate = some_gate(random);
-    let slot = below(random, 3);
-    let base = number_at(image, (gate as u64).saturating_add(HEAD), BASE_AT);
-    let place = slot
-        .saturating_mul(2)
-        .saturating_add(gate)
-        .saturating_add(SLOTS as usize);
-    let bytes = body(random, base.wrapping_add(slot as u64));
-    set(image, place, &bytes);
-    open(image, place.saturating_add(1));
+    let bank = some_bank(random);
+    let slot = below(random, 3) as u64;
+    let base = match Head::read(&sector(image, bank.head())) {
+        Some(head) => head.base,
+        None => 0,
+    };
+    let bytes = some_body(random, base.wrapping_add(slot));
+    set(image, bank.body(slot) as usize, &bytes);
+    open(image, bank.slot_gate(slot) as usize);
 }
 
 // What may happen to an image.
@@ -268,16 +224,16 @@ fn put_byte(image: &mut [Sector], at: usize, place: usize, value: u8) {
 // One of the bytes that a head or a place may have, among the first of a sector.
 fn put_field(random: &mut Pcg32, image: &mut [Sector], at: usize) {
     let value = FIELDS.get(below(random, FIELDS.len())).copied();
-    put_byte(image, at, below(random, FIRST_PLACE), value.unwrap_or(0));
+    put_byte(image, at, below(random, 32), value.unwrap_or(0));
 }
 
 fn copy(image: &mut [Sector], from: usize, to: usize) {
-    let bytes = sector_at(image, from);
+    let bytes = sector(image, from as u64);
     set(image, to, &bytes);
 }
 
 fn exchange(image: &mut [Sector], at: usize, other: usize) {
-    let here = sector_at(image, at);
+    let here = sector(image, at as u64);
     copy(image, other, at);
     set(image, other, &here);
 }
@@ -321,12 +277,6 @@ fn after_three_turns(rt: &impl Abort, alloc: Global, slots: u64) -> Result<Memor
     Ok(clerk.into_device())
 }
 
-// The image of such a device.
-fn image_with(rt: &impl Abort, alloc: Global, slots: u64) -> Result<Vec<Sector>, Fail> {
-    let mut device = after_three_turns(rt, alloc, slots)?;
-    image_of(rt, alloc, &mut device)
-}
-
 // Changes an image, and compares what recovery finds with what the plain program tells.
 fn compare(
     rt: &impl Abort,
@@ -338,22 +288,22 @@ fn compare(
     let mut image = sound.to_vec(alloc)?;
     make_several(random, image.as_mut_slice());
     for (at, bytes) in image.iter().enumerate() {
-        put(rt, &mut device, at, bytes)?;
+        put_sectors(&mut device, &[(at as u64, *bytes)])?;
     }
-    let (mut device, answer) = found(alloc, device);
+    let (device, answer) = found(alloc, device);
     assert!(rt; answer == told(image.as_slice()));
-    holds(rt, &mut device, image.as_slice())?;
+    holds(rt, &device, image.as_slice());
     Ok((settled(alloc, device), answer))
 }
 
 #[test]
 fn images_with_several_changes_are_read_as_the_format_says(rt: HostRuntime) -> Result<(), Fail> {
     let alloc = rt.alloc();
-    let behind_checkpoints = image_with(&rt, alloc, 1)?;
-    let in_one_bank = image_with(&rt, alloc, 4)?;
+    let behind_checkpoints = image_of(alloc, &after_three_turns(&rt, alloc, 1)?)?;
     let mut device = after_three_turns(&rt, alloc, 4)?;
+    let in_one_bank = image_of(alloc, &device)?;
     let mut random = Pcg32::new(1974, 17);
-    let mut kinds = Kinds::none();
+    let mut kinds = Kinds::default();
     for number in 0..IMAGES {
         let sound = if number % 2 == 0 {
             &behind_checkpoints

@@ -1,12 +1,13 @@
 //! Two images, what they are after a change, and images that are cut short, beside the plain program of the format.
 use crate::course::opened;
-use crate::plain::{ACCOUNTS, Plain, told};
+use crate::plain;
+use crate::plain::{ACCOUNTS, Plain, Unsound};
 use journal_recovery::{Cause, OpenRefusal, recover};
 use sector_device::{Device, MemoryDevice, Picks, SECTOR, Sector};
 use std::alloc::{AllocError, Global};
 use std::process::Abort;
 use std::test::Fail;
-use test_scenes::{FIRST, deposit, formatted, second};
+use test_scenes::{FIRST, deposit, device_of, formatted, image_of, marks, put_sectors, second};
 
 // With 4 slots a bank, after one deposit of 500.
 pub fn after_one_deposit(rt: &impl Abort, alloc: Global) -> Result<MemoryDevice, Fail> {
@@ -18,46 +19,11 @@ pub fn after_one_deposit(rt: &impl Abort, alloc: Global) -> Result<MemoryDevice,
 // With 1 slot a bank and a mark on account 2, after two deposits of 5, of which the second made a checkpoint.
 pub fn behind_a_checkpoint(rt: &impl Abort, alloc: Global) -> Result<MemoryDevice, Fail> {
     let mut device = formatted(alloc, 1)?;
-    let mut marks = [0; SECTOR];
-    marks[0] = 0x02;
-    put(rt, &mut device, FIRST.marks() as usize, &marks)?;
+    put_sectors(&mut device, &[(FIRST.marks(), marks(&[2]))])?;
     let mut clerk = opened(rt, alloc, device);
     clerk.turn(0, &[deposit(1, 5)])?;
     clerk.turn(1, &[deposit(1, 5)])?;
     Ok(clerk.into_device())
-}
-
-pub fn sector_of(rt: &impl Abort, device: &mut MemoryDevice, at: usize) -> Result<Sector, Fail> {
-    let at = at as u64;
-    assert!(rt; at < device.sectors());
-    let mut bytes = [0; SECTOR];
-    device.read(at, &mut bytes)?;
-    Ok(bytes)
-}
-
-pub fn put(
-    rt: &impl Abort,
-    device: &mut MemoryDevice,
-    at: usize,
-    bytes: &Sector,
-) -> Result<(), Fail> {
-    let at = at as u64;
-    assert!(rt; at < device.sectors());
-    device.write(at, bytes)?;
-    Ok(())
-}
-
-// All sectors of a device.
-pub fn image_of(
-    rt: &impl Abort,
-    alloc: Global,
-    device: &mut MemoryDevice,
-) -> Result<Vec<Sector>, Fail> {
-    let mut image = Vec::new(alloc);
-    for at in 0..device.sectors() as usize {
-        image.push(sector_of(rt, device, at)?)?;
-    }
-    Ok(image)
 }
 
 // The device with an empty record of its calls, which grows by each of them.
@@ -82,39 +48,42 @@ pub fn found(alloc: Global, device: MemoryDevice) -> (MemoryDevice, Result<Plain
 }
 
 // The device holds these bytes in this sector, and it isn't pending.
-pub fn has_sector(
-    rt: &impl Abort,
-    device: &mut MemoryDevice,
-    at: usize,
-    bytes: &Sector,
-) -> Result<(), Fail> {
-    assert!(rt; sector_of(rt, device, at)? == *bytes, "sector {at}");
-    assert!(rt; (at as u64) < device.sectors());
-    assert!(rt; !device.pending(at as u64), "sector {at}");
-    Ok(())
+pub fn has_sector(rt: &impl Abort, device: &MemoryDevice, at: usize, bytes: &Sector) {
+    let at = at as u64;
+    assert!(rt; at < device.sectors());
+    assert!(rt;
+        *device.sector(at) == *bytes && !device.pending(at),
+        "sector {at}"
+    );
 }
 
 // The device holds this image, and nothing is pending.
-pub fn holds(rt: &impl Abort, device: &mut MemoryDevice, image: &[Sector]) -> Result<(), Fail> {
+pub fn holds(rt: &impl Abort, device: &MemoryDevice, image: &[Sector]) {
     assert!(rt; device.sectors() == image.len() as u64);
     for (at, bytes) in image.iter().enumerate() {
-        has_sector(rt, device, at, bytes)?;
+        has_sector(rt, device, at, bytes);
     }
-    Ok(())
 }
 
-// The first sectors of an image, on a device of its own.
-fn cut(
-    rt: &impl Abort,
-    alloc: Global,
-    image: &[Sector],
-    sectors: usize,
-) -> Result<MemoryDevice, Fail> {
-    let mut device = MemoryDevice::new(alloc, sectors as u64)?;
-    for (at, bytes) in image.iter().enumerate().take(sectors) {
-        put(rt, &mut device, at, bytes)?;
-    }
-    Ok(device)
+// The refusal that a fault of an image is told as.
+fn refusal_of(fault: Unsound) -> OpenRefusal {
+    let (slot, cause) = match fault {
+        Unsound::Unformatted => return OpenRefusal::Unformatted,
+        Unsound::Version(version) => return OpenRefusal::Version(version),
+        Unsound::Size => return OpenRefusal::Size,
+        Unsound::Bank(bank) => (bank, Cause::Bank),
+        Unsound::Header(slot) => (slot, Cause::Header),
+        Unsound::Sequence(slot) => (slot, Cause::Sequence),
+        Unsound::Tail(slot) => (slot, Cause::Tail),
+        Unsound::Entry(slot, place) => (slot, Cause::Entry(place)),
+        Unsound::Verdict(slot, place) => (slot, Cause::Verdict(place)),
+    };
+    OpenRefusal::Damaged { slot, cause }
+}
+
+/// What the plain program tells of an image.
+pub fn told(image: &[Sector]) -> Result<Plain, OpenRefusal> {
+    plain::told(image).map_err(refusal_of)
 }
 
 // What account 1 alone holding this much and no account marked is, and the sequence of the next record.
@@ -137,17 +106,16 @@ fn is_cut_to(
     sectors: usize,
     expected: Result<Plain, OpenRefusal>,
 ) -> Result<(), Fail> {
-    let (_, answer) = found(alloc, cut(rt, alloc, image, sectors)?);
-    assert!(rt; answer == expected, "{sectors}");
     let rest = image.get(..sectors).ok_or("sectors")?;
-    assert!(rt; told(rest) == expected, "{sectors}");
+    let (_, answer) = found(alloc, device_of(alloc, rest)?);
+    assert!(rt; answer == expected && told(rest) == expected, "{sectors}");
     Ok(())
 }
 
 #[test]
 fn images_that_are_cut_short_are_refused(rt: HostRuntime) -> Result<(), Fail> {
-    let mut device = after_one_deposit(&rt, rt.alloc())?;
-    let image = image_of(&rt, rt.alloc(), &mut device)?;
+    let device = after_one_deposit(&rt, rt.alloc())?;
+    let image = image_of(rt.alloc(), &device)?;
     for sectors in 0..=image.len() {
         let expected = if sectors == 0 {
             Err(OpenRefusal::Unformatted)
@@ -199,10 +167,10 @@ fn is_told(
 ) -> Result<(), Fail> {
     let changed = with_damage(rt, alloc, image, damage)?;
     assert!(rt; told(changed.as_slice()) == expected, "{damage:?}");
-    let device = cut(rt, alloc, changed.as_slice(), changed.len())?;
-    let (mut device, answer) = found(alloc, device);
+    let (device, answer) = found(alloc, device_of(alloc, changed.as_slice())?);
     assert!(rt; answer == expected, "{damage:?}");
-    holds(rt, &mut device, changed.as_slice())
+    holds(rt, &device, changed.as_slice());
+    Ok(())
 }
 
 // What is changed, and which damage that is.
@@ -230,8 +198,8 @@ fn harmless() -> [(Damage, Plain); 2] {
 
 #[test]
 fn worked_damage_is_told(rt: HostRuntime) -> Result<(), Fail> {
-    let mut device = after_one_deposit(&rt, rt.alloc())?;
-    let image = image_of(&rt, rt.alloc(), &mut device)?;
+    let device = after_one_deposit(&rt, rt.alloc())?;
+    let image = image_of(rt.alloc(), &device)?;
     for (damage, expected) in harmless() {
         is_told(&rt, rt.alloc(), image.as_slice(), damage, Ok(expected))?;
     }

@@ -4,12 +4,11 @@ use journal_recovery::recover;
 use sector_device::{Device, MemoryDevice, Picks, SECTOR, Sector};
 use std::alloc::{AllocError, Global};
 use std::process::Abort;
+use test_scenes::{ZERO, torn_open};
 
 // What may be left in a pending sector, where what was written isn't.
 fn leavings() -> [Sector; 3] {
-    let mut open = [0x77; SECTOR];
-    open[0] = 0xa5;
-    [[0; SECTOR], open, [0x77; SECTOR]]
+    [ZERO, torn_open(), [0x77; SECTOR]]
 }
 
 fn pending_in(

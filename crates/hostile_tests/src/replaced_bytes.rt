@@ -1,14 +1,13 @@
 //! Two images of which each byte is replaced, beside the plain program of the format. The tests are cut by sectors,
 //! since each value of each byte of a sector that isn't zero is 131,072 images.
 use crate::images::{
-    after_one_deposit, behind_a_checkpoint, found, has_sector, holds, image_of, put, settled,
+    after_one_deposit, behind_a_checkpoint, found, has_sector, holds, settled, told,
 };
-use crate::plain::told;
 use sector_device::{Device, MemoryDevice, SECTOR, Sector};
 use std::alloc::Global;
 use std::process::Abort;
 use std::test::Fail;
-use test_scenes::{FIRST, second};
+use test_scenes::{FIRST, image_of, put_sectors, second};
 
 // How many images are refused with a byte as 00, 01, a5 and ff, by the words of the format. A byte that has to be zero
 // is refused with three of them, and so is one that has to be 01 or a5; one that has to be another with all four.
@@ -132,16 +131,16 @@ fn replace_by(
 ) -> Result<(MemoryDevice, bool), Fail> {
     assert!(rt; at < image.len() && place < SECTOR);
     image[at][place] = value;
-    put(rt, &mut device, at, &image[at])?;
-    let (mut after, answer) = found(alloc, device);
+    put_sectors(&mut device, &[(at as u64, image[at])])?;
+    let (after, answer) = found(alloc, device);
     assert!(rt;
         answer == told(image),
         "sector {at} byte {place} as {value}"
     );
     if FOUR.contains(&value) {
-        holds(rt, &mut after, image)?;
+        holds(rt, &after, image);
     } else {
-        has_sector(rt, &mut after, at, &image[at])?;
+        has_sector(rt, &after, at, &image[at]);
     }
     Ok((after, answer.is_err()))
 }
@@ -187,7 +186,7 @@ fn replace_sector(
         assert!(rt; at < image.len());
         image[at] = sound;
     }
-    put(rt, &mut device, at, &sound)?;
+    put_sectors(&mut device, &[(at as u64, sound)])?;
     Ok((settled(alloc, device), refused))
 }
 
@@ -199,7 +198,7 @@ fn replace_each(
     expected: &[Row],
     (first, behind): (u64, u64),
 ) -> Result<(), Fail> {
-    let mut image = image_of(rt, alloc, &mut device)?;
+    let mut image = image_of(alloc, &device)?;
     assert!(rt; first < behind && behind <= device.sectors());
     for at in first as usize..behind as usize {
         let (after, refused) = replace_sector(rt, alloc, device, image.as_mut_slice(), at)?;

@@ -1,8 +1,7 @@
 //! What a power loss takes.
-use crate::sectors::{holds, put_sectors};
-use sector_device::{Device, DeviceFault, MemoryDevice, Picks, SECTOR, Sector};
-use std::process::Abort;
+use sector_device::{Device, MemoryDevice, Picks, SECTOR, Sector};
 use std::test::Fail;
+use test_scenes::{ZERO, has_sectors, put_sectors};
 
 const OLD: Sector = [7; SECTOR];
 
@@ -10,13 +9,11 @@ const NEW: Sector = [8; SECTOR];
 
 const TORN: Sector = [9; SECTOR];
 
-const ZERO: Sector = [0; SECTOR];
-
 // Sector 0 is written and synced, sectors 1 and 2 are written after that, and sector 3 never.
-fn write_and_sync(rt: &impl Abort, device: &mut MemoryDevice) -> Result<(), DeviceFault> {
-    put_sectors(rt, device, &[(0, OLD)])?;
+fn write_and_sync(device: &mut MemoryDevice) -> Result<(), Fail> {
+    put_sectors(device, &[(0, OLD)])?;
     device.sync()?;
-    put_sectors(rt, device, &[(1, NEW), (2, OLD), (2, NEW)])
+    put_sectors(device, &[(1, NEW), (2, OLD), (2, NEW)])
 }
 
 // The picks, and then what sectors 0 to 3 read after the power loss.
@@ -29,10 +26,10 @@ fn a_power_loss_takes_the_last_pick_for_each_pending_sector(rt: HostRuntime) -> 
     ];
     for (list, [first, second, third, last]) in table {
         let mut device = MemoryDevice::new(rt.alloc(), 4)?;
-        write_and_sync(&rt, &mut device)?;
+        write_and_sync(&mut device)?;
         let list = list.to_vec(rt.alloc())?;
         let after = [(0, first), (1, second), (2, third), (3, last)];
-        holds(&rt, &device.crash(&Picks { list }), &after);
+        assert!(rt; has_sectors(&device.crash(&Picks { list }), &after));
     }
     Ok(())
 }

@@ -13,5 +13,3 @@ mod passed_on;
 mod read_ahead;
 #[cfg(test)]
 mod recovery;
-#[cfg(test)]
-mod sectors;

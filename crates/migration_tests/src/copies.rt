@@ -1,12 +1,12 @@
 //! Ledgers of the present layout that are copied.
-use crate::old_devices::{all_of, has_pending};
+use crate::old_devices::has_pending;
 use gate_journal::{ACCOUNTS, Journal, Record, Snapshot, format_with};
 use journal_recovery::{Recovered, copy, recover};
 use sector_device::{Device, MemoryDevice};
 use std::alloc::Global;
 use std::process::Abort;
 use std::test::Fail;
-use test_scenes::{deposit, sectors_needed};
+use test_scenes::{deposit, image_of, sectors_needed};
 
 // A ledger whose slots, from record 7 on, hold each a deposit of 5 to account 1. Before them every account had 3, and
 // the last one was sealed.
@@ -31,10 +31,10 @@ fn full(rt: &impl Abort, alloc: Global, slots: u64) -> Result<MemoryDevice, Fail
 fn is_copied(rt: &impl Abort, alloc: Global, slots: u64, to: u64) -> Result<(), Fail> {
     assert!(rt; 1 <= to && to <= 1_000);
     let old = full(rt, alloc, slots)?;
-    let before = all_of(alloc, &old)?;
+    let before = image_of(alloc, &old)?;
     let mut new = MemoryDevice::new(alloc, sectors_needed(to))?;
     let (old, answer) = copy(alloc, old, &mut new, to);
-    let same = all_of(alloc, &old)? == before;
+    let same = image_of(alloc, &old)? == before;
     assert!(rt; answer == Ok(()) && same && !has_pending(rt, &old));
     let Ok(Recovered { journal, ledger }) = recover(alloc, new) else {
         panic!(rt; "a copy is recovered")

@@ -1,43 +1,25 @@
 //! What is listed of a ledger, also beside a device that fails or lies.
 use fault_injector::{OneFault, Op};
-use gate_journal::{ACCOUNTS, Journal, Record, Snapshot, format_with};
 use ledger_reading::{Entry, Listed, Listing, OpenRefusal, ReadRefusal, Sound, look};
 use sector_device::{Device, MemoryDevice, SECTOR};
 use std::alloc::Global;
 use std::process::Abort;
 use std::test::Fail;
-use test_scenes::{FIRST, Rewritten, deposit, seal, sectors_needed, transfer, withdrawal};
-use turn_ledger::BATCH_LIMIT;
-
-// The record of these entries.
-fn record_of(rt: &impl Abort, station: u16, entries: &[Entry]) -> Record {
-    assert!(rt; station < 64 && !entries.is_empty() && entries.len() <= BATCH_LIMIT);
-    let mut record = Record::zeroed(station, entries.len() as u16);
-    for (place, entry) in entries.iter().enumerate() {
-        assert!(rt; (place as u16) < record.count());
-        record.set_place(place as u16, &entry.write());
-    }
-    record
-}
+use test_scenes::{FIRST, Image, LAYOUT_3, Rewritten, deposit, seal, transfer, withdrawal};
 
 // A device of layout 3 with two slots in each bank, whose snapshot has so much in account 1, and these records.
 fn with_records(
-    rt: &impl Abort,
     alloc: Global,
     held: u64,
     records: &[(u16, &[Entry])],
 ) -> Result<MemoryDevice, Fail> {
-    let mut device = MemoryDevice::new(alloc, sectors_needed(2))?;
-    let (mut balances, sealed) = ([0; ACCOUNTS], [false; ACCOUNTS]);
-    balances[0] = held;
-    format_with(&mut device, 2, 0, &Snapshot { balances, sealed })?;
-    let Ok(mut journal) = Journal::open(device) else {
-        panic!(rt; "a new journal is opened")
+    let image = Image {
+        slots: 2,
+        held,
+        records,
+        ..LAYOUT_3
     };
-    for (station, entries) in records {
-        journal.append(&record_of(rt, *station, entries))?;
-    }
-    Ok(journal.into_device())
+    image.device(alloc)
 }
 
 fn listing_of<D: Device + Drop>(sound: Sound<D>) -> Result<Listing<D>, ReadRefusal> {
@@ -75,7 +57,7 @@ fn records_are_listed_with_the_balances_after_them(rt: HostRuntime) -> Result<()
     let alloc = rt.alloc();
     let first = [deposit(1, 500), transfer(1, 2, 200)];
     let second = [withdrawal(2, 50), seal(2)];
-    let device = with_records(&rt, alloc, 9, &[(5, &first), (0, &second)])?;
+    let device = with_records(alloc, 9, &[(5, &first), (0, &second)])?;
     let Ok(sound) = look(alloc, device) else {
         panic!(rt; "a sound ledger")
     };
@@ -106,7 +88,7 @@ const CALLS: u64 = 43;
 fn each_fault_is_told(rt: HostRuntime) -> Result<(), Fail> {
     let alloc = rt.alloc();
     for at in 0..CALLS + 1 {
-        let device = with_records(&rt, alloc, 0, &[(0, &[deposit(1, 5)])])?;
+        let device = with_records(alloc, 0, &[(0, &[deposit(1, 5)])])?;
         let told = all_of_it(alloc, OneFault::new(device, Op::Any, at));
         let expected = if at < CALLS {
             Err(ReadRefusal::Device)
@@ -123,7 +105,7 @@ fn each_fault_is_told(rt: HostRuntime) -> Result<(), Fail> {
 fn what_was_changed_after_the_look_is_told(rt: HostRuntime) -> Result<(), Fail> {
     let alloc = rt.alloc();
     for at in [FIRST.body(0), FIRST.balances()] {
-        let device = with_records(&rt, alloc, 5, &[(0, &[withdrawal(1, 5)])])?;
+        let device = with_records(alloc, 5, &[(0, &[withdrawal(1, 5)])])?;
         assert!(rt;
             all_of_it(alloc, Rewritten::new(device, at, [0; SECTOR])) == Err(ReadRefusal::Changed)
         );

@@ -1,12 +1,11 @@
 //! Opening an image that was changed: what it is refused as, which calls it makes until then, and each of them failed.
-use crate::old_devices::{Banks, Live, all_of};
 use fault_injector::{Call, Noting, OneFault, Op};
 use journal_recovery::{MigrateRefusal, OpenRefusal, migrate, recover};
-use sector_device::{Device, MemoryDevice, SECTOR, Sector};
+use sector_device::{MemoryDevice, SECTOR, Sector};
 use std::alloc::{AllocError, Global};
 use std::process::Abort;
 use std::test::Fail;
-use test_scenes::sectors_needed;
+use test_scenes::{Image, Layout, Live, device_of, image_of, sectors_needed};
 
 /// A byte that is changed: its sector, its place there, and what it becomes.
 pub type Change = (u64, usize, u8);
@@ -66,41 +65,41 @@ pub struct Scene {
 
 impl Scene {
     /// An image that is read from its first sector on, behind a sync.
-    pub fn whole(alloc: Global, opens: Opens, device: MemoryDevice) -> Result<Scene, Fail> {
+    pub fn whole(alloc: Global, image: Image) -> Result<Scene, Fail> {
+        let opens = match image.layout {
+            Layout::First | Layout::Second => Opens::Migrate,
+            Layout::Third => Opens::Recover,
+        };
         Ok(Scene {
             opens,
-            image: all_of(alloc, &device)?,
+            image: image_of(alloc, &image.device(alloc)?)?,
             before: vec![in alloc; Call::Sync]?,
             shift: 0,
         })
     }
 
-    /// An image with three records, whose rows name sectors of the live bank as if that were the first one. Before them
-    /// the superblock is read, both gates and both heads, and in layout 3 the snapshot.
-    pub fn of_bank(
-        rt: &impl Abort,
-        alloc: Global,
-        opens: Opens,
-        layout: Banks,
-        live: Live,
-    ) -> Result<Scene, Fail> {
-        let (gate, _) = live.gates(layout);
-        let mut scene = Scene::whole(alloc, opens, layout.with_records(rt, alloc, live)?)?;
-        scene.shift = gate.saturating_sub(1);
-        let second = layout.second();
+    /// An image with four slots in each bank, whose rows name sectors of the live bank as if that were the first one.
+    /// Before them the superblock is read, both gates and both heads, and in layout 3 the snapshot.
+    pub fn of_bank(alloc: Global, image: Image) -> Result<Scene, Fail> {
+        let mut scene = Scene::whole(alloc, image)?;
+        let second = image.layout.second(4).gate;
+        if image.live == Live::Second {
+            scene.shift = second.saturating_sub(1);
+        }
         for at in [0, 1, second, 2, second.saturating_add(1)] {
             scene.before.push(Call::Read(at))?;
         }
-        if layout.version == 3 {
-            scene.read_snapshot(gate)?;
+        if image.layout == Layout::Third {
+            scene.read_snapshot()?;
         }
         Ok(scene)
     }
 
-    // The snapshot of the bank with this gate is read too: sixteen sectors of balances, and the marks.
-    fn read_snapshot(&mut self, gate: u64) -> Result<(), AllocError> {
-        for place in 2..19 {
-            self.before.push(Call::Read(gate.saturating_add(place)))?;
+    // The snapshot of the live bank is read too: sixteen sectors of balances, and the marks.
+    fn read_snapshot(&mut self) -> Result<(), AllocError> {
+        for place in 3..20u64 {
+            let at = place.saturating_add(self.shift);
+            self.before.push(Call::Read(at))?;
         }
         Ok(())
     }
@@ -163,18 +162,8 @@ impl Scene {
 }
 
 /// A device with these sectors, whose call of this number fails.
-pub fn failing_at(
-    rt: &impl Abort,
-    alloc: Global,
-    image: &[Sector],
-    number: usize,
-) -> Result<Faulty, Fail> {
-    let mut device = MemoryDevice::new(alloc, image.len() as u64)?;
-    for (at, bytes) in image.iter().enumerate() {
-        assert!(rt; (at as u64) < device.sectors());
-        device.write(at as u64, bytes)?;
-    }
-    let noting = Noting::new(alloc, device, ROOM).map_err(AllocError::from)?;
+pub fn failing_at(alloc: Global, image: &[Sector], number: usize) -> Result<Faulty, Fail> {
+    let noting = Noting::new(alloc, device_of(alloc, image)?, ROOM).map_err(AllocError::from)?;
     Ok(OneFault::new(noting, Op::Any, number as u64))
 }
 
@@ -188,7 +177,7 @@ pub fn expect_calls(
     calls: &[Call],
 ) -> Result<(), Fail> {
     for number in 0..=calls.len() {
-        let device = failing_at(rt, alloc, image, number)?;
+        let device = failing_at(alloc, image, number)?;
         let (device, told) = opens.refusal_of(rt, alloc, device)?;
         let expected = if number < calls.len() {
             Some(OpenRefusal::Device)

@@ -1,33 +1,20 @@
 //! The order of refusals in each layout, line by line. Most rows break two lines, and the earlier one is told.
-use crate::old_devices::{Banks, LAYOUT_2, LAYOUT_3, Live, deposited, of_layout_1};
-use crate::openings::{Opens, Row, Scene, expect_calls};
+use crate::old_devices::{FIRST, SECOND, THIRD};
+use crate::openings::{Row, Scene, expect_calls};
 use fault_injector::Call;
 use journal_recovery::{Cause, OpenRefusal};
 use std::alloc::Global;
-use std::process::Abort;
 use std::test::Fail;
+use test_scenes::{Image, Live};
 
 fn damaged(slot: u64, cause: Cause) -> OpenRefusal {
     OpenRefusal::Damaged { slot, cause }
 }
 
-// A row of three records in four slots: slot k has its body in sector 1 + 2k, and its gate behind it.
-fn layout_1(rt: &impl Abort, alloc: Global) -> Result<Scene, Fail> {
-    Scene::whole(
-        alloc,
-        Opens::Migrate,
-        of_layout_1(rt, alloc, &[deposited(1, 5); 3])?,
-    )
-}
-
-// Two banks, the first one live, with three records in four slots.
-fn first_live(rt: &impl Abort, alloc: Global, layout: Banks) -> Result<Scene, Fail> {
-    let opens = if layout.version == 2 {
-        Opens::Migrate
-    } else {
-        Opens::Recover
-    };
-    Scene::whole(alloc, opens, layout.with_records(rt, alloc, Live::First)?)
+// The first bank live.
+fn first_live(alloc: Global, image: Image) -> Result<Scene, Fail> {
+    let live = Live::First;
+    Scene::whole(alloc, Image { live, ..image })
 }
 
 // What is wrong with the superblock: its mark, its version, a byte that isn't zero, no slots, one slot too many, and
@@ -47,9 +34,9 @@ fn a_superblock_is_refused_before_all_else(rt: HostRuntime) -> Result<(), Fail> 
         (&[(0, 8, 1), (1, 0, 0)], Size, &[0]),
     ];
     for scene in [
-        layout_1(&rt, alloc)?,
-        first_live(&rt, alloc, LAYOUT_2)?,
-        first_live(&rt, alloc, LAYOUT_3)?,
+        Scene::whole(alloc, FIRST)?,
+        first_live(alloc, SECOND)?,
+        first_live(alloc, THIRD)?,
     ] {
         scene.expect(&rt, alloc, &rows)?;
         let opens = scene.opens;
@@ -67,9 +54,9 @@ fn a_device_of_another_layout_is_told_by_its_version(rt: HostRuntime) -> Result<
         (&[(0, 5, 1), (0, 15, 0)], Version(1), &[0]),
         (&[(0, 5, 2), (0, 15, 0)], Version(2), &[0]),
     ];
-    first_live(&rt, alloc, LAYOUT_3)?.expect(&rt, alloc, &older)?;
+    first_live(alloc, THIRD)?.expect(&rt, alloc, &older)?;
     let present: [Row; 1] = [(&[(0, 5, 3), (0, 15, 0)], Version(3), &[0])];
-    layout_1(&rt, alloc)?.expect(&rt, alloc, &present)
+    Scene::whole(alloc, FIRST)?.expect(&rt, alloc, &present)
 }
 
 // No bank is open; the head of one that is open alone; both heads; that of the second one; and both have one epoch.
@@ -77,8 +64,8 @@ fn a_device_of_another_layout_is_told_by_its_version(rt: HostRuntime) -> Result<
 fn banks_are_refused_in_their_order(rt: HostRuntime) -> Result<(), Fail> {
     let alloc = rt.alloc();
     let (first, second) = (damaged(0, Cause::Bank), damaged(1, Cause::Bank));
-    for layout in [LAYOUT_2, LAYOUT_3] {
-        let gate = layout.second();
+    for image in [SECOND, THIRD] {
+        let gate = image.layout.second(4).gate;
         let head = gate.saturating_add(1);
         let rows: [Row; 6] = [
             (&[(1, 0, 0), (gate, 0, 0)], first, &[0, 1, gate]),
@@ -88,7 +75,7 @@ fn banks_are_refused_in_their_order(rt: HostRuntime) -> Result<(), Fail> {
             (&[(head, 24, 1), (2, 15, 0)], second, &[0, 1, gate, 2, head]),
             (&[(head, 15, 1)], first, &[0, 1, gate, 2, head]),
         ];
-        first_live(&rt, alloc, layout)?.expect(&rt, alloc, &rows)?;
+        first_live(alloc, image)?.expect(&rt, alloc, &rows)?;
     }
     Ok(())
 }
@@ -127,7 +114,7 @@ fn a_row_of_layout_1_is_refused_in_order(rt: HostRuntime) -> Result<(), Fail> {
             &[0, 2, 1, 4, 3, 6, 5, 8, 1],
         ),
     ];
-    let scene = layout_1(&rt, alloc)?;
+    let scene = Scene::whole(alloc, FIRST)?;
     scene.expect(&rt, alloc, &rows)?;
     scene.expect_sound(&rt, alloc, &[0, 2, 1, 4, 3, 6, 5, 8, 1, 3, 5])
 }
@@ -169,7 +156,7 @@ fn a_bank_of_layout_2_is_refused_in_order(rt: HostRuntime) -> Result<(), Fail> {
                 &[5, 4, 7, 6, 9, 8, 11, 3, 4],
             ),
         ];
-        let scene = Scene::of_bank(&rt, alloc, Opens::Migrate, LAYOUT_2, live)?;
+        let scene = Scene::of_bank(alloc, Image { live, ..SECOND })?;
         scene.expect(&rt, alloc, &rows)?;
         scene.expect_sound(&rt, alloc, &[5, 4, 7, 6, 9, 8, 11, 3, 4, 6, 8])?;
     }
@@ -213,7 +200,7 @@ fn a_bank_of_layout_3_is_refused_in_order(rt: HostRuntime) -> Result<(), Fail> {
             (&[(20, 42, 4), (22, 32, 9)], damaged(0, Verdict(0)), &all),
             (&[(19, 0, 1), (22, 32, 9)], damaged(0, Verdict(0)), &all),
         ];
-        let scene = Scene::of_bank(&rt, alloc, Opens::Recover, LAYOUT_3, live)?;
+        let scene = Scene::of_bank(alloc, Image { live, ..THIRD })?;
         scene.expect(&rt, alloc, &rows)?;
         scene.expect_sound(&rt, alloc, &all)?;
     }

@@ -1,13 +1,14 @@
 //! Why a device isn't copied.
-use crate::old_devices::{
-    Begins, ZERO, balances, body, deposited, device_of, of_layout_1, of_layout_2, place, superblock,
-};
+use crate::old_devices::{FIRST, SECOND};
 use journal_recovery::{Cause, MigrateRefusal, OpenRefusal, migrate};
 use sector_device::{MemoryDevice, Sector};
 use std::alloc::Global;
 use std::process::Abort;
 use std::test::Fail;
-use test_scenes::{Rewritten, sectors_needed};
+use test_scenes::{
+    Image, LAYOUT_1, LAYOUT_3, Rewritten, ZERO, body_of, deposit, seal, sectors_needed,
+};
+use turn_ledger::Entry;
 
 // A device isn't copied to one of so many sectors with four slots in each bank, for this reason.
 fn is_refused(
@@ -31,9 +32,9 @@ fn damaged(slot: u64, cause: Cause) -> MigrateRefusal {
 #[test]
 fn a_device_that_is_no_older_ledger_is_refused(rt: HostRuntime) -> Result<(), Fail> {
     let alloc = rt.alloc();
-    let old = of_layout_1(&rt, alloc, &[deposited(1, 1)])?;
+    let old = FIRST.device(alloc)?;
     is_refused(&rt, alloc, old, 54, MigrateRefusal::TooSmall)?;
-    let old = device_of(&rt, alloc, 55, &[(0, superblock(3, 4))])?;
+    let old = LAYOUT_3.device(alloc)?;
     is_refused(
         &rt,
         alloc,
@@ -42,10 +43,15 @@ fn a_device_that_is_no_older_ledger_is_refused(rt: HostRuntime) -> Result<(), Fa
         MigrateRefusal::Source(OpenRefusal::Version(3)),
     )?;
     for (entry, cause) in [
-        (place(4, 1, 0, 0), Cause::Entry(0)),
-        (deposited(65, 1), Cause::Verdict(0)),
+        (seal(1), Cause::Entry(0)),
+        (deposit(65, 1), Cause::Verdict(0)),
     ] {
-        let old = of_layout_1(&rt, alloc, &[entry])?;
+        let records: [(u16, &[Entry]); 1] = [(0, &[entry])];
+        let image = Image {
+            records: &records,
+            ..LAYOUT_1
+        };
+        let old = image.device(alloc)?;
         is_refused(&rt, alloc, old, 55, damaged(0, cause))?;
     }
     Ok(())
@@ -81,11 +87,6 @@ fn is_refused_changed(
 #[test]
 fn a_record_that_changes_between_two_readings_is_no_record(rt: HostRuntime) -> Result<(), Fail> {
     let alloc = rt.alloc();
-    let records = [deposited(1, 5); 3];
-    let begins = Begins {
-        base: 7,
-        balances: balances(5),
-    };
     let table = [
         (8, 22, None),
         (1, 15, Some(damaged(0, Cause::Header))),
@@ -93,11 +94,11 @@ fn a_record_that_changes_between_two_readings_is_no_record(rt: HostRuntime) -> R
         (5, 19, Some(damaged(2, Cause::Header))),
     ];
     for (first, second, expected) in table {
-        let old = of_layout_1(&rt, alloc, &records)?;
+        let old = FIRST.device(alloc)?;
         is_refused_changed(&rt, alloc, old, (first, ZERO), expected)?;
-        let other = body(first / 2, &deposited(1, 6));
+        let other = body_of(0, first / 2, &[deposit(1, 6)]);
         for bytes in [ZERO, other] {
-            let old = of_layout_2(&rt, alloc, begins, &records)?;
+            let old = SECOND.device(alloc)?;
             is_refused_changed(&rt, alloc, old, (second, bytes), expected)?;
         }
     }

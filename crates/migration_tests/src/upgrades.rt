@@ -1,14 +1,14 @@
 //! Devices that are copied, and the bytes that they are copied to.
-use crate::old_devices::{
-    Banks, Begins, LAYOUT_2, Live, ZERO, all_of, balances, deposited, has_pending, of_layout_1,
-    of_layout_2, open_gate, with_banks,
-};
+use crate::old_devices::{FIVE, SECOND, has_pending};
 use journal_recovery::{Recovered, may_hold_postings, migrate, recover};
-use sector_device::{Device, MemoryDevice, Sector};
+use sector_device::{Device, MemoryDevice};
 use std::alloc::Global;
 use std::process::Abort;
 use std::test::Fail;
-use test_scenes::{head, sectors_needed};
+use test_scenes::{
+    Image, LAYOUT_1, ZERO, balances, has_sectors, head, image_of, open_gate, sectors_needed,
+};
+use turn_ledger::Entry;
 
 // What a device recovers to.
 fn recovered(rt: &impl Abort, alloc: Global, device: MemoryDevice) -> Recovered<MemoryDevice> {
@@ -32,40 +32,35 @@ fn migrated(
     Ok((old, new))
 }
 
-// A deposit of 500 to account 1 with the reference 3, in the first slot of a device of layout 1, written by hand.
-fn first_record() -> Sector {
-    let mut bytes = ZERO;
-    bytes[..8].copy_from_slice(&[0x54, 0x4c, 0x42, 0x31, 0, 0, 0, 1]);
-    bytes[32] = 1;
-    bytes[43] = 1;
-    bytes[54..56].copy_from_slice(&[0x01, 0xf4]);
-    bytes[63] = 3;
-    bytes
-}
+// A deposit of 500 to account 1 with the reference 3.
+const DEPOSIT: Entry = Entry::Deposit {
+    to: 1,
+    amount: 500,
+    reference: 3,
+};
 
 #[test]
 fn a_deposit_of_layout_1_comes_over_byte_by_byte(rt: HostRuntime) -> Result<(), Fail> {
     let alloc = rt.alloc();
-    let mut old = of_layout_1(&rt, alloc, &[deposited(1, 500)])?;
+    let image = Image {
+        records: &[(0, &[DEPOSIT])],
+        ..LAYOUT_1
+    };
+    let old = image.device(alloc)?;
     assert!(rt; old.sectors() == 9);
-    old.write(1, &first_record())?;
-    old.sync()?;
-    let before = all_of(alloc, &old)?;
+    let before = image_of(alloc, &old)?;
 
     let (old, new) = migrated(&rt, alloc, old, 4)?;
-    let same = all_of(alloc, &old)? == before;
+    let same = image_of(alloc, &old)? == before;
     assert!(rt; same && !has_pending(&rt, &old));
-    let written = all_of(alloc, &new)?;
-    assert!(rt; written.len() == 55);
-    for (at, expected) in [
+    let written = [
         (1, open_gate()),
         (2, head(0, 1)),
-        (3, balances(500)),
+        (3, balances(&[500])),
         (4, ZERO),
         (19, ZERO),
-    ] {
-        assert!(rt; written.get(at) == Some(&expected), "{at}");
-    }
+    ];
+    assert!(rt; new.sectors() == 55 && has_sectors(&new, &written));
     let found = recovered(&rt, alloc, new);
     let ledger = (
         found.ledger.balance(1),
@@ -87,12 +82,12 @@ fn a_deposit_of_layout_1_comes_over_byte_by_byte(rt: HostRuntime) -> Result<(), 
 #[test]
 fn a_checkpoint_and_a_record_of_layout_2_come_over(rt: HostRuntime) -> Result<(), Fail> {
     let alloc = rt.alloc();
-    let begins = Begins {
+    let old = Image {
         base: 1,
-        balances: balances(5),
+        records: &[FIVE],
+        ..SECOND
     };
-    let old = of_layout_2(&rt, alloc, begins, &[deposited(1, 5)])?;
-    let (_, new) = migrated(&rt, alloc, old, 1)?;
+    let (_, new) = migrated(&rt, alloc, old.device(alloc)?, 1)?;
     assert!(rt; new.sectors() == 43);
     let found = recovered(&rt, alloc, new);
     assert!(rt; (found.ledger.balance(1), found.ledger.total()) == (Some(10), 10));
@@ -127,17 +122,17 @@ fn thousand_come_over(
 #[test]
 fn a_thousand_full_slots_come_over(rt: HostRuntime) -> Result<(), Fail> {
     let alloc = rt.alloc();
-    let entries = vec![in alloc; deposited(1, 5); 1_000]?;
-    let old = of_layout_1(&rt, alloc, entries.as_slice())?;
-    thousand_come_over(&rt, alloc, old, (5_000, 1_000))?;
-    let begins = Begins {
-        base: 7,
-        balances: balances(9),
-    };
-    let layout = Banks {
+    let full = Image {
         slots: 1_000,
-        ..LAYOUT_2
+        records: &[FIVE; 1_000],
+        ..LAYOUT_1
     };
-    let old = with_banks(&rt, alloc, layout, Live::Second, begins, entries.as_slice())?;
-    thousand_come_over(&rt, alloc, old, (5_009, 1_007))
+    thousand_come_over(&rt, alloc, full.device(alloc)?, (5_000, 1_000))?;
+    let full = Image {
+        slots: 1_000,
+        held: 9,
+        records: full.records,
+        ..SECOND
+    };
+    thousand_come_over(&rt, alloc, full.device(alloc)?, (5_009, 1_007))
 }

@@ -1,5 +1,5 @@
 //! What a device is called for that becomes an empty journal, in order, and each of these calls failed.
-use crate::old_devices::{ZERO, deposited, of_layout_1};
+use crate::old_devices::FIRST;
 use crate::openings::{Faulty, failing_at};
 use fault_injector::Call;
 use gate_journal::{ACCOUNTS, FormatRefusal, Snapshot, format, format_with};
@@ -8,6 +8,7 @@ use sector_device::{Device, MemoryDevice};
 use std::alloc::Global;
 use std::process::Abort;
 use std::test::Fail;
+use test_scenes::ZERO;
 
 /// Of a device with two slots in each bank, as the formats say: the first bank's head, its snapshot in sixteen sectors
 /// and its marks, the gate of each of its slots and its own, the second bank's gate, and last the superblock; then one
@@ -62,7 +63,7 @@ impl Maker {
                 format_with(device, 2, 9, &Snapshot { balances, sealed })
             }
             Maker::Migrate => {
-                let old = of_layout_1(rt, alloc, &[deposited(1, 5); 3])?;
+                let old = FIRST.device(alloc)?;
                 return target_failed(rt, migrate(alloc, old, device, 2));
             }
             Maker::Copy => {
@@ -102,7 +103,7 @@ fn the_superblock_is_written_last(rt: HostRuntime) -> Result<(), Fail> {
         Maker::Copy,
     ] {
         for number in 0..=CALLS.len() {
-            let mut device = failing_at(&rt, alloc, &[ZERO; SECTORS], number)?;
+            let mut device = failing_at(alloc, &[ZERO; SECTORS], number)?;
             let fails = maker.fails(&rt, alloc, &mut device)?;
             let noted = device.into_inner();
             assert!(rt;

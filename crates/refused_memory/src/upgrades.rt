@@ -2,26 +2,19 @@
 use crate::beginnings::{told, zeros};
 use fault_injector::Noting;
 use journal_recovery::{MigrateRefusal, OpenRefusal, migrate, recover};
-use sector_device::{Device, MemoryDevice, SECTOR, Sector};
+use sector_device::{Device, MemoryDevice, Sector};
 use std::alloc::Global;
 use std::process::Abort;
 use std::test::Fail;
-use test_scenes::sectors_needed;
+use test_scenes::{body_of, deposit, open_gate, sectors_needed, superblock};
 
 // A device of layout 1 with four slots, of which the first holds a deposit of 500 to account 1. It notes its calls from
 // then on.
 fn old(rt: &impl Abort, alloc: Global) -> Result<Noting<MemoryDevice>, Fail> {
-    let (mut superblock, mut body, mut gate) = ([0; SECTOR], [0; SECTOR], [0; SECTOR]);
-    superblock[..6].copy_from_slice(&[0x54, 0x4c, 0x44, 0x47, 0, 1]);
-    superblock[15] = 4;
-    body[..8].copy_from_slice(&[0x54, 0x4c, 0x42, 0x31, 0, 0, 0, 1]);
-    (body[32], body[43]) = (1, 1);
-    body[54..56].copy_from_slice(&[0x01, 0xf4]);
-    gate[0] = 0xa5;
     let mut device = zeros(alloc, 9)?;
-    put(rt, &mut device, 0, &superblock)?;
-    put(rt, &mut device, 1, &body)?;
-    put(rt, &mut device, 2, &gate)?;
+    put(rt, &mut device, 0, &superblock(1, 4))?;
+    put(rt, &mut device, 1, &body_of(0, 0, &[deposit(1, 500)]))?;
+    put(rt, &mut device, 2, &open_gate())?;
     match Noting::new(alloc, device, 1000) {
         Ok(noted) => Ok(noted),
         Err(refused) => Ok(Noting::new(alloc, refused.value, 1000).map_err(|_| "a list of calls")?),

@@ -7,16 +7,7 @@ use std::test::Fail;
 use test_scenes::deposit;
 use turn_clerk::{Clerk, Entry, Line, TurnRefusal};
 
-pub const ZERO: Sector = [0; SECTOR];
-
 pub const TORN: Sector = [0x77; SECTOR];
-
-// A gate that reads open, over bytes that nobody wrote.
-pub fn torn_open() -> Sector {
-    let mut bytes = TORN;
-    bytes[0] = 0xa5;
-    bytes
-}
 
 pub fn opened<D: Device>(rt: &impl Abort, alloc: Global, device: D, line: Line) -> Clerk<D> {
     match Clerk::open(alloc, device, line) {

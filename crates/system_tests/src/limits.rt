@@ -7,7 +7,7 @@ use sector_device::{Device, DeviceFault, MemoryDevice, SECTOR, Sector};
 use std::alloc::Global;
 use std::process::Abort;
 use std::test::Fail;
-use test_scenes::{FIRST, deposit, formatted, line, transfer};
+use test_scenes::{ZERO, body_of, deposit, formatted, head, line, open_gate, superblock, transfer};
 use turn_clerk::{Clerk, Event};
 
 // Two stations, the bottom one privileged, over this journal.
@@ -162,15 +162,12 @@ impl Device for Sparse {
 
 // A journal with 1,000,000 slots in each bank and one record, and behind it as many sectors again that are not used.
 fn a_million_slots() -> Sparse {
-    let body = FIRST.body(0) as usize;
-    let mut front = [[0; SECTOR]; FRONT];
-    front[0][..6].copy_from_slice(&[0x54, 0x4c, 0x44, 0x47, 0, 3]);
-    front[0][8..16].copy_from_slice(&1_000_000u64.to_be_bytes());
-    front[FIRST.gate as usize][0] = 0xa5;
-    front[FIRST.head() as usize][..4].copy_from_slice(&[0x54, 0x4c, 0x42, 0x4b]);
-    front[body][..8].copy_from_slice(&[0x54, 0x4c, 0x42, 0x31, 0, 0, 0, 1]);
-    front[body][32..64].copy_from_slice(&deposit(1, 500).write());
-    front[FIRST.slot_gate(0) as usize][0] = 0xa5;
+    let mut front = [ZERO; FRONT];
+    front[0] = superblock(3, 1_000_000);
+    front[1] = open_gate();
+    front[2] = head(0, 0);
+    front[20] = body_of(0, 0, &[deposit(1, 500)]);
+    front[21] = open_gate();
     Sparse {
         sectors: 8_000_000,
         front,

@@ -1,12 +1,12 @@
 //! What opening reads.
-use crate::devices::{TORN, ZERO, torn_open};
+use crate::devices::TORN;
 use fault_injector::{Call, Noting};
 use gate_journal::Journal;
 use sector_device::{Device, MemoryDevice, Sector};
 use std::alloc::{AllocError, Global};
 use std::process::Abort;
 use std::test::Fail;
-use test_scenes::{FIRST, formatted, head, second};
+use test_scenes::{FIRST, ZERO, formatted, head, second, torn_open};
 
 // What opening asks of a device with two slots in each bank, of which the second one has this gate and this head.
 fn noted_beside(

@@ -1,10 +1,10 @@
-use crate::devices::{TORN, ZERO, opened, recovered_with, refuses, torn_open};
+use crate::devices::{TORN, opened, recovered_with, refuses};
 use fault_injector::{Fuse, Op};
 use sector_device::MemoryDevice;
 use std::alloc::Global;
 use std::process::Abort;
 use std::test::Fail;
-use test_scenes::{FIRST, deposit, formatted, line};
+use test_scenes::{FIRST, ZERO, deposit, formatted, line, torn_open};
 use turn_clerk::{Clerk, Line, Turn, TurnRefusal};
 
 // The device failed in the first turn, with a deposit of 500: it is in flight, all else is as before, and whoever asks
