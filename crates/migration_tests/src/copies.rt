@@ -29,7 +29,7 @@ fn full(rt: &impl Abort, alloc: Global, slots: u64) -> Result<MemoryDevice, Fail
 
 // A full ledger is copied to a device of other slots, which then begins with what it held, and itself stays.
 fn is_copied(rt: &impl Abort, alloc: Global, slots: u64, to: u64) -> Result<(), Fail> {
-    assert!(rt; 1 <= to && to <= 1_000);
+    assert!(rt; slots <= 1_000 && 1 <= to && to <= 1_000);
     let old = full(rt, alloc, slots)?;
     let before = image_of(alloc, &old)?;
     let mut new = MemoryDevice::new(alloc, sectors_needed(to))?;

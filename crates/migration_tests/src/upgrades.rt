@@ -1,7 +1,7 @@
 //! Devices that are copied, and the bytes that they are copied to.
 use crate::old_devices::{FIVE, SECOND, has_pending};
 use journal_recovery::{Recovered, may_hold_postings, migrate, recover};
-use sector_device::{Device, MemoryDevice};
+use sector_device::{Device, MemoryDevice, Sector};
 use std::alloc::Global;
 use std::process::Abort;
 use std::test::Fail;
@@ -39,6 +39,17 @@ const DEPOSIT: Entry = Entry::Deposit {
     reference: 3,
 };
 
+// Its record, in the first slot of a device of layout 1, written by hand.
+fn first_record() -> Sector {
+    let mut bytes = ZERO;
+    bytes[..8].copy_from_slice(&[0x54, 0x4c, 0x42, 0x31, 0, 0, 0, 1]);
+    bytes[32] = 1;
+    bytes[43] = 1;
+    bytes[54..56].copy_from_slice(&[0x01, 0xf4]);
+    bytes[63] = 3;
+    bytes
+}
+
 #[test]
 fn a_deposit_of_layout_1_comes_over_byte_by_byte(rt: HostRuntime) -> Result<(), Fail> {
     let alloc = rt.alloc();
@@ -47,7 +58,7 @@ fn a_deposit_of_layout_1_comes_over_byte_by_byte(rt: HostRuntime) -> Result<(), 
         ..LAYOUT_1
     };
     let old = image.device(alloc)?;
-    assert!(rt; old.sectors() == 9);
+    assert!(rt; old.sectors() == 9 && has_sectors(&old, &[(1, first_record())]));
     let before = image_of(alloc, &old)?;
 
     let (old, new) = migrated(&rt, alloc, old, 4)?;

@@ -80,8 +80,8 @@ pub fn run_derbyfig<
 
 // How a command ended, which is told if it is a fault.
 fn ended<E: Write>(alloc: Global, outcome: Result<(), Fault<'_>>, errors: &mut E) -> Status
-    ensures done { IsOk outcome → result ≡ Status.Done }
-    ensures fault { IfErr outcome (λ fault. result ≡ status_of fault.entry) }
+    ensures done { IsOk outcome.entry → result ≡ Status.Done }
+    ensures fault { IfErr outcome.entry (λ fault. result ≡ status_of fault) }
 {
     match outcome {
         Ok(()) => Status::Done,

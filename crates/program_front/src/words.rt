@@ -48,8 +48,10 @@ enum WrongWord {
     NoDate,
     #[error("a number is out of range")]
     OutOfRange,
-    #[error("NEW is {0}; take another path")]
-    OnePath(&'static str),
+    #[error("NEW is OLD; take another path")]
+    NewIsOld,
+    #[error("NEW is LEDGER; take another path")]
+    NewIsLedger,
 }
 
 impl From<OutOfRange> for WrongWord {
@@ -72,8 +74,14 @@ fn requested<'a>(alloc: Global, matches: &ArgMatches<'a>) -> Result<Request<'a>,
         "run" => running(options),
         "serve" => serving(alloc, options),
         "format" => making(options),
-        "migrate" => Ok(Request::Migrate(copying(options, "OLD")?)),
-        "copy" => Ok(Request::Copy(copying(options, "LEDGER")?)),
+        "migrate" => {
+            let copying = copying(options, "OLD", WrongWord::NewIsOld)?;
+            Ok(Request::Migrate(copying))
+        }
+        "copy" => {
+            let copying = copying(options, "LEDGER", WrongWord::NewIsLedger)?;
+            Ok(Request::Copy(copying))
+        }
         _ => inspection(name, options),
     }
 }
@@ -143,13 +151,17 @@ fn formatting(options: &ArgMatches<'_>) -> Result<Formatting, WrongWord>
     })
 }
 
-// The ledger that has this name among the words, to be copied.
-fn copying<'a>(options: &ArgMatches<'a>, ledger: &'static str) -> Result<Copying<'a>, WrongWord>
+// The ledger that has this name among the words, to be copied, unless it would be copied onto itself.
+fn copying<'a>(
+    options: &ArgMatches<'a>,
+    ledger: &str,
+    onto_itself: WrongWord,
+) -> Result<Copying<'a>, WrongWord>
     ensures slots { IfOk result (λ copying. non_zero_u64_get copying.formatting.slots ≤ 1000000) }
 {
     let (old, path) = (path(options, ledger)?, path(options, "NEW")?);
     if old == path {
-        return Err(WrongWord::OnePath(ledger));
+        return Err(onto_itself);
     }
     let formatting = formatting(options)?;
     Ok(Copying {

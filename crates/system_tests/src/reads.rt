@@ -16,10 +16,10 @@ fn noted_beside(
     head: &Sector,
 ) -> Result<Noting<MemoryDevice>, Fail> {
     let mut inner = formatted(alloc, 2)?;
-    let other = second(2);
-    assert!(rt; other.head() < inner.sectors());
-    inner.write(other.gate, gate)?;
-    inner.write(other.head(), head)?;
+    let (at, behind) = (second(2).gate, second(2).head());
+    assert!(rt; at < inner.sectors() && behind < inner.sectors());
+    inner.write(at, gate)?;
+    inner.write(behind, head)?;
     let noting = Noting::new(alloc, inner, 64).map_err(AllocError::from)?;
     match Journal::open(noting) {
         Ok(journal) => Ok(journal.into_device()),
