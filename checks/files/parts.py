@@ -78,3 +78,6 @@ def earlier_versions(programs, _moments):
         said = programs.script(path, OPEN, "--sectors", "295")
         require_same(said, Said(0, f"refused Version {version}\n", ""), f"the console on layout {version}")
         require_same(kept(path), before, f"a ledger of layout {version}")
+    path = programs.folder / "no_slots"
+    path.write_bytes(b"TLDG\0\3" + bytes(512 * 55 - 6))
+    programs.require_refused(path, "its first sector is damaged, and doesn't tell how many sectors its ledger has")

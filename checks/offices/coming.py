@@ -15,7 +15,8 @@ def hangs_up_and_comes_back(case):
         for number in range(1, 21):
             told = other.ask("deposit 2 1")
             require(told[0].split()[::2] == ["posted", str(number)], f"beside one that hung up: {told}")
-        require_same(other.ask("balance 1"), ["balance 1 11"], "beside one that hung up")
+        # its lines may be read late
+        await_until(lambda: other.ask("balance 1") == ["balance 1 11"], lambda: "what one said that hung up isn't posted")
         one.come()
         told = one.hear(3)
         references = [line.split()[2] for line in told]

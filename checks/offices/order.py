@@ -67,12 +67,17 @@ class Trace:
             self.stage = 0
 
 
+# What is looked for of a pause: an office that ends waits for counters that take nothing, 400 pauses of 5 ms at most.
+PAUSES = 400
+
+
 def syncs_before_it_tells(case):
-    """Each posting is told behind a write of its body, a sync, a write of its gate, and a sync."""
+    """Each posting is told behind a write of its body, a sync, a write of its gate, and a sync. Nothing is awaited of a
+    station without a counter when the office ends."""
     clients = case.counters(3)
     kept = case.folder / "trace"
-    strace = ("strace", "-f", "-y", "-s", "16384", "-o", str(kept), "-e", "trace=pwrite64,fdatasync,write")
-    with case.formatted(clients, 1000, before=strace) as office:
+    strace = ("strace", "-f", "-y", "-s", "16384", "-o", str(kept), "-e", "trace=pwrite64,fdatasync,write,nanosleep,clock_nanosleep")
+    with case.formatted(clients, 1000, "--stations", "4", before=strace) as office:
         office.opened(*clients)
         for place in range(0, POSTINGS, 10):
             for client in clients:
@@ -81,8 +86,10 @@ def syncs_before_it_tells(case):
                 client.hear(10)
         require_same(clients[0].ask("close"), ["closing"], "the answer to close")
         office.closed()
-    trace = Trace(f"<{case.device}>")
+    trace, pauses = Trace(f"<{case.device}>"), 0
     with open(kept, encoding="ascii", errors="replace") as lines:
         for line in lines:
             trace.take(line.rstrip("\n"))
+            pauses += "nanosleep(" in line
     require_same(trace.told, 3 * POSTINGS, "the postings that are told in the trace")
+    require(pauses < PAUSES, f"it pauses {pauses} times")

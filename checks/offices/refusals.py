@@ -81,7 +81,7 @@ def wrong_words(case):
     too_many = [word for _ in range(65) for word in one]
     for words in (
         (), device, one, (*device, *one, "--stations", "1"), (*device, *one, "--stations", "65"),
-        (*device, *one, "--stations", "x"), (*device, *all_three, "--stations", "2"), (*device, *too_many),
+        (*device, *one, "--stations", "x"),
         (*device, *one, "--format", "0"), (*device, *one, "--format", "1000001"), (*device, *one, "--sectors", "0"),
         (*device, *one, "--sectors", "4000040"), (*device, *one, "more"), (*device, *one, "--terminal", "yes"),
         (*device, "--counter"), (*device, *one, "--chart"), (*device, *device, *one), (*device, "--stations", "2"), (*device, *one, "--overwrite"),
@@ -90,6 +90,12 @@ def wrong_words(case):
             status = office.status()
             require_same((status, office.printed()), (2, []), f"{words}: {office.all_said()}")
             require(office.told() != [], f"{words}: nothing is told")
+    for words, wanted in (
+        ((*device, *all_three, "--stations", "2"), "there are more counters than --stations"),
+        ((*device, *too_many), "there are more counters than 64"),
+    ):
+        with case.run(*words) as office:
+            require_refused(office, wanted, status=2)
     require(not case.device.exists(), "the device was made")
 
 

@@ -21,6 +21,7 @@ pub use gate_journal::FormatRefusal;
 pub use office_day::{CloseRefusal, End, EndName, OpenRefusal, TurnRefusal};
 pub use power::PowerLoss;
 pub use refusals::Refusal;
+pub use script_day::{DAY_TRIES, day_tries_in_numbers};
 pub use script_grammar::LineFault;
 pub use script_streams::StreamFault;
 pub use sector_device::{Device, MemoryDevice};

@@ -1,4 +1,6 @@
 //! A day of the stations, from a script.
+ghost use Rattle.std.specs.Prelude.{◌≡◌};
+
 use crate::refusals::Refusal;
 use crate::scripted_clerk::ScriptedClerk;
 use office_day::{Audit, Day, DayRefusal, HeldEntries, StationDay, run_day};
@@ -7,8 +9,13 @@ use std::alloc::Global;
 use std::sync::Wait;
 use std::thread::Threads;
 
-/// How often in a row a station asks for its turn, before it ends.
-const TRIES: u64 = 100_000_000;
+/// How often in a row a station is refused its turn in a day, before it ends.
+pub const DAY_TRIES: u64 = 100_000_000;
+
+/// This number, as a statement; the body does nothing.
+pub fn day_tries_in_numbers()
+    ensures { DAY_TRIES ≡ 100000000 }
+{}
 
 /// What a day shows beside its turns.
 #[derive(Drop)]
@@ -41,7 +48,7 @@ impl<D: Device + Send + Drop> ScriptedClerk<D> {
         let line = clerk.line();
         let device = Box::into_inner(clerk).into_device();
         let entries = held.as_slice();
-        match run_day(rt, alloc, device, line, entries, moves, TRIES) {
+        match run_day(rt, alloc, device, line, entries, moves, DAY_TRIES) {
             Ok(day) => {
                 let Day {
                     clerk,

@@ -1,5 +1,6 @@
 //! Counters, and the threads that serve them.
 ghost use Rattle.std.specs.Prelude.{◌≡◌, [], IfOk};
+ghost use Rattle.rtrb.specs.Ring.{producer_capacity};
 
 use crate::reader::Reader;
 use crate::recent::Recent;
@@ -102,14 +103,16 @@ fn new_wakers(alloc: Global) -> Result<Arc<Wakers>, AllocError> {
     Ok(Arc::new(alloc, Wakers::new())?)
 }
 
-/// A session at a station that has no counter.
+/// A session at a station that has no counter. Its rings have no places: what is told to nobody would count as
+/// unwritten, and the office would wait for that before it ends.
 pub(crate) fn empty_session(alloc: Global, station: u8, feed: Feed) -> Result<Session, AllocError>
     requires nothing_asked { feed.asked ≡ [] }
     requires nothing_collected { feed.collected ≡ [] }
-    ensures { IfOk result (λ session. session.feed ≡ feed) }
+    ensures feed { IfOk result (λ session. session.feed ≡ feed) }
+    ensures nobody { IfOk result (λ session. producer_capacity session.responses ≡ 0) }
 {
-    let (_, messages) = RingBuffer::new(alloc, 1)?;
-    let (responses, _) = RingBuffer::new(alloc, CAPACITY)?;
+    let (_, messages) = RingBuffer::new(alloc, 0)?;
+    let (responses, _) = RingBuffer::new(alloc, 0)?;
     let wakers = new_wakers(alloc)?;
     let recent = Recent::new(alloc)?;
     Ok(Session::new(station, messages, responses, feed, wakers, recent, false))

@@ -68,7 +68,8 @@ impl Session {
         requires nothing_told { sent responses ≡ [] }
         requires nothing_asked { feed.asked ≡ [] }
         requires nothing_collected { feed.collected ≡ [] }
-        ensures { result.feed ≡ feed }
+        ensures feed { result.feed ≡ feed }
+        ensures room { result.responses ≡ responses }
     {
         Session {
             station,

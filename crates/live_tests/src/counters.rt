@@ -13,7 +13,7 @@ use std::time::Clock;
 use test_scenes::{formatted, line};
 
 // Whether these are the next bytes of the answers.
-fn are_told(answers: &mut PipeReader, wanted: &[u8]) -> io::Result<bool> {
+pub(crate) fn are_told(answers: &mut PipeReader, wanted: &[u8]) -> io::Result<bool> {
     for byte in wanted {
         let mut told = [0];
         answers.read_exact(&mut told)?;

@@ -1,6 +1,7 @@
 //! An office that is kept open, from its pipes and its device to what is told of its end.
-ghost use Rattle.std.specs.Prelude.{◌≡◌, false, IfErr, OnOk};
-ghost use Rattle.office_engine.specs.Ends.{NoneWasRefused, TellsRefusal, reason_of};
+ghost use Rattle.std.specs.Prelude.{◌≡◌, ◌≢◌, ◌↔◌, false, Err, IsTrue, IfErr, OnOk};
+ghost use Rattle.turn_clerk.specs.declared.refusals.TurnRefusal.{TurnRefusal};
+ghost use Rattle.office_engine.specs.Ends.{NoneFailed, NoneWasRefused, TellsRefusal, reason_of};
 
 use crate::faults::{OfficeFault, PipeFault};
 use crate::pipes::{Side, open_pipe};
@@ -21,8 +22,13 @@ use std::sync::Wait;
 use std::thread::Threads;
 use std::time::Clock;
 
-/// After how many turns an office is closed and opened again.
-const SPAN: u64 = 5_000;
+/// After how many turns an office is closed and opened again: so many its history holds at most.
+pub const SPAN: u64 = 5_000;
+
+/// This number, as a statement; the body does nothing.
+pub fn span_in_numbers()
+    ensures { SPAN ≡ 5000 }
+{}
 
 /// The streams of the terminal.
 #[derive(Drop)]
@@ -202,11 +208,7 @@ fn tell_closed<'a, D: Device + Drop, W: Write>(
         tell_untold(station, conversation, output)?;
     }
     output.flush()?;
-    if closed.is_abandoned {
-        return Err(OfficeFault::Threads);
-    }
-    device_of(closed.stations.as_slice())?;
-    refusal_of(closed.stations.as_slice())
+    ended(closed.is_abandoned, closed.stations.as_slice())
 }
 
 // Tells of the requests of a station that were submitted and not answered.
@@ -249,16 +251,30 @@ fn tell_untold<W: Write>(
     Ok(())
 }
 
-// Whether a station's device failed. Other stations, which met that later, tell it in other words.
-fn device_of<'a>(stations: &[StationDay]) -> Result<(), OfficeFault<'a>>
-    ensures { IfErr result (TellsRefusal stations.now) }
+// How an office ended: well, if no station was refused its thread or its turn. A device that failed is told as that:
+// other stations, which met it later, tell it in other words.
+fn ended<'a>(is_abandoned: bool, stations: &[StationDay]) -> Result<(), OfficeFault<'a>>
+    ensures refused { OnOk result (NoneWasRefused stations.now) }
+    ensures threads { OnOk result (is_abandoned ≡ false) }
+    ensures device { (reason : TurnRefusal) → result ≡ Err (OfficeFault.Refused reason)
+        → reason ≢ TurnRefusal.Device → NoneFailed stations.now }
 {
-    for day in stations {
-        if day.end == End::Refused(TurnRefusal::Device) {
-            return Err(OfficeFault::Refused(TurnRefusal::Device));
-        }
+    if is_abandoned {
+        return Err(OfficeFault::Threads);
     }
-    Ok(())
+    if !none_failed(stations) {
+        return Err(OfficeFault::Refused(TurnRefusal::Device));
+    }
+    refusal_of(stations)
+}
+
+// Whether the device failed for no station.
+fn none_failed(stations: &[StationDay]) -> bool
+    ensures { IsTrue result ↔ NoneFailed stations.now }
+{
+    stations
+        .iter()
+        .all(|day| day.end != End::Refused(TurnRefusal::Device))
 }
 
 // Why the first station was refused its turn that was. No other end needs to be told: a station ends as `Stopped` only

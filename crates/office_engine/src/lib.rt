@@ -10,7 +10,7 @@ mod serving;
 mod source;
 
 pub use faults::{OfficeFault, PipeFault};
-pub use keeping::{Terminal, serve};
+pub use keeping::{SPAN, Terminal, serve, span_in_numbers};
 pub use live_office::REQUESTS;
 pub use pipes::{PipeRefusal, Side, open_pipe};
 pub use serving::{Plan, Serving, WrongWords};
