@@ -11,14 +11,10 @@ mod damage;
 mod drawing;
 mod faults;
 mod kind;
-mod layout;
-mod live;
 mod map;
 mod place;
-mod plan;
 mod section;
 mod sectors;
-mod shapes;
 mod slots;
 mod style;
 

@@ -1,15 +1,14 @@
 //! What a device is drawn as: its parts in order, and the kind of each sector.
-ghost use Rattle.std.specs.Prelude.{◌≡◌, ◌≢◌, ◌↔◌, IsErr, IsTrue, IfOk};
+ghost use Rattle.std.specs.Prelude.{◌≡◌, ◌≢◌, ◌⊎◌, ◌↔◌, IsErr, IsTrue, IfOk};
 ghost use Rattle.sector_device.specs.Device.{AreCalls};
 ghost use Rattle.sector_device.specs.Crash.{LooksOnly};
 ghost use Rattle.device_drawing.specs.Damage.{HasDamage};
 
 use crate::kind::Kind;
-use crate::live::find_live;
 use crate::place::Place;
-use crate::plan::{Bank, Part, Plan};
 use crate::section::{COLUMNS, Heading, Section};
-use crate::sectors::{read_gate, read_plan};
+use crate::sectors::{find_live, find_plan, read_gate};
+use gate_journal::{Bank, Plan};
 use sector_device::{Device, DeviceFault};
 use std::fmt;
 
@@ -32,7 +31,7 @@ impl Map {
         ensures looks { LooksOnly (D.state device.old) (D.state device.new) }
         ensures damage { IfOk result (λ map. map.damage ≡ damage) }
     {
-        let plan = read_plan(device)?;
+        let plan = find_plan(device)?;
         let live = match plan {
             Some(plan) => find_live(device, plan)?,
             None => None,
@@ -62,7 +61,7 @@ impl Map {
     pub(crate) fn sections(&self) -> [Section; 6] {
         let mut sections = [Section::EMPTY; 6];
         match self.plan {
-            Some(plan) if plan.layout().has_banks() => return self.sections_of(plan),
+            Some(plan) if plan.has_banks() => return self.sections_of(plan),
             Some(plan) => {
                 sections[0] = Section::of(Heading::Superblock, 0, 1, 1);
                 sections[1] = Section::of(Heading::Row, 1, plan.sectors(), self.joined());
@@ -75,8 +74,8 @@ impl Map {
 
     // Those of layouts 2 and 3. What stands before the slots is drawn sector by sector.
     fn sections_of(&self, plan: Plan) -> [Section; 6] {
-        let (front, joined) = (plan.layout().front(), self.joined());
-        let (first, second) = (plan.first(Bank::First), plan.first(Bank::Second));
+        let (front, joined) = (plan.layout.front, self.joined());
+        let (first, second) = (plan.gate(Bank::First), plan.gate(Bank::Second));
         [
             Section::of(Heading::Superblock, 0, 1, 1),
             Section::of(self.bank(Bank::First), first, first + front, 1),
@@ -147,10 +146,7 @@ impl Map {
 /// What the drawing is of: the layout, the number of slots and of sectors, and how many of these one cell stands for.
 impl fmt::Display for Map {
     fn fmt<W: fmt::Write>(&self, f: &mut fmt::Formatter<W>) -> fmt::Result {
-        match self.plan {
-            Some(plan) => write!(f, "{plan}, ")?,
-            None => f.write_str("no known layout, ")?,
-        }
+        write_plan(self.plan, f)?;
         let (sectors, joined) = (self.sectors, self.joined());
         write!(f, "{sectors} sectors of 512 bytes")?;
         match self.plan {
@@ -162,6 +158,19 @@ impl fmt::Display for Map {
             _ => Ok(()),
         }
     }
+}
+
+// The layout, and how many slots there are.
+fn write_plan<W: fmt::Write>(plan: Option<Plan>, f: &mut fmt::Formatter<W>) -> fmt::Result {
+    let Some(plan) = plan else {
+        return f.write_str("no known layout, ");
+    };
+    let (version, slots) = (plan.layout.version, plan.slots);
+    write!(f, "layout {version}, {slots} slots")?;
+    if plan.has_banks() {
+        f.write_str(" in each bank")?;
+    }
+    f.write_str(", ")
 }
 
 // The greatest kind of the sectors from one to before another.
@@ -188,22 +197,51 @@ fn read_kind<D: Device>(device: &mut D, plan: Plan, sector: u64) -> Result<Kind,
     ensures looks { LooksOnly (D.state device.old) (D.state device.new) }
     ensures not_damaged { IfOk result (λ kind. kind ≢ Kind.Damaged) }
 {
-    match plan.part(sector) {
-        Part::Superblock => Ok(Kind::Superblock),
-        Part::Head(_) => Ok(Kind::Head),
-        Part::Snapshot(_) => Ok(Kind::Snapshot),
-        Part::Unused => Ok(Kind::Unused),
-        Part::BankGate(_) | Part::SlotGate { .. } => {
-            let is_open = read_gate(device, sector)?;
-            Ok(if is_open {
-                Kind::OpenGate
-            } else {
-                Kind::ClosedGate
-            })
-        }
-        Part::Body { .. } => {
-            let is_open = read_gate(device, sector.saturating_add(1))?;
-            Ok(if is_open { Kind::Record } else { Kind::Free })
-        }
+    if sector == 0 {
+        return Ok(Kind::Superblock);
     }
+    let Some(within) = within_bank(plan, sector - 1) else {
+        return Ok(Kind::Unused);
+    };
+    let front = plan.layout.front;
+    if within >= front && (within - front) % 2 == 0 {
+        return kind_by_gate(device, sector.saturating_add(1), Kind::Record, Kind::Free);
+    }
+    if within == 0 || within >= front {
+        return kind_by_gate(device, sector, Kind::OpenGate, Kind::ClosedGate);
+    }
+    Ok(if within == 1 {
+        Kind::Head
+    } else {
+        Kind::Snapshot
+    })
+}
+
+// One kind or another, as a gate is open or closed.
+fn kind_by_gate<D: Device>(
+    device: &mut D,
+    gate: u64,
+    if_open: Kind,
+    if_closed: Kind,
+) -> Result<Kind, DeviceFault>
+    ensures call { AreCalls (D.state device.old) (D.state device.new) (IsErr result) }
+    ensures looks { LooksOnly (D.state device.old) (D.state device.new) }
+    ensures one { IfOk result (λ kind. (kind ≡ if_open) ⊎ (kind ≡ if_closed)) }
+{
+    if read_gate(device, gate)? {
+        return Ok(if_open);
+    }
+    Ok(if_closed)
+}
+
+// How many sectors of its bank stand before the one that stands so many behind the superblock's, if it is in a bank.
+fn within_bank(plan: Plan, behind: u64) -> Option<u64> {
+    let size = plan.bank_sectors();
+    if behind < size {
+        return Some(behind);
+    }
+    if plan.has_banks() && behind - size < size {
+        return Some(behind - size);
+    }
+    None
 }

@@ -3,6 +3,7 @@ pub mod Entry
 pub mod Screen
 pub mod Ledger
 pub mod Place
+pub mod PlaceTable
 pub mod InPlace
 pub mod Scratch
 pub mod ScratchState

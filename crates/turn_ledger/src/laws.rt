@@ -1,7 +1,8 @@
 //! Laws of the rules, each as the contract of a function that does nothing.
-ghost use Rattle.std.specs.Prelude.{◌≡◌, ◌↔◌, ◌≤◌, ℕ, List, length};
+ghost use Rattle.std.specs.Prelude.{◌≡◌, ◌↔◌, ◌≤◌, ℕ, true, List, length};
 ghost use Rattle.turn_ledger.specs.State.{LedgerState, IsAccount, IsLedger};
 ghost use Rattle.turn_ledger.specs.Place.{place_bytes};
+ghost use Rattle.turn_ledger.specs.PlaceTable.{KeepsPlace};
 ghost use Rattle.turn_ledger.specs.declared.entry.Entry.{Entry};
 ghost use Rattle.turn_ledger.specs.Laws.{AYesMeansAllRules, PostingGivesTheSums, NothingIsLostOrMade, ASealedAccountStaysAsItIs, BatchesCompose, AcceptedEntriesArePosted, LaterEntriesSeeTheAccepted};
 
@@ -16,6 +17,11 @@ pub fn limits_in_numbers()
     ensures total { TOTAL_LIMIT ≡ 1000000000000000000 }
     ensures batch { BATCH_LIMIT ≡ 15 }
     ensures place { (entry : Entry) → length (place_bytes entry) ≡ 32 }
+{}
+
+/// The table of a place says of bytes no more than the entries do: those of an entry keep it.
+pub fn entries_keep_their_table()
+    ensures { (entry : Entry) → KeepsPlace true (place_bytes entry) }
 {}
 
 /// An entry is accepted exactly if it keeps all rules: its amount isn't zero (a seal has none), the accounts that it

@@ -26,8 +26,8 @@ pub use batch::Batch;
 pub use entry::Entry;
 pub use laws::{
     a_sealed_account_stays_as_it_is, a_yes_means_all_rules, accepted_entries_are_posted,
-    batches_compose, later_entries_see_the_accepted, limits_in_numbers, nothing_is_lost_or_made,
-    posting_gives_the_sums,
+    batches_compose, entries_keep_their_table, later_entries_see_the_accepted, limits_in_numbers,
+    nothing_is_lost_or_made, posting_gives_the_sums,
 };
 pub use ledger::Ledger;
 pub use limits::{ACCOUNTS, ALL_ACCOUNTS, BATCH_LIMIT, ENTRY_BYTES, TOTAL_LIMIT};
