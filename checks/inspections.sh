@@ -97,6 +97,31 @@ done
 python3 -c 'import sys, xml.dom.minidom as dom; dom.parse("drawn").documentElement.tagName == "svg" or sys.exit("no SVG")'
 cmp office before || { echo "the file was changed"; exit 1; }
 
+# A ledger with so few slots, after so many batches: its journal begins with the bank before the live one.
+both_banks() {
+    local slots=$1 batches=$2 batch live first
+    rm -f both
+    {
+        printf 'format %s\nopen 2 00 10\n' "$slots"
+        for batch in $(seq 0 $((batches - 1))); do
+            printf 'post %s deposit 1 1\nturn %s\n' $((batch % 2)) $((batch % 2))
+        done
+    } | "$derbyfig" run both --sectors $((39 + 4 * slots)) > made
+    live=$((slots * ((batches - 1) / slots)))
+    first=$((live >= slots ? live - slots : 0))
+    seq "$first" $((batches - 1)) > sequences
+    "$derbyfig" journal both --as csv | awk -F, '$3 == "deposit" { print $1 }' | diff sequences - \
+        || { echo "$slots slots, $batches batches: other records"; exit 1; }
+    [ "$("$derbyfig" journal both | head -n 1)" = "before record $first: $((first > 0)) accounts hold $first" ] \
+        || { echo "$slots slots, $batches batches: another snapshot"; exit 1; }
+}
+for slots in 1 2 3 8; do
+    for batches in 1 2 3 4 5 6 7 8 9 16 17 24 25; do
+        both_banks "$slots" "$batches"
+    done
+done
+echo "the journal of both banks: as it must be"
+
 # Files of older layouts.
 first_layout first
 run 0 "$wanted/layout_1.out" "" check first
@@ -238,7 +263,7 @@ fi
 options() {
     grep -o -e '--[a-z][a-z]*' | LC_ALL=C sort -u
 }
-for command in "" run serve check journal balances map format migrate; do
+for command in "" run serve close check journal balances map format copy migrate; do
     "$derbyfig" $command --help
 done | options > helped
 sed 's/\\-/-/g' "$man/derbyfig.1" | options | diff helped - || { echo "docs/man/derbyfig.1: other options"; exit 1; }

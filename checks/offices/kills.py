@@ -136,7 +136,7 @@ def one_kill(case, first, moments, slots):
 
 def require_goes_on(case, counters, reference):
     """That the file opens with what it holds, and takes another posting."""
-    rows, held = case.rows(), case.balances()
+    rows, held, base = case.rows(), case.balances(), case.base()
     with case.office(counters) as office:
         opening, = office.opened(*counters)
         batches = int(opening.split()[3])
@@ -144,6 +144,7 @@ def require_goes_on(case, counters, reference):
         last = counters[-1]
         if rows:
             require_same(batches, rows[-1].sequence + 1, "the number of the next batch")
+        if rows and rows[-1].sequence >= base:  # a search looks at the live bank alone
             wanted = [f"posted {rows[-1].sequence} {rows[-1].reference}"]
             require_same(last.ask(f"find {rows[-1].reference}"), wanted, "the last reference before the kill")
         require_same(last.ask(f"deposit 1 1 {reference}"), [f"posted {batches} {reference}"], "a posting behind the kill")

@@ -5,12 +5,13 @@ use std::alloc::Global;
 use std::process::Abort;
 use std::test::Fail;
 
-// A checkpoint with a sealed account that holds nothing, and two records behind it. The largest amount, reference and
-// account fit their columns.
+// A checkpoint with a sealed account that holds nothing, and two records behind it. The record before is gone, since a
+// second checkpoint has overwritten its bank. The largest amount, reference and account fit their columns.
 fn two_records(rt: &impl Abort, alloc: Global) -> Result<MemoryDevice, Fail> {
     let most = 1_000_000_000_000_000_000;
     let mut office = Office::new(alloc, 2)?;
     office.post(rt, 0, &[deposit(3, most, 1), seal(4, 2)])?;
+    office.checkpoint()?;
     office.checkpoint()?;
     office.post(
         rt,

@@ -1,12 +1,13 @@
 //! Courses on a device that stops at one of its calls, and then loses power.
-use crate::course::{CALLS, Course, Met, events, take_course, two_stations};
-use crate::power::{at_stake, outcomes_of, picks, recovered};
+use crate::course::{AMOUNTS, CALLS, Course, Found, Met, events, take_course, two_stations};
+use crate::power::{at_stake, outcomes_of, picks};
 use fault_injector::{Fuse, Op};
+use ledger_reading::look;
 use sector_device::MemoryDevice;
 use std::alloc::Global;
 use std::process::Abort;
 use std::test::Fail;
-use test_scenes::formatted;
+use test_scenes::{deposit, formatted};
 use turn_clerk::{Clerk, OpenRefusal, Reply, TurnRefusal};
 
 // How a course is taken: one turn after another, or as one run.
@@ -71,6 +72,9 @@ fn run_course(
     }
 }
 
+// How many slots each bank has.
+const SLOTS: u64 = 2;
+
 // A course on a device that stops at this call, and what was left of it in the memory device.
 fn stopped(
     rt: &impl Abort,
@@ -78,12 +82,34 @@ fn stopped(
     by: By,
     at: u64,
 ) -> Result<(MemoryDevice, Course), Fail> {
-    let device = Fuse::new(formatted(alloc, 2)?, Op::Any, at);
+    let device = Fuse::new(formatted(alloc, SLOTS)?, Op::Any, at);
     let (device, course) = match by {
         By::Turns => take_course(rt, alloc, device, 0),
         By::Run => run_course(rt, alloc, device)?,
     };
     Ok((device.into_inner(), course))
+}
+
+// What a device holds. Its last batches are listed, as many as a bank has slots or more.
+fn listed(rt: &impl Abort, alloc: Global, device: MemoryDevice) -> Found {
+    let Ok(sound) = look(alloc, device) else {
+        panic!(rt; "a sound ledger")
+    };
+    let (balance, next) = (sound.ledger.balance(1), sound.journal.numbers().next);
+    let Ok(mut listing) = sound.list() else {
+        panic!(rt; "a listing")
+    };
+    assert!(rt; listing.left() >= SLOTS.min(next));
+    for sequence in listing.at()..next {
+        let Ok(Some(record)) = listing.next() else {
+            panic!(rt; "a record")
+        };
+        let amount = AMOUNTS.get(sequence as usize).copied().unwrap_or(0);
+        assert!(rt; record.sequence == sequence);
+        assert!(rt; record.entries.as_slice() == [deposit(1, amount)].as_slice());
+    }
+    assert!(rt; matches!(listing.next(), Ok(None)));
+    Found { balance, next }
 }
 
 // Every power loss after a stop at this call: where it stopped, and how many power losses there are.
@@ -95,7 +121,7 @@ fn lose_power(rt: &impl Abort, alloc: Global, by: By, at: u64) -> Result<(Met, u
         let (device, course) = stopped(rt, alloc, by, at)?;
         let device = device.crash(&picks(alloc, sectors.as_slice(), number)?);
         assert!(rt;
-            course.allows(recovered(rt, alloc, device)),
+            course.allows(listed(rt, alloc, device)),
             "{by:?} {at} {number}"
         );
     }

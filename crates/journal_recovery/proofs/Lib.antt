@@ -10,3 +10,4 @@ mod OneRefusal
 mod OldStanding
 mod OneOldRecovery
 mod Migrated
+mod Leading

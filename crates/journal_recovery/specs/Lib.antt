@@ -11,3 +11,4 @@ pub mod Recovered
 pub mod RecoveryLaws
 pub mod Migration
 pub mod Postings
+pub mod Earlier

@@ -6,6 +6,7 @@
 #![tactic(auto)]
 
 mod copying;
+mod earlier;
 mod entries;
 mod laws;
 mod migration;
@@ -18,10 +19,11 @@ mod refusals;
 mod replay;
 
 pub use copying::copy;
-pub use gate_journal::{Journal, JournalCause, JournalRefusal, Record};
+pub use earlier::find_earlier;
+pub use gate_journal::{EarlierBank, Journal, JournalCause, JournalRefusal, Record};
 pub use laws::{one_old_recovery, one_recovery, seals_are_recovered};
 pub use migration::{MigrateRefusal, migrate, snapshot_of};
-pub use old::{Old, read_old};
+pub use old::{Old, read_old, restore_older};
 pub use places::read_entry;
 pub use postings::may_hold_postings;
 pub use recovery::{Recovered, recover};

@@ -1,3 +1,4 @@
 pub mod Fronts
 pub mod Lists
 pub mod Wholes
+pub mod Both

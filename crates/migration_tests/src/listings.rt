@@ -1,11 +1,12 @@
 //! What is listed of a ledger, also beside a device that fails or lies.
+use crate::both_banks::TwoBanks;
 use fault_injector::{OneFault, Op};
 use ledger_reading::{Entry, Listed, Listing, OpenRefusal, ReadRefusal, Sound, look};
 use sector_device::{Device, MemoryDevice, SECTOR};
 use std::alloc::Global;
 use std::process::Abort;
 use std::test::Fail;
-use test_scenes::{FIRST, Image, LAYOUT_3, Rewritten, deposit, seal, transfer, withdrawal};
+use test_scenes::{FIRST, Image, LAYOUT_3, Live, Rewritten, deposit, seal, transfer, withdrawal};
 
 // A device of layout 3 with two slots in each bank, whose snapshot has so much in account 1, and these records.
 fn with_records(
@@ -22,7 +23,7 @@ fn with_records(
     image.device(alloc)
 }
 
-fn listing_of<D: Device + Drop>(sound: Sound<D>) -> Result<Listing<D>, ReadRefusal> {
+pub fn listing_of<D: Device + Drop>(sound: Sound<D>) -> Result<Listing<D>, ReadRefusal> {
     match sound.list() {
         Ok(listing) => Ok(listing),
         Err((_, refusal)) => Err(refusal),
@@ -68,7 +69,7 @@ fn records_are_listed_with_the_balances_after_them(rt: HostRuntime) -> Result<()
     Ok(())
 }
 
-// Looks at a device and lists its one record, or tells the first fault.
+// Looks at a device and lists its records, or tells the first fault.
 fn all_of_it<D: Device + Drop>(alloc: Global, device: D) -> Result<(), ReadRefusal> {
     let sound = match look(alloc, device) {
         Ok(sound) => sound,
@@ -76,26 +77,57 @@ fn all_of_it<D: Device + Drop>(alloc: Global, device: D) -> Result<(), ReadRefus
         Err((_, _)) => return Err(ReadRefusal::Changed),
     };
     let mut listing = listing_of(sound)?;
-    listing.next()?;
+    for _ in 0..listing.left() {
+        listing.next()?;
+    }
     Ok(())
 }
 
+// The listing fails exactly if a call does.
+fn expect_fault(rt: &impl Abort, told: Result<(), ReadRefusal>, fails: bool) -> Result<(), Fail> {
+    let expected = if fails {
+        Err(ReadRefusal::Device)
+    } else {
+        Ok(())
+    };
+    assert!(rt; told == expected);
+    Ok(())
+}
+
+// Two slots in each bank, and a record in each.
+const ONE_AND_ONE: TwoBanks = TwoBanks {
+    slots: 2,
+    live: Live::First,
+    earlier: 1,
+    later: 1,
+};
+
 // A sync, and reads of the superblock, of two gates, of the head, of seventeen sectors of the snapshot, of the record's
-// gate and body, and of the gate behind it; then of the snapshot and of the body again.
-const CALLS: u64 = 43;
+// gate and body, and of the gate behind it; then of the other bank's gate, of the snapshot and of the body again.
+const CALLS: u64 = 44;
+
+// The same with the other bank's head; then its gate, its head, its snapshot, its record's gate and body and the gate
+// behind it, the live snapshot, and its own again; then its record's gate and body, and the live bank's body.
+const CALLS_OF_BOTH: u64 = 85;
 
 #[test]
 fn each_fault_is_told(rt: HostRuntime) -> Result<(), Fail> {
     let alloc = rt.alloc();
     for at in 0..CALLS + 1 {
         let device = with_records(alloc, 0, &[(0, &[deposit(1, 5)])])?;
-        let told = all_of_it(alloc, OneFault::new(device, Op::Any, at));
-        let expected = if at < CALLS {
-            Err(ReadRefusal::Device)
-        } else {
-            Ok(())
-        };
-        assert!(rt; told == expected, "{at}");
+        expect_fault(
+            &rt,
+            all_of_it(alloc, OneFault::new(device, Op::Any, at)),
+            at < CALLS,
+        )?;
+    }
+    for at in 0..CALLS_OF_BOTH + 1 {
+        let device = ONE_AND_ONE.device(alloc)?;
+        expect_fault(
+            &rt,
+            all_of_it(alloc, OneFault::new(device, Op::Any, at)),
+            at < CALLS_OF_BOTH,
+        )?;
     }
     Ok(())
 }
