@@ -24,6 +24,7 @@ CASES = (
     coming.says_and_never_listens,
     coming.never_ends_a_line,
     coming.close_at_once,
+    coming.closed_from_outside,
     coming.close_amid_postings,
     coming.many_stations,
     refusals.counters_that_are_none,

@@ -116,6 +116,27 @@ def close_at_once(case):
     require_same(case.rows(), [], "the records in the file")
 
 
+def closed_from_outside(case):
+    """derbyfig close ends an office at one of its counters, and no request comes of the part of a line that stood there."""
+    one, other = clients = case.counters(2)
+    none = f"{other.folder}: no office has it\n"
+    require_same(case.close(other), (1, "", none), "closing one that was never opened")
+    with case.formatted(clients, 4) as office:
+        office.opened(*clients)
+        require_same(one.ask("deposit 1 5"), ["posted 0 1"], "a posting")
+        other.say(b"deposit 1 7\ndeposit 1 50")
+        require_same(case.close(other), (0, "closed\n", ""), "closing")
+        require_same(office.closed(), [], "what is unanswered")
+        require_closed(office, 2, 2)
+        told = other.hear_rest()
+        require_same((told[0], told[1].split()[0], told[2:]), ("posted 1 1", "wrong", ["closing"]), "what its counter is told")
+    require_same(case.close(other), (1, "", none), "closing one that has ended")
+    (other.folder / "in").unlink()
+    missing = f"{other.folder}/in: it can't be opened\n"
+    require_same(case.close(other, "--seconds", "1"), (3, "", missing), "closing at no counter")
+    require_same([row.reference for row in case.rows()], [1, 1], "the references in the file")
+
+
 def close_amid_postings(case):
     """All that was submitted before the end is answered and in the file, and all else that was asked is told."""
     clients = case.counters(3)

@@ -275,6 +275,12 @@ class Case:
         """A run of the program that serves with these words alone, by a program before it where that is given."""
         return Office([*before, self.program, "serve", *words], self.folder / kept_as, **more)
 
+    def close(self, counter, *words):
+        """How a run of the program ends that closes the office at a counter: its status, its output, and its errors."""
+        words = [self.program, "close", counter.folder, *words]
+        run = subprocess.run(words, capture_output=True, check=False, text=True, timeout=PATIENCE)
+        return run.returncode, run.stdout, run.stderr
+
     def office(self, counters, *words, **more):
         """An office on the device."""
         said = [word for counter in counters for word in ("--counter", str(counter.folder))]
@@ -302,7 +308,7 @@ class Case:
         return next(int(line.split()[1]) for line in run.stdout.splitlines() if line.startswith("base "))
 
     def rows(self):
-        """The entries that the file holds since its last checkpoint."""
+        """The entries that the file holds."""
         return [
             Row(int(number), int(station), kind, source, target, amount, int(reference))
             for number, station, kind, source, target, amount, reference, *_ in self.listed("journal") if station

@@ -82,6 +82,12 @@ fn each_command_has_its_words(rt: HostRuntime) {
         && formatting.slots.get() == 1_000_000
         && formatting.overwrite)
     );
+    let words = ["derbyfig", "close", "counter"];
+    let asked = read_request(alloc, &words);
+    assert!(rt;
+        matches!(&asked, Ok(Request::Close { counter, seconds }) if *counter == "counter"
+        && *seconds == 60)
+    );
     let words = ["derbyfig", "migrate", "old", "new", "--slots", "1"];
     let asked = read_request(alloc, &words);
     assert!(rt;
@@ -101,7 +107,7 @@ fn each_command_has_its_words(rt: HostRuntime) {
 }
 
 // Words, and how it is told that they are wrong.
-const WRONG: [(&[&str], &str); 18] = [
+const WRONG: [(&[&str], &str); 19] = [
     (
         &["journal", "book", "--from", "x"],
         "error: invalid value 'x' for '--from <N>'",
@@ -142,6 +148,10 @@ const WRONG: [(&[&str], &str); 18] = [
     (
         &["serve", "book", "--format", "1000001"],
         "error: invalid value '1000001' for '--format <SLOTS>'",
+    ),
+    (
+        &["close", "counter", "--seconds", "86401"],
+        "error: invalid value '86401' for '--seconds <S>'",
     ),
     (
         &["format", "book"],

@@ -1,10 +1,12 @@
--- By which status a fault of an office ends the program.
+-- By which status a fault of an office ends the program, and one of closing it from outside.
 use Rattle.journal_recovery.specs.declared.refusals.OpenRefusal.{OpenRefusal}
 use Rattle.line_lock.specs.declared.lent.OfficeRefusal.TheVariants as office
 use Rattle.live_office.specs.declared.open_office.LiveRefusal.TheVariants as live
 use Rattle.program_ends.specs.Status.{of_ledger, of_opening, of_turn}
 use Rattle.program_ends.specs.declared.status.Status.{Status}
-use Rattle.program_ends.specs.declared.status.Status.TheVariants.{Failed}
+use Rattle.program_ends.specs.declared.status.Status.TheVariants.{Refused, Failed}
+use Rattle.office_engine.specs.declared.closing.CloseFault.{CloseFault}
+use Rattle.office_engine.specs.declared.closing.CloseFault.TheVariants as closing
 use Rattle.office_engine.specs.declared.faults.OfficeFault.{OfficeFault}
 use Rattle.office_engine.specs.declared.faults.OfficeFault.TheVariants as fault
 
@@ -15,3 +17,8 @@ status_of (fault.NoLedger path refusal) = of_opening refusal
 status_of (fault.Office (live.Office (office.Opening refusal))) = of_opening refusal
 status_of (fault.Refused refusal) = of_turn refusal
 status_of _ = Failed
+
+-- that no office is open is a rule's matter, and else something failed
+abbrev pub status_of_closing : CloseFault → Status
+status_of_closing (closing.NotOpen folder) = Refused
+status_of_closing _ = Failed

@@ -33,6 +33,7 @@ impl fmt::Display for PipeFault<'_> {
             PipeRefusal::NoPipe => write!(f, "{}/{name}: it is no pipe", self.folder),
             PipeRefusal::Taken => write!(f, "{}/{name}: it is another counter's", self.folder),
             PipeRefusal::InUse => write!(f, "{}/{name}: another office has it", self.folder),
+            PipeRefusal::Unlocked => write!(f, "{}/{name}: it can't be locked", self.folder),
         }
     }
 }

@@ -1,14 +1,17 @@
 //! The engine of an office that is kept open: on a file or a disk, for counters by named pipes and for the terminal.
 //!
-//! [`serve`] opens the pipes and the device, keeps the office open, and tells how it ended.
+//! [`serve`] opens the pipes and the device, keeps the office open, and tells how it ended. [`close_office`] asks it
+//! from outside to close.
 #![tactic(auto)]
 
+mod closing;
 mod faults;
 mod keeping;
 mod pipes;
 mod serving;
 mod source;
 
+pub use closing::{CloseFault, close_office};
 pub use faults::{OfficeFault, PipeFault};
 pub use keeping::{SPAN, Terminal, serve, span_in_numbers};
 pub use live_office::REQUESTS;

@@ -4,7 +4,7 @@ ghost use Rattle.std.specs.Fd.{file_raw_fd};
 
 use file_device::FileNumber;
 use std::alloc::{AllocError, Global};
-use std::fs::{File, Files, OpenFile, OpenOptions};
+use std::fs::{File, Files, OpenFile, OpenOptions, TryLockError};
 use std::os::fd::{AsRawFd, RawFd};
 use std::os::unix::fs::FileTypeExt;
 
@@ -43,6 +43,8 @@ pub enum PipeRefusal {
     Taken,
     /// Another office has it.
     InUse,
+    /// It can't be locked.
+    Unlocked,
 }
 
 /// Opens a pipe in a counter's folder, for reading and writing: so it never ends, whoever hangs up. It is none of those
@@ -60,6 +62,22 @@ pub fn open_pipe<R: Files<File = File>>(
 ) -> Result<File, PipeRefusal>
     ensures clear { IfOk result (λ file. pos 2 <ℤ file_raw_fd file) }
 {
+    let (file, number) = find_pipe(rt, alloc, folder, side)?;
+    note_pipe(number, opened)?;
+    match file.try_lock() {
+        Ok(()) => clear_of_streams(file),
+        Err(TryLockError::WouldBlock) => Err(PipeRefusal::InUse),
+        Err(TryLockError::Error(_)) => Err(PipeRefusal::Unlocked),
+    }
+}
+
+/// A pipe in a counter's folder, open for reading and writing, and which one it is.
+pub(crate) fn find_pipe<R: Files<File = File>>(
+    rt: &R,
+    alloc: Global,
+    folder: &str,
+    side: Side,
+) -> Result<(File, FileNumber), PipeRefusal> {
     let name = side.name();
     let path = match format!(in alloc; "{folder}/{name}") {
         Ok(path) => path,
@@ -70,20 +88,14 @@ pub fn open_pipe<R: Files<File = File>>(
     let Ok(file) = how.open(rt, path.as_str()) else {
         return Err(PipeRefusal::Unopened);
     };
-    note_pipe(&file, opened)?;
-    if file.try_lock().is_err() {
-        return Err(PipeRefusal::InUse);
+    match file.metadata() {
+        Ok(found) if found.file_type().is_fifo() => Ok((file, FileNumber::of(&found))),
+        _ => Err(PipeRefusal::NoPipe),
     }
-    clear_of_streams(file)
 }
 
-// Notes which pipe a file is.
-fn note_pipe(file: &File, opened: &mut Vec<FileNumber>) -> Result<(), PipeRefusal> {
-    let found = match file.metadata() {
-        Ok(found) if found.file_type().is_fifo() => found,
-        _ => return Err(PipeRefusal::NoPipe),
-    };
-    let number = FileNumber::of(&found);
+// Notes a pipe that wasn't opened before.
+fn note_pipe(number: FileNumber, opened: &mut Vec<FileNumber>) -> Result<(), PipeRefusal> {
     if opened.iter().any(|other| *other == number) {
         return Err(PipeRefusal::Taken);
     }

@@ -2,7 +2,7 @@
 use Rattle.std.specs.Prelude.{◌≤◌, ℕ, Option, IfSome}
 use Rattle.std.specs.Int.NonZero.{non_zero_u64_get}
 use Rattle.program_front.specs.declared.request.Request.{Request}
-use Rattle.program_front.specs.declared.request.Request.TheVariants.{Run, Serve, Inspect, Format, Migrate, Copy}
+use Rattle.program_front.specs.declared.request.Request.TheVariants.{Run, Serve, Close, Inspect, Format, Migrate, Copy}
 
 -- as many sectors as a ledger of the most slots has, and one at least
 abbrev pub AreSectors : Option ℕ → Type 0
@@ -13,6 +13,7 @@ abbrev pub IsWithin : Request → Type 0
 IsWithin (Run running) = AreSectors running.sectors
 IsWithin (Serve serving) = AreSectors serving.sectors × IfSome serving.format (λ slots. non_zero_u64_get slots ≤ 1000000)
     × IfSome serving.stations (λ count. (2 ≤ count) × (count ≤ 64))
+IsWithin (Close counter seconds) = seconds ≤ 86400
 IsWithin (Inspect inspection) = Unit {0}
 IsWithin (Format path formatting) = non_zero_u64_get formatting.slots ≤ 1000000
 IsWithin (Migrate copying) = non_zero_u64_get copying.formatting.slots ≤ 1000000

@@ -5,7 +5,7 @@ ghost use Rattle.clap.specs.declared.error.kind.ErrorKind.TheVariants.{OutOfMemo
 
 use crate::console_words::SCRIPT;
 use crate::option_table::{
-    ACCOUNT, FORMAT, FROM, REFERENCE, SECTORS, SLOTS, STATIONS, flag, option,
+    ACCOUNT, FORMAT, FROM, REFERENCE, SECONDS, SECTORS, SLOTS, STATIONS, flag, option,
 };
 use clap::{Arg, ArgAction, Command, Error};
 use ledger_inspection::Format;
@@ -28,6 +28,10 @@ a line on PATH/in, and reads an answer a line on PATH/out, in the order of its r
 is the number of the batch, 'refused REASON R', 'undecided R', 'balance A M', 'refused NoAccount', 'unknown since N',
 'wrong TEXT' and 'closing'. What was answered as posted outlives a power failure.";
 
+const CLOSING: &str = "\
+What was asked at the counter before is answered first. The status is 1 if no office has the counter.
+";
+
 const FILE: &str = "The file or the disk that has the ledger";
 
 const LOOKING: &str = "\
@@ -45,6 +49,7 @@ pub(crate) fn derbyfig_command<'a>(alloc: Global) -> Result<Command<'a>, Error>
         .subcommand_required(true)
         .subcommand(run(alloc)?)?
         .subcommand(serve(alloc)?)?
+        .subcommand(close(alloc)?)?
         .subcommand(check(alloc)?)?
         .subcommand(journal(alloc)?)?
         .subcommand(balances(alloc)?)?
@@ -107,6 +112,24 @@ fn serve<'a>(alloc: Global) -> Result<Command<'a>, Error>
     Ok(command)
 }
 
+fn close<'a>(alloc: Global) -> Result<Command<'a>, Error>
+    ensures memory { IfErr result (λ error. kind_of error ≡ OutOfMemory) }
+{
+    let command = Command::new(alloc, "close")
+        .about("Close the office that has a counter, and wait until it has ended")
+        .after_help(CLOSING)
+        .arg(positional(
+            alloc,
+            "COUNTER",
+            "The folder of a counter, as serve was given it",
+        ))?
+        .arg(SECONDS.arg(
+            alloc,
+            "How many seconds the office may take, 0 to 86400; 60 without it",
+        ))?;
+    Ok(command)
+}
+
 fn counter<'a>(alloc: Global) -> Arg<'a> {
     option(
         alloc,
@@ -128,7 +151,7 @@ fn check<'a>(alloc: Global) -> Result<Command<'a>, Error>
 fn journal<'a>(alloc: Global) -> Result<Command<'a>, Error>
     ensures memory { IfErr result (λ error. kind_of error ≡ OutOfMemory) }
 {
-    let about = "Print the records since the last checkpoint, and the balances after each";
+    let about = "Print the records of both banks, and the balances after each";
     let command = command_on_ledger(alloc, "journal", about)?
         .arg(FROM.arg(
             alloc,

@@ -16,7 +16,7 @@ use ledger_file::{
     Formatting, LedgerRefusal, copy_ledger, format_ledger, migrate_ledger, open_for_script,
 };
 use ledger_inspection::inspect_file;
-use office_engine::{Serving, Terminal, serve};
+use office_engine::{Serving, Terminal, close_office, serve};
 use program_ends::{Status, Watched, fail, tell_words, tell_wrong, unwritten};
 use script_streams::write_all;
 use sector_device::MemoryDevice;
@@ -66,6 +66,9 @@ pub fn run_derbyfig<
             )
         }
         Request::Serve(serving) => serve_counters(rt, alloc, &serving, terminal, writer, errors),
+        Request::Close { counter, seconds } => {
+            ended(alloc, close(rt, alloc, counter, seconds, writer), errors)
+        }
         Request::Inspect(wish) => inspect_file(rt, alloc, &wish, writer, errors, shows_progress),
         Request::Format { path, formatting } => {
             ended(alloc, make(rt, alloc, path, formatting, writer), errors)
@@ -157,6 +160,20 @@ fn serve_counters<
     match serve(rt, alloc, serving, plan, terminal, writer) {
         Ok(()) => Status::Done,
         Err(fault) => ended(alloc, Err(Fault::Office(fault)), errors),
+    }
+}
+
+// Closes the office that has a counter.
+fn close<'a, R: Files<File = File> + Clock, W: Write>(
+    rt: &R,
+    alloc: Global,
+    counter: &'a str,
+    seconds: u64,
+    writer: &mut W,
+) -> Result<(), Fault<'a>> {
+    match close_office(rt, alloc, counter, seconds) {
+        Ok(()) => say(alloc, "closed", writer),
+        Err(fault) => Err(Fault::Closing(fault)),
     }
 }
 

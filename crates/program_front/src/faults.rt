@@ -7,7 +7,7 @@ use console_engine::ScriptFault;
 use file_device::FileFault;
 use journal_recovery::{MigrateRefusal, OpenName, OpenRefusal};
 use ledger_file::{CopyRefusal, FormatRefusal, LedgerRefusal, PartFault};
-use office_engine::OfficeFault;
+use office_engine::{CloseFault, OfficeFault};
 use program_ends::Status;
 use std::fmt;
 use thiserror::Error;
@@ -65,6 +65,9 @@ pub enum Fault<'a> {
     /// An office wasn't kept open, or ended early.
     #[error("{0}")]
     Office(OfficeFault<'a>),
+    /// An office wasn't closed.
+    #[error("{0}")]
+    Closing(CloseFault<'a>),
 }
 
 impl<'a> Fault<'a> {
@@ -81,6 +84,7 @@ impl<'a> Fault<'a> {
             Fault::Migration(MigrationFault::Refused(refusal)) => Status::from(refusal),
             Fault::Migration(MigrationFault::NotEmpty) => Status::Refused,
             Fault::Office(fault) => fault.status(),
+            Fault::Closing(fault) => fault.status(),
             Fault::NoLedger { refusal, .. } => Status::from(refusal),
             Fault::Unread { .. } => Status::Failed,
         }

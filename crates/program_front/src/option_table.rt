@@ -53,6 +53,14 @@ pub(crate) const STATIONS: NumberOption = NumberOption {
     most: MOST_STATIONS,
 };
 
+/// How long something may take.
+pub(crate) const SECONDS: NumberOption = NumberOption {
+    name: "seconds",
+    value: "S",
+    least: 0,
+    most: 86_400,
+};
+
 /// From which record on.
 pub(crate) const FROM: NumberOption = NumberOption {
     name: "from",

@@ -17,6 +17,12 @@ pub enum Request<'a> {
         path: &'a str,
         formatting: Formatting,
     },
+    /// To close the office that has the counter with this folder.
+    Close {
+        counter: &'a str,
+        /// How long the office may take, 0 to 86,400.
+        seconds: u64,
+    },
     /// To copy a ledger of an older layout.
     Migrate(Copying<'a>),
     /// To copy a ledger of the present one.

@@ -4,7 +4,9 @@ ghost use Rattle.std.specs.Int.NonZero.{non_zero_u64_get};
 ghost use Rattle.program_front.specs.Requests.{IsWithin};
 
 use crate::commands::derbyfig_command;
-use crate::option_table::{ACCOUNT, FORMAT, FROM, OutOfRange, REFERENCE, SECTORS, SLOTS, STATIONS};
+use crate::option_table::{
+    ACCOUNT, FORMAT, FROM, OutOfRange, REFERENCE, SECONDS, SECTORS, SLOTS, STATIONS,
+};
 use crate::request::{Copying, Request, Running};
 use clap::error::ErrorKind;
 use clap::{ArgMatches, Error};
@@ -73,6 +75,7 @@ fn requested<'a>(alloc: Global, matches: &ArgMatches<'a>) -> Result<Request<'a>,
     match name {
         "run" => running(options),
         "serve" => serving(alloc, options),
+        "close" => closing(options),
         "format" => making(options),
         "migrate" => {
             let copying = copying(options, "OLD", WrongWord::NewIsOld)?;
@@ -123,6 +126,17 @@ fn serving<'a>(alloc: Global, options: &ArgMatches<'a>) -> Result<Request<'a>, W
         format,
         overwrite: options.get_flag("overwrite"),
     }))
+}
+
+// How long an office may take to close, unless that is said.
+const PATIENCE: u64 = 60;
+
+fn closing<'a>(options: &ArgMatches<'a>) -> Result<Request<'a>, WrongWord>
+    ensures within { IfOk result IsWithin }
+{
+    let counter = path(options, "COUNTER")?;
+    let seconds = SECONDS.given(options)?.unwrap_or(PATIENCE);
+    Ok(Request::Close { counter, seconds })
 }
 
 fn making<'a>(options: &ArgMatches<'a>) -> Result<Request<'a>, WrongWord>
