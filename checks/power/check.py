@@ -9,7 +9,6 @@ import os
 import pathlib
 import random
 import shutil
-import signal
 import sys
 import time
 
@@ -20,13 +19,13 @@ import counters
 import cuts
 import disks
 import initramfs
-from machine import Kit, with_accelerator
+from machine import Kit, end_if_told, with_accelerator
 from recordings import record
 from replays import Programs, replay
 from rounds import Mismatch
 from rows import CONTROLS, CUTS, MEASURED, ROWS
 
-HEAD = ("| What | Of | Disk | Crashes | Behind something told | Lost |", "|---|---|---|---|---|---|")
+HEAD = ("| On | Told | The disk | Crashes | Behind something told | Lost |", "|---|---|---|---|---|---|")
 
 
 class Report:
@@ -85,7 +84,8 @@ class Run:
 
     def replay(self, row):
         recording = self.recordings[row.recorded()]
-        outcome = replay(recording, row.kind, row.count * self.words.times, self.words.seed, self.programs)
+        count = row.count if row.loses or row.layout == disks.XFS else row.count * self.words.times
+        outcome = replay(recording, row.kind, count, self.words.seed, self.programs)
         self.report.row(row, outcome, told_in(recording))
 
     def cut(self):
@@ -140,15 +140,14 @@ def parsed():
         is_program = name in ("console", "derbyfig", "busybox")
         parser.add_argument(name, type=str if is_program else pathlib.Path, help=told)
     parser.add_argument("--seed", type=int, default=1)
-    parser.add_argument("--times", type=int, default=1, help="so many times as many crashes out of recordings")
+    parser.add_argument("--times", type=int, default=1, help="so many times as many crashes, but for xfs and controls")
     parser.add_argument("--cuts", type=int, default=1, help="so many times as many cuts")
     return parser.parse_args()
 
 
 def main():
     words, start = parsed(), time.monotonic()
-    # so that an end from outside ends what was started too
-    signal.signal(signal.SIGTERM, lambda *_: sys.exit("it was ended from outside"))
+    end_if_told()
     run = Run(words)
     print(f"machines by {run.kit.accelerator}; seed {words.seed}", flush=True)
     try:

@@ -52,7 +52,7 @@ class Counters:
     round: int = 0
     clients: list = dataclasses.field(default_factory=list)
 
-    name = "counters of an office"
+    name = "answers to counters"
 
     def prepare(self, machine, layout):
         """Nothing: the ledger is made within the work."""

@@ -5,9 +5,9 @@ import subprocess
 
 from rounds import Mismatch
 
-# How long a disk is, 8 MiB, and one for xfs, which takes no smaller one.
+# How long a disk is, and one for xfs, which takes one of this size only if it is said that nobody supports it.
 SIZE = 8 << 20
-XFS_SIZE = 300 << 20
+XFS_SIZE = 16 << 20
 
 
 def volatile(name):
@@ -40,7 +40,7 @@ class Layout:
     def make(self, path):
         with open(path, "wb") as image:
             image.truncate(self.size())
-        words = {"ext4": ["mkfs.ext4", "-q", "-b", "4096"], "xfs": ["mkfs.xfs", "-q"]}.get(self.system)
+        words = {"ext4": ["mkfs.ext4", "-q", "-b", "4096"], "xfs": ["mkfs.xfs", "-q", "--unsupported"]}.get(self.system)
         if words:
             run([*words, path])
 

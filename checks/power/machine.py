@@ -3,8 +3,10 @@ import contextlib
 import dataclasses
 import os
 import pathlib
+import signal
 import socket
 import subprocess
+import sys
 import tempfile
 import time
 
@@ -46,11 +48,16 @@ class Kit:
 class Machine:
     """A machine that is on, and its disk."""
 
+    # the machines that are on, and whether all are to be ended
+    all_on, is_over = set(), False
+
     def __init__(self, kit, disk, state=None, patience=PATIENCE):
+        require(not Machine.is_over, "no machine starts any more")
         self.folder = tempfile.TemporaryDirectory(prefix="machine.", dir=kit.folder)
         self.names = kit.names()
         listeners = [self.listener(name) for name in self.names]
-        self.run = subprocess.Popen([*self.words(kit, state), *disk], stdin=subprocess.DEVNULL, start_new_session=True)
+        self.run = subprocess.Popen([*self.words(kit, state), *disk], stdin=subprocess.DEVNULL)
+        Machine.all_on.add(self.run)
         self.read = b""
         try:
             self.ports = dict(zip(self.names, map(self.accepted, listeners)))
@@ -158,13 +165,31 @@ class Machine:
                 self.read += piece
         return self.read
 
+    @staticmethod
+    def end_all():
+        """Ends what was started, where an end comes from outside."""
+        Machine.is_over = True
+        for run in list(Machine.all_on):
+            run.kill()
+
     def end(self):
         if self.run.poll() is None:
             self.run.kill()
         self.run.wait()
+        Machine.all_on.discard(self.run)
         for port in getattr(self, "ports", {}).values():
             port.close()
         self.folder.cleanup()
+
+
+def end_if_told():
+    """Ends all machines, and the program, where it is ended from outside."""
+    def end(*_):
+        Machine.end_all()
+        sys.exit("it was ended from outside")
+
+    for ended_by in (signal.SIGTERM, signal.SIGINT, signal.SIGHUP):
+        signal.signal(ended_by, end)
 
 
 def with_accelerator(kit, disk):

@@ -3,6 +3,7 @@ with what was told when the crash came."""
 import collections
 import concurrent.futures
 import dataclasses
+import multiprocessing
 import os
 import pathlib
 import random
@@ -98,7 +99,7 @@ def replay(recording, kind, count, seed, programs):
     """So many crashes, by as many processes as there are processors."""
     processes = os.cpu_count()
     outcome = Outcome()
-    with concurrent.futures.ProcessPoolExecutor(processes) as pool:
+    with concurrent.futures.ProcessPoolExecutor(processes, multiprocessing.get_context("fork")) as pool:
         shares = [pool.submit(share, recording, kind, range(first, count, processes), seed, programs)
                   for first in range(processes)]
         for done in shares:
