@@ -44,4 +44,5 @@ trap 'rm -rf "$work"' EXIT
 cc -O1 -Wall -Wextra -shared -fPIC -o "$work/unsynced.so" checks/power/unsynced.c
 echo "kernel ${images[0]##*/vmlinuz-}; $(qemu-system-x86_64 --version | head -n 1); $(mkfs.ext4 -V 2>&1 | head -n 1)"
 mkdir "$work/run"
-python3 checks/power/check.py "$console" "$derbyfig" "$work/unsynced.so" "$work/run" "$kernel" "$(command -v busybox)" "${@:3}"
+python3 checks/power/check.py "$console" "$derbyfig" "$work/unsynced.so" "$work/run" "$kernel" \
+    "$(command -v busybox)" "${@:3}"

@@ -57,7 +57,8 @@ class Pair:
         words = disks.logged(disk, self.log(number)) if self.is_logged else disks.plain(disk)
         words += wire(self.wire(number), self.wire(1 - number), number + 1)
         machine = self.machines[number] = Machine(self.kit, words)
-        machine.ask(f"hostname {NAMES[number]}; ip link set lo up; ip addr add 10.0.0.{number + 1}/24 dev eth0; ip link set eth0 up")
+        machine.ask(f"hostname {NAMES[number]}; ip addr add 10.0.0.{number + 1}/24 dev eth0")
+        machine.ask("ip link set lo up; ip link set eth0 up")
         machine.ask("mkdir -p /var/lib/drbd /var/run /var/lock /run/lock /dev/vg; ln -s /dev/vda /dev/vg/ledger")
         if self.protocol != "C":
             # with fencing DRBD refuses protocol A

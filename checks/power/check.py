@@ -100,18 +100,24 @@ class Run:
         moments = random.Random(f"{self.words.seed} cuts {number}")
         return cuts.series(self.kit, f"cuts_{number}", work_of, row.count * self.words.cuts, row.preload, moments)
 
-    def all(self):
+    def crash(self):
+        """Makes the recordings, and crashes out of them."""
         why = without_xfs()
         rows = [row for row in ROWS + CONTROLS + MEASURED if row.layout != disks.XFS or not why]
         for row in rows:
             self.kit.state_for(row.layout.size())
-        print("\n".join(HEAD), flush=True)
-        self.cut()
         self.record(rows)
         for row in rows:
             self.replay(row)
         if why:
             print(f"not tried: xfs, {why}", flush=True)
+
+    def all(self):
+        self.kit.state_for(disks.SIZE)
+        print("\n".join(HEAD), flush=True)
+        for part in (self.cut, self.crash):
+            if self.words.only in part.__name__:
+                part()
 
 
 def told_in(recording):
@@ -141,6 +147,7 @@ def parsed():
         parser.add_argument(name, type=str if is_program else pathlib.Path, help=told)
     parser.add_argument("--seed", type=int, default=1)
     parser.add_argument("--times", type=int, default=1, help="so many times as many crashes, but for xfs and controls")
+    parser.add_argument("--only", default="", choices=("cut", "crash"), help="the cuts alone, or what is recorded")
     parser.add_argument("--cuts", type=int, default=1, help="so many times as many cuts")
     return parser.parse_args()
 

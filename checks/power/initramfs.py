@@ -86,7 +86,7 @@ def libraries_of(program):
 
 
 def make(target, ports, kernel_modules, busybox, files, modules=MODULES):
-    """Writes the file. `files` names what lies at each path, programs with their libraries. The agent waits for the ports."""
+    """Writes the file. `files` names what lies at each path; programs bring their libraries. The agent waits for ports."""
     archive = Archive()
     archive.file("init", INIT.encode())
     archive.file("ports", "".join(f"{name}\n" for name in ports).encode())

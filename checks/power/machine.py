@@ -40,7 +40,6 @@ class Kit:
             blank.unlink()
         return state
 
-
     def names(self):
         return "agent", "bytes", *self.ports
 
@@ -55,7 +54,7 @@ class Machine:
         require(not Machine.is_over, "no machine starts any more")
         self.folder = tempfile.TemporaryDirectory(prefix="machine.", dir=kit.folder)
         self.names = kit.names()
-        listeners = [self.listener(name) for name in self.names]
+        listeners = [self.listener(name, patience) for name in self.names]
         self.run = subprocess.Popen([*self.words(kit, state), *disk], stdin=subprocess.DEVNULL)
         Machine.all_on.add(self.run)
         self.read = b""
@@ -79,11 +78,11 @@ class Machine:
                       "-device", f"virtserialport,chardev={name},name={name}"]
         return words + (["-incoming", f"exec:cat {state}"] if state else [])
 
-    def listener(self, name):
+    def listener(self, name, patience):
         listener = socket.socket(socket.AF_UNIX)
         listener.bind(f"{self.folder.name}/{name}")
         listener.listen()
-        listener.settimeout(PATIENCE)
+        listener.settimeout(patience)
         return listener
 
     def accepted(self, listener):
@@ -200,5 +199,5 @@ def with_accelerator(kit, disk):
     try:
         with Machine(by_kvm, disk, patience=TRIED):
             return by_kvm
-    except Mismatch:
+    except (Mismatch, OSError):
         return kit
