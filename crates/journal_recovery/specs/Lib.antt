@@ -12,3 +12,4 @@ pub mod RecoveryLaws
 pub mod Migration
 pub mod Postings
 pub mod Earlier
+pub mod LookBack
