@@ -13,3 +13,4 @@ pub mod Migration
 pub mod Postings
 pub mod Earlier
 pub mod LookBack
+pub mod LookBackLaws
