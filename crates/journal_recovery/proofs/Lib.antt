@@ -11,3 +11,4 @@ mod OldStanding
 mod OneOldRecovery
 mod Migrated
 mod Leading
+mod InSight

@@ -13,4 +13,5 @@ pub mod Migration
 pub mod Postings
 pub mod Earlier
 pub mod LookBack
+pub mod Sight
 pub mod LookBackLaws

@@ -18,6 +18,7 @@ mod postings;
 mod recovery;
 mod refusals;
 mod replay;
+mod sight;
 
 pub use copying::copy;
 pub use earlier::find_earlier;
@@ -31,4 +32,5 @@ pub use postings::may_hold_postings;
 pub use recovery::{Recovered, recover};
 pub use refusals::{Cause, OpenName, OpenRefusal};
 pub use sector_device::{Device, DeviceFault};
+pub use sight::{first_in_sight, read_in_sight};
 pub use turn_ledger::Ledger;
