@@ -11,4 +11,3 @@ mod OldStanding
 mod OneOldRecovery
 mod Migrated
 mod Leading
-mod InSight

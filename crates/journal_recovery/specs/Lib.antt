@@ -14,4 +14,5 @@ pub mod Postings
 pub mod Earlier
 pub mod LookBack
 pub mod Sight
+pub mod EarlierLaws
 pub mod LookBackLaws
