@@ -6,5 +6,5 @@ ask north 'deposit 1 500 71'
 ask south 'transfer 1 2 200'
 ask south 'transfer 2 1 900'
 ask north 'balance 2'
-ask south 'find 71'
+ask south 'find 71' && read -r answer < south/out && echo "south: $answer"
 ask north 'close' && wait

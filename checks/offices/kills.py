@@ -136,7 +136,7 @@ def one_kill(case, first, moments, slots):
 
 def require_goes_on(case, counters, reference):
     """That the file opens with what it holds, and takes another posting."""
-    rows, held, base = case.rows(), case.balances(), case.base()
+    rows, held = case.rows(), case.balances()
     with case.office(counters) as office:
         opening, = office.opened(*counters)
         batches = int(opening.split()[3])
@@ -144,9 +144,11 @@ def require_goes_on(case, counters, reference):
         last = counters[-1]
         if rows:
             require_same(batches, rows[-1].sequence + 1, "the number of the next batch")
-        if rows and rows[-1].sequence >= base:  # a search looks at the live bank alone
-            wanted = [f"posted {rows[-1].sequence} {rows[-1].reference}"]
-            require_same(last.ask(f"find {rows[-1].reference}"), wanted, "the last reference before the kill")
+        if rows:
+            wanted = [f"posted {rows[-1].sequence} {rows[-1].reference}", f"found 1 since {rows[0].sequence}"]
+            require_same(last.ask(f"find {rows[-1].reference}", 2), wanted, "the last reference before the kill")
+            posted = f"posted {rows[0].sequence} {rows[0].reference}"
+            require_same(last.ask(f"find {rows[0].reference}", 2)[0], posted, "the first reference in sight")
         require_same(last.ask(f"deposit 1 1 {reference}"), [f"posted {batches} {reference}"], "a posting behind the kill")
         require_same(last.ask("balance 1"), [f"balance 1 {held.get(1, 0) + 1}"], "a balance behind the kill")
         require_same(last.ask("close"), ["closing"], "the answer to close")

@@ -302,11 +302,6 @@ class Case:
         _, *lines = csv.reader(io.StringIO(run.stdout.decode()))
         return lines
 
-    def base(self):
-        """The sequence of the live bank's first record."""
-        run = subprocess.run([self.program, "check", self.device], capture_output=True, check=False, text=True)
-        return next(int(line.split()[1]) for line in run.stdout.splitlines() if line.startswith("base "))
-
     def rows(self):
         """The entries that the file holds."""
         return [

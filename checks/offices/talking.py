@@ -19,11 +19,11 @@ TALK = (
     (b"balance 0", "refused NoAccount"),
     (b"deposit 7 9 4711", "posted 3 4711"),
     (b"deposit 7 1 4711", "posted 4 4711"),
-    (b"find 4711", "posted 3 4711", "posted 4 4711"),
-    (b"find 12", "unknown since 0"),
+    (b"find 4711", "posted 3 4711", "posted 4 4711", "found 2 since 0"),
+    (b"find 12", "found 0 since 0"),
     (b"withdraw 7 11", "refused Short 13"),
     (b"withdraw 7 11 50", "refused Short 50"),
-    (b"find 50", "unknown since 0"),
+    (b"find 50", "found 0 since 0"),
     (b"deposit 1 0", "refused ZeroAmount 16"),
     (b"withdraw 1025 5", "refused NoAccount 17"),
     (b"transfer 2 2 5 77", "refused SameAccount 77"),
@@ -37,8 +37,8 @@ TALK = (
     (b"deposit 3 4 0", "posted 6 0"),
     (b"deposit 3 4 18446744073709551615", "posted 7 18446744073709551615"),
     (b"deposit 3 4 18446744073709551616", "wrong bad number"),
-    (b"find 18446744073709551615", "posted 7 18446744073709551615"),
-    (b"find 0", "posted 6 0"),
+    (b"find 18446744073709551615", "posted 7 18446744073709551615", "found 1 since 0"),
+    (b"find 0", "posted 6 0", "found 1 since 0"),
     (b"chart 1", "wrong unknown command"),
     (b"Deposit 1 1", "wrong unknown command"),
     (b"deposit 1", "wrong wrong number of words"),
@@ -125,7 +125,7 @@ def one_after_another(case):
     with case.office([client]) as office:
         require_same(office.opened(client), ["opened 2 next 11 total 400"], "the second opening")
         require_same(client.ask("balance 1"), ["balance 1 310"], "a balance of the second opening")
-        require_same(client.ask("find 4711", 2), ["posted 3 4711", "posted 4 4711"], "a reference of the first opening")
+        require_same(client.ask("find 4711", 3), ["posted 3 4711", "posted 4 4711", "found 2 since 0"], "a reference of the first opening")
         require_same(client.ask("deposit 2 20"), ["posted 11 3"], "a posting of the second opening")
         require_same(client.ask("close"), ["closing"], "the answer to close")
         require_same(office.closed(), [], "what is unanswered")
@@ -156,15 +156,22 @@ def all_at_once(case):
 
 
 def behind_a_checkpoint(case):
-    """On banks of two slots a reference is found among the records since the last checkpoint."""
+    """On banks of two slots a reference is found in both banks, also by an office that didn't make the checkpoint."""
     client, = case.counters(1)
     with case.formatted([client], 2) as office:
         office.opened(client)
         for number in range(5):
             require_same(client.ask("deposit 1 1"), [f"posted {number} {number + 1}"], "a posting")
-        require_same(client.ask("find 5"), ["posted 4 5"], "a reference behind the checkpoint")
-        require_same(client.ask("find 1"), ["unknown since 4"], "a reference before it")
+        require_same(client.ask("find 5", 2), ["posted 4 5", "found 1 since 2"], "a reference behind the checkpoint")
+        require_same(client.ask("find 3", 2), ["posted 2 3", "found 1 since 2"], "a reference of the bank before it")
+        require_same(client.ask("find 1"), ["found 0 since 2"], "a reference before both banks")
         require_same(client.ask("balance 1"), ["balance 1 5"], "a balance")
+        require_same(client.ask("close"), ["closing"], "the answer to close")
+        office.closed()
+    client.leave()
+    with case.office([client]) as office:
+        office.opened(client)
+        require_same(client.ask("find 3", 2), ["posted 2 3", "found 1 since 2"], "a reference of the bank before the checkpoint")
         require_same(client.ask("close"), ["closing"], "the answer to close")
         office.closed()
 

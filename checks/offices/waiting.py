@@ -29,7 +29,7 @@ def asks_questions_alone(case):
         office.opened(*clients)
         for number in range(20):
             require_same(one.ask(f"balance {number + 1}"), [f"balance {number + 1} 0"], "a balance")
-            require_same(other.ask(f"find {number}"), ["unknown since 0"], "a reference")
+            require_same(other.ask(f"find {number}"), ["found 0 since 0"], "a reference")
         require_same(one.ask("close"), ["closing"], "the answer to close")
         require_same(office.closed(), [], "what is unanswered")
         require("closed after 0 turns" in office.printed(), f"it prints {office.printed()}")

@@ -1,12 +1,13 @@
 -- What an office is asked of its ledger while it is open.
-use Rattle.std.specs.Prelude.{◌≡◌, ◌≤◌, ◌↔◌, ℕ, true, false, length, IsTrue, Result, Ok, Err, IfOk, Some}
+use Rattle.std.specs.Prelude.{◌≢◌, ◌≡◌, ◌≤◌, ◌↔◌, ℕ, true, false, length, IsTrue, Result, Ok, Err, IfOk, Some}
 use Rattle.sector_device.specs.Device.{DeviceState, AreCalls}
 use Rattle.sector_device.specs.Crash.{LooksOnly}
 use Rattle.four_state.specs.Configuration.{Configuration}
 use Rattle.turn_ledger.specs.State.{IsAccount, balance_of}
 use Rattle.turn_clerk.specs.Clerk.{ClerkState, KeepsHistory}
-use Rattle.turn_clerk.specs.Found.{IsNumbered, HasFound}
+use Rattle.turn_clerk.specs.Found.{IsNumberedFromSome, HasFound}
 use Rattle.turn_clerk.specs.declared.searching.Found.{Found}
+use Rattle.turn_clerk.specs.declared.searching.Found.TheVariants.{LookingBack}
 use Rattle.turn_clerk.specs.declared.refusals.FindRefusal.{FindRefusal}
 use Rattle.turn_clerk.specs.declared.refusals.FindRefusal.TheVariants as find
 use Rattle.line_lock.specs.OpenedOn.{WasOpenedOn}
@@ -60,8 +61,8 @@ pub record WasSearched {D : Type 0} (state : D
   pub after : D
   pub call : AreCalls (state clerk.journal.device) (state after) (answer ≡ Err find.Device)
   pub faulted : (answer ≡ Err find.Faulted) ↔ IsTrue clerk.journal.faulted
-  pub numbered : IfOk answer (IsNumbered clerk.journal first)
+  pub numbered : IfOk answer (λ found. found ≢ LookingBack → IsNumberedFromSome clerk.journal first found)
   pub note : new ≡ searched old answer
   -- on an honest device
   pub looks : LooksOnly (state clerk.journal.device) (state after)
-  pub found : device.honest → IfOk answer (HasFound state clerk reference first)
+  pub found : device.honest → IfOk answer (λ found. found ≢ LookingBack → HasFound state clerk reference first found)

@@ -1,5 +1,5 @@
 -- What a counter says and is told, message by message and response by response.
-use Rattle.std.specs.Prelude.{◌≡◌, ◌+◌, ◌^◌, ◌<◌, ℕ, Bool, true, false, List, [], ◌∷◌, ◌++◌, map, filter, Option, Some, None, Result, Ok, Err}
+use Rattle.std.specs.Prelude.{◌≡◌, ◌+◌, ◌-◌, ◌^◌, ◌<◌, ℕ, Bool, true, false, min, List, [], ◌∷◌, ◌++◌, map, filter, Option, Some, None, Result, Ok, Err}
 use Rattle.std.specs.List.{flat_map}
 use Rattle.turn_ledger.specs.declared.entry.Entry.{Entry}
 use Rattle.turn_ledger.specs.Entry.{reference_of}
@@ -39,7 +39,7 @@ is_answer (response.Undecided reference) = true
 is_answer (response.Found number reference) = false
 is_answer (response.Balance account amount) = false
 is_answer (response.NoBalance refusal) = false
-is_answer (response.Unknown since) = false
+is_answer (response.FoundInAll count since) = false
 is_answer (response.NotFound refusal) = false
 is_answer response.Closed = false
 is_answer (response.Wrong wrong) = false
@@ -74,7 +74,7 @@ abbrev pub IsResponseTo : Message → Response → Type 0
 IsResponseTo (Asked (request.Balance account)) (response.Balance named amount) = named ≡ account
 IsResponseTo (Asked (request.Balance account)) (response.NoBalance refusal) = Unit {0}
 IsResponseTo (Asked (request.Find reference)) (response.Found number named) = named ≡ reference
-IsResponseTo (Asked (request.Find reference)) (response.Unknown since) = Unit {0}
+IsResponseTo (Asked (request.Find reference)) (response.FoundInAll count since) = Unit {0}
 IsResponseTo (Asked (request.Find reference)) (response.NotFound refusal) = Unit {0}
 IsResponseTo (Asked request.Help) response.Help = Unit {0}
 IsResponseTo (Asked request.Close) response.Closing = Unit {0}
@@ -86,13 +86,18 @@ abbrev pub told_of_balance : ℕ → Result ℕ BalanceRefusal → Response
 told_of_balance account (Ok amount) = response.Balance account amount
 told_of_balance account (Err refusal) = response.NoBalance refusal
 
--- what it is told of a step of its search, which found something before or didn't
-abbrev pub told_of_step : Bool → ℕ → Result Found FindRefusal → Option Response
+-- what it is told of a step of its search, which found that many records before
+abbrev pub told_of_step : ℕ → ℕ → Result Found FindRefusal → Option Response
 told_of_step before reference (Ok (found.Posted number)) = Some (response.Found number reference)
 told_of_step before reference (Ok (found.Further number)) = None
-told_of_step true reference (Ok (found.Nowhere since)) = None
-told_of_step false reference (Ok (found.Nowhere since)) = Some (response.Unknown since)
+told_of_step before reference (Ok (found.Nowhere since)) = Some (response.FoundInAll before since)
+told_of_step before reference (Ok found.LookingBack) = None
 told_of_step before reference (Err refusal) = Some (response.NotFound refusal)
+
+-- how many it found with that step
+abbrev pub found_with : ℕ → Result Found FindRefusal → ℕ
+found_with before (Ok (found.Posted number)) = min (before + 1) (2 ^ 64 - 1)
+found_with before _ = before
 
 -- The question is the one that the message asks, whose search has come to that record.
 abbrev pub IsQuestionOf : Message → ℕ → Question → Type 0
@@ -100,17 +105,20 @@ IsQuestionOf (Asked (request.Balance account)) from (question.Balance named) = n
 IsQuestionOf (Asked (request.Find reference)) from (question.Find named first) = (named ≡ reference) × (first ≡ from)
 IsQuestionOf _ from _ = ⊥
 
--- Where the next step of a search begins: behind the record that was found, and else where this step ended.
-abbrev pub MeetsAt : Found → ℕ → Type 0
-MeetsAt (found.Posted number) next = number + 1 < 2 ^ 64 → next ≡ number + 1
-MeetsAt (found.Further number) next = next ≡ number
-MeetsAt (found.Nowhere since) next = Unit {0}
+-- Where the next step of a search begins: behind the record that was found, or where this step ended, or where it began
+-- if it looked at none.
+abbrev pub MeetsAt : ℕ → Found → ℕ → Type 0
+MeetsAt from (found.Posted number) next = number + 1 < 2 ^ 64 → next ≡ number + 1
+MeetsAt from (found.Further number) next = next ≡ number
+MeetsAt from (found.Nowhere since) next = Unit {0}
+MeetsAt from found.LookingBack next = next ≡ from
 
 -- A search ends where nothing more is found, and where it failed.
 abbrev pub IsLast : Result Found FindRefusal → Type 0
 IsLast (Ok (found.Posted number)) = ⊥
 IsLast (Ok (found.Further number)) = ⊥
 IsLast (Ok (found.Nowhere since)) = Unit {0}
+IsLast (Ok found.LookingBack) = ⊥
 IsLast (Err refusal) = Unit {0}
 
 -- A conversation at one moment: every message that was taken from the counter's reader, every response that was handed

@@ -17,7 +17,7 @@ withdraw A M [R]      M units from account A
 transfer A B M [R]    M units from account A to account B
 seal A [R]            account A keeps what it holds for good, and no later entry may name it
 balance A             what account A holds, after all that was asked here before
-find R                under which numbers entries of reference R were posted
+find R                in which batches reference R was posted, and how far back one sees
 help                  these requests
 close                 the office closes
 Accounts have numbers from 1 to 1024. R is the entry's reference, and without it the line's number.";
@@ -51,8 +51,9 @@ pub enum Response {
     },
     /// Why a balance isn't told.
     NoBalance(BalanceRefusal),
-    /// No entry of the reference was found in any batch from this number on.
-    Unknown {
+    /// How many batches have an entry of the looked-for reference, of all from this number on.
+    FoundInAll {
+        count: u64,
         since: u64,
     },
     /// Why a reference wasn't looked for to the end.
@@ -119,7 +120,7 @@ impl fmt::Display for Response {
             Response::Undecided { reference } => write!(f, "undecided {reference}"),
             Response::Balance { account, amount } => write!(f, "balance {account} {amount}"),
             Response::NoBalance(refusal) => write!(f, "refused {refusal:?}"),
-            Response::Unknown { since } => write!(f, "unknown since {since}"),
+            Response::FoundInAll { count, since } => write!(f, "found {count} since {since}"),
             Response::NotFound(refusal) => write!(f, "refused {refusal:?}"),
             Response::Closed => f.write_str("refused Closed"),
             Response::Wrong(wrong) => write!(f, "wrong {wrong}"),

@@ -1,8 +1,8 @@
 //! A search for a reference, step by step.
-ghost use Rattle.std.specs.Prelude.{◌≡◌, ◌↔◌, ℕ, true, false, IsTrue, IfOk, IfSome, Ok};
+ghost use Rattle.std.specs.Prelude.{◌≡◌, ◌↔◌, false, IsTrue, IfOk, IfSome};
 ghost use Rattle.script_grammar.specs.declared.requests.Request.TheVariants.{Find};
 ghost use Rattle.live_office.specs.declared.messages.Message.TheVariants.{Asked};
-ghost use Rattle.live_office.specs.Conversation.{is_answer, told_of_step, IsResponseTo, MeetsAt, IsLast};
+ghost use Rattle.live_office.specs.Conversation.{is_answer, told_of_step, found_with, IsResponseTo, MeetsAt, IsLast};
 
 use crate::responses::Response;
 use line_lock::{FindRefusal, Found};
@@ -13,8 +13,8 @@ use station_desk::Question;
 pub(crate) struct Search {
     // The number of the record that is looked at next.
     from: u64,
-    // Whether a record with the reference was found.
-    has_found: bool,
+    // How many records with the reference were found.
+    count: u64,
 }
 
 /// What comes of one step.
@@ -26,11 +26,19 @@ pub(crate) struct Step {
     pub is_last: bool,
 }
 
+impl Step {
+    // A step of which nothing is told.
+    const UNDER_WAY: Step = Step {
+        response: None,
+        is_last: false,
+    };
+}
+
 impl Search {
     /// A search that begins with the first record.
     pub(crate) const BEGINNING: Search = Search {
         from: 0,
-        has_found: false,
+        count: 0,
     };
 
     /// What is asked next.
@@ -47,14 +55,14 @@ impl Search {
     pub(crate) fn go_on(&mut self, reference: u64, found: Result<Found, FindRefusal>) -> Step
         ensures other { IfSome result.response (λ response. is_answer response ≡ false) }
         ensures right { IfSome result.response (IsResponseTo (Asked (Find reference))) }
-        ensures meets { IfOk found (λ step. MeetsAt step self.new.from) }
-        ensures told { result.response ≡ told_of_step self.old.has_found reference found }
-        ensures noted { (number : ℕ) → found ≡ Ok (Found.Posted number) → self.new.has_found ≡ true }
+        ensures meets { IfOk found (λ step. MeetsAt self.old.from step self.new.from) }
+        ensures told { result.response ≡ told_of_step self.old.count reference found }
+        ensures counted { self.new.count ≡ found_with self.old.count found }
         ensures last { IsTrue result.is_last ↔ IsLast found }
     {
         match found {
             Ok(Found::Posted(number)) => {
-                self.has_found = true;
+                self.count = self.count.saturating_add(1);
                 self.from = number.saturating_add(1);
                 Step {
                     response: Some(Response::Found { number, reference }),
@@ -63,13 +71,14 @@ impl Search {
             }
             Ok(Found::Further(number)) => {
                 self.from = number;
-                Step {
-                    response: None,
-                    is_last: false,
-                }
+                Step::UNDER_WAY
             }
+            Ok(Found::LookingBack) => Step::UNDER_WAY,
             Ok(Found::Nowhere(since)) => Step {
-                response: self.unknown(since),
+                response: Some(Response::FoundInAll {
+                    count: self.count,
+                    since,
+                }),
                 is_last: true,
             },
             Err(refusal) => Step {
@@ -77,18 +86,5 @@ impl Search {
                 is_last: true,
             },
         }
-    }
-
-    // What is told where nothing more is found.
-    fn unknown(&self, since: u64) -> Option<Response>
-        ensures other { IfSome result (λ response. is_answer response ≡ false) }
-        ensures right { (reference : ℕ) → IfSome result (IsResponseTo (Asked (Find reference))) }
-        ensures told { (reference : ℕ)
-            → result ≡ told_of_step self.now.has_found reference (Ok (Found.Nowhere since)) }
-    {
-        if self.has_found {
-            return None;
-        }
-        Some(Response::Unknown { since })
     }
 }

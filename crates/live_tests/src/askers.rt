@@ -122,6 +122,6 @@ fn each_counter_is_told_what_it_asked(rt: HostRuntime) -> Result<(), Fail> {
         Err((_, refusal)) => panic!(rt; "{refusal}"),
     }
     assert!(rt; is_answered_so(&mut balances, b"balance 1 0\n")?);
-    assert!(rt; is_answered_so(&mut searches, b"unknown since 0\n")?);
+    assert!(rt; is_answered_so(&mut searches, b"found 0 since 0\n")?);
     Ok(())
 }

@@ -75,7 +75,8 @@ balance 2 200
 refused NoAccount
 posted 0 7
 posted 1 7
-unknown since 0
+found 2 since 0
+found 0 since 0
 wrong unknown command
 wrong wrong number of words
 posted 2 9
@@ -151,7 +152,7 @@ fn told_beside_a_fault<R: Files + Threads + Wait + Clock + Sync + Send + Clone +
         return Ok(None);
     }
     let mut told = String::new(alloc);
-    for _ in 0..4 {
+    for _ in 0..5 {
         read_line(&mut answers, &mut told)?;
     }
     Ok(Some(told))
@@ -165,11 +166,13 @@ fn a_read_that_fails_within_a_search_is_told(rt: HostRuntime) -> Result<(), Fail
         let Some(told) = told_beside_a_fault(&rt, rt.alloc(), read)? else {
             continue;
         };
-        let is_found = told.as_str() == "posted 0 7\nposted 0 7\nbalance 1 5\nclosing\n";
+        let found = "posted 0 7\nposted 0 7\nfound 1 since 0\nbalance 1 5\nclosing\n";
+        let is_found = told.as_str() == found;
         let has_failed = told.as_str() == "posted 0 7\nrefused Device\nbalance 1 5\nclosing\n";
         assert!(rt; is_found || has_failed);
         failed = failed.saturating_add(has_failed as u64);
     }
-    assert!(rt; failed == 1);
+    // the gate of the other bank, and the record
+    assert!(rt; failed == 2);
     Ok(())
 }

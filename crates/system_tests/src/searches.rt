@@ -51,10 +51,12 @@ fn noted(
     ))
 }
 
-// The calls from that one on are reads of the bodies of these records, in order, one each, and no others.
-fn expect_reads(rt: &impl Abort, calls: &[Call], from: usize, steps: &[(u64, u64)]) {
+// The calls from that one on are a read of the second bank's gate, which is closed, and then reads of the bodies of these
+// records, in order, one each, and no others.
+fn expect_reads(rt: &impl Abort, calls: &[Call], from: usize, slots: u64, steps: &[(u64, u64)]) {
     assert!(rt; from <= calls.len());
     let mut rest = calls[from..].iter();
+    assert!(rt; rest.next() == Some(&Call::Read(second(slots).gate)));
     for (first, end) in steps {
         assert!(rt; *end <= 1_000_000);
         for number in *first..*end {
@@ -67,7 +69,8 @@ fn expect_reads(rt: &impl Abort, calls: &[Call], from: usize, steps: &[(u64, u64
     assert!(rt; rest.next().is_none());
 }
 
-// A search looks at 256 records, or up to the one that it finds, and reads the body of each once and nothing else.
+// A search looks at 256 records, or up to the one that it finds, and reads the body of each once and nothing else, once it
+// has seen that no other bank is open.
 #[test]
 fn a_search_reads_the_records_of_its_step_alone(rt: HostRuntime) -> Result<(), Fail> {
     let alloc = rt.alloc();
@@ -79,22 +82,58 @@ fn a_search_reads_the_records_of_its_step_alone(rt: HostRuntime) -> Result<(), F
     assert!(rt; clerk.find(5, 0)? == Found::Posted(5));
     let device = clerk.into_device();
     let steps = [(0, 256), (256, 257), (2, 258), (0, 6)];
-    expect_reads(&rt, device.calls(), from, &steps);
+    expect_reads(&rt, device.calls(), from, 258, &steps);
     Ok(())
 }
 
-// No slot was free, so that the third record is the first one behind a checkpoint, in the other bank.
+// The records of both banks are found: by a clerk that made the checkpoint, which knows that they belong together and
+// reads the records alone, and by one that was opened behind it. That one looks at the other bank first, and once.
 #[test]
-fn a_search_behind_a_checkpoint_reads_the_other_bank(rt: HostRuntime) -> Result<(), Fail> {
+fn a_search_behind_a_checkpoint_reads_both_banks(rt: HostRuntime) -> Result<(), Fail> {
     let alloc = rt.alloc();
-    let device = posted(&rt, alloc, formatted(alloc, 2)?, 3)?;
-    let (mut clerk, from) = noted(&rt, alloc, device)?;
-    assert!(rt; clerk.find(0, 0)? == Found::Nowhere(2));
-    assert!(rt; clerk.find(2, 0)? == Found::Posted(2));
-    assert!(rt; clerk.find(2, 3)? == Found::Nowhere(2));
+    let device = posted(&rt, alloc, formatted(alloc, 2)?, 2)?;
+    let (mut clerk, _) = noted(&rt, alloc, device)?;
+    clerk.turn(0, &[with_reference(2)])?;
+    let from = clerk.into_device().calls().len();
+    let device = posted(&rt, alloc, formatted(alloc, 2)?, 2)?;
+    let (mut clerk, _) = noted(&rt, alloc, device)?;
+    clerk.turn(0, &[with_reference(2)])?;
+    assert!(rt; clerk.find(0, 0)? == Found::Posted(0));
+    assert!(rt; clerk.find(2, 1)? == Found::Posted(2));
+    assert!(rt; clerk.find(2, 3)? == Found::Nowhere(0));
     let device = clerk.into_device();
-    let read = Call::Read(second(2).body(0));
-    assert!(rt; from <= device.calls().len() && device.calls()[from..] == [read, read]);
+    let first = [
+        Call::Read(FIRST.slot_gate(0)),
+        Call::Read(FIRST.body(0)),
+        Call::Read(FIRST.slot_gate(1)),
+        Call::Read(FIRST.body(1)),
+        Call::Read(second(2).body(0)),
+    ];
+    assert!(rt; from <= device.calls().len() && device.calls()[from..] == first[..]);
+
+    let (mut clerk, from) = noted(&rt, alloc, device.into_inner())?;
+    assert!(rt; clerk.find(1, 0)? == Found::Posted(1));
+    let looked_back = clerk.find(2, 3)?;
+    assert!(rt; looked_back == Found::Nowhere(0));
+    let device = clerk.into_device();
+    // a gate and a head, a snapshot and the two slots, the live snapshot; then the slots, to find the record
+    assert!(rt; device.calls().len() == from + 2 + 17 + 4 + 17 + 4);
+    Ok(())
+}
+
+// How far back records are in sight is found out 256 slots at a time.
+#[test]
+fn a_search_looks_back_in_steps(rt: HostRuntime) -> Result<(), Fail> {
+    let alloc = rt.alloc();
+    let device = posted(&rt, alloc, formatted(alloc, 258)?, 259)?;
+    let (mut clerk, from) = noted(&rt, alloc, device)?;
+    assert!(rt; clerk.find(257, 0)? == Found::LookingBack);
+    assert!(rt; clerk.find(257, 0)? == Found::Further(256));
+    assert!(rt; clerk.find(257, 256)? == Found::Posted(257));
+    assert!(rt; clerk.find(300, 256)? == Found::Nowhere(0));
+    let device = clerk.into_device();
+    let looking = 2 + 17 + 2 * 258 + 17;
+    assert!(rt; device.calls().len() == from + looking + 2 * 256 + 2 * 2 + 2 * 2 + 1);
     Ok(())
 }
 

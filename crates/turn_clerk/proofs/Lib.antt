@@ -10,3 +10,4 @@ mod Searches
 mod Standing
 mod Running
 mod Lives
+mod Backs

@@ -1,43 +1,46 @@
-use Rattle.std.proofs.Common.{◌≡◌, ◌∙◌, Err, ap, sym, subst, rules}
+use Rattle.std.proofs.Common.{◌≡◌, ◌≢◌, ◌∙◌, Err, ap, sym, subst, rules}
 use Rattle.turn_clerk.specs.View.{view_of}
 use Rattle.turn_clerk.specs.Clerk.{ClerkState}
 use Rattle.turn_clerk.specs.Found.{HasFound}
 use Rattle.turn_clerk.specs.Searched.{find_refusal_of}
 use Rattle.turn_clerk.specs.declared.refusals.FindRefusal.TheVariants.{Changed}
+use Rattle.turn_clerk.specs.declared.searching.Found.TheVariants.{LookingBack}
 use Rattle.turn_clerk.proofs.AfterLooks.{looked}
 use Rattle.turn_clerk.proofs.Searches.{has_found, is_changed, never_changed}
 use Rattle.turn_clerk.proofs.clerk.Clerk.find.Goals as goal
 
 pub invariant_of-self : goal.invariant_of-self
 invariant_of-self g c =
-    let search = c.find_in in (
+    let search = c.find_in_sight in (
       looked g.D.Device.state (view_of c.self.inside) c.self.invariant.0 search.new.journal search.ensures.kept search.ensures.call.was_honest search.ensures.looks search.ensures.stays,
       c.self.invariant.1,
       c.self.invariant.2,
+      search.ensures.back c.self.invariant.3,
     )
 
 pub invariant_of-self-2 : goal.invariant_of-self-2
 invariant_of-self-2 g c =
-    let search = c.find_in in (
+    let search = c.find_in_sight in (
       looked g.D.Device.state (view_of c.self.inside) c.self.invariant.0 search.new.journal search.ensures.kept search.ensures.call.was_honest search.ensures.looks search.ensures.stays,
       c.self.invariant.1,
       c.self.invariant.2,
+      search.ensures.back c.self.invariant.3,
     )
 
-pub returns-in_err-find_in-clause-never_changed : goal.returns-in_err-find_in-clause-never_changed
-returns-in_err-find_in-clause-never_changed g c honest changed =
+pub returns-in_err-found-clause-never_changed : goal.returns-in_err-found-clause-never_changed
+returns-in_err-found-clause-never_changed g c honest changed =
     let state = g.D.Device.state in
-    let told : find_refusal_of c.in_err-find_in.field-0.0 ≡ Changed = search rules in
-    let was = c.in_err-find_in.was ∙ ap Err (is_changed c.in_err-find_in.field-0.0 told) in
+    let told : find_refusal_of c.in_err-found.field-0.0 ≡ Changed = search rules in
+    let was = c.in_err-found.was ∙ ap Err (is_changed c.in_err-found.field-0.0 told) in
     let works = ap (λ (k : ClerkState g.row.D.Denot). k.journal.faulted) c.self.view_is ∙ sym c.is_faulted.ensures ∙ c.if-is_faulted.false in
     never_changed state (view_of c.self.inside) c.self.invariant.0 (subst (λ (k : ClerkState g.row.D.Denot). (state k.journal.device).honest) (sym c.self.view_is) honest) works
-    c.args.reference c.args.from
-    _ (λ contents is. c.find_in.ensures.changed contents is was)
+    c.args.reference c.args.from (λ contents is spare. c.find_in_sight.ensures.changed contents is spare c.self.invariant.3 was)
 
 pub returns-clause-found : goal.returns-clause-found
 returns-clause-found g c =
     let state = g.D.Device.state in
     let works = ap (λ (k : ClerkState g.row.D.Denot). k.journal.faulted) c.self.view_is ∙ sym c.is_faulted.ensures ∙ c.if-is_faulted.false in
-    let found = c.in_ok-find_in.field-0 in
-    subst (λ (k : ClerkState g.row.D.Denot). (state k.journal.device).honest → HasFound state k c.args.reference c.args.from found) c.self.view_is
-    (λ honest. has_found state (view_of c.self.inside) c.self.invariant.0 honest works c.args.reference c.args.from found c.in_ok-find_in.ensures.numbered c.in_ok-find_in.ensures.found)
+    let found = c.in_ok-found.found in
+    subst (λ (k : ClerkState g.row.D.Denot). (state k.journal.device).honest → found ≢ LookingBack → HasFound state k c.args.reference c.args.from found) c.self.view_is
+    (λ honest searched. has_found state (view_of c.self.inside) c.self.invariant.0 honest works c.args.reference c.args.from found searched
+    (λ contents is spare. c.in_ok-found.ensures.found contents is spare c.self.invariant.3))
