@@ -1,3 +1,4 @@
 pub mod Damage
 pub mod Places
 pub mod Faults
+pub mod Refused

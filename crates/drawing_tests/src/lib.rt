@@ -7,8 +7,6 @@ mod banks;
 #[cfg(test)]
 mod drawings;
 #[cfg(test)]
-mod faults;
-#[cfg(test)]
 mod images;
 #[cfg(test)]
 mod older;
@@ -16,5 +14,3 @@ mod older;
 mod slots;
 #[cfg(test)]
 mod superblocks;
-#[cfg(test)]
-mod sweeps;

@@ -157,7 +157,7 @@ fn stands_still<D: Device>(rt: &impl Abort, clerk: &mut Clerk<D>, first: usize, 
 }
 
 // A deposit of so much is in flight.
-pub fn has_in_flight<D: Device>(rt: &impl Abort, clerk: &Clerk<D>, amount: u64) {
+fn has_in_flight<D: Device>(rt: &impl Abort, clerk: &Clerk<D>, amount: u64) {
     let in_flight = clerk.in_flight().expect(rt, "a batch in flight");
     assert!(rt; (in_flight.len(), in_flight.get(0)) == (1, Some(deposit(1, amount))));
 }
@@ -176,7 +176,7 @@ fn is_faulted<D: Device>(rt: &impl Abort, clerk: &mut Clerk<D>, station: u8) {
 }
 
 // A station's turn with these entries is refused for this reason.
-pub fn refuses<D: Device>(
+fn refuses<D: Device>(
     rt: &impl Abort,
     clerk: &mut Clerk<D>,
     station: u8,

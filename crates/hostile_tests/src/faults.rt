@@ -1,15 +1,12 @@
 //! Courses on a device that fails once or twice and works again: they go on from what they find, to the end.
-use crate::course::{
-    CALLS, Found, Met, READS, SYNCS, WRITES, found_by, has_in_flight, refuses, take_course,
-    two_stations,
-};
-use fault_injector::{Noting, OneFault, Op};
-use sector_device::{Device, MemoryDevice};
-use std::alloc::{AllocError, Global};
+use crate::course::{CALLS, Found, Met, READS, SYNCS, WRITES, found_by, take_course, two_stations};
+use fault_injector::{OneFault, Op};
+use sector_device::Device;
+use std::alloc::Global;
 use std::process::Abort;
 use std::test::Fail;
-use test_scenes::{deposit, formatted, line};
-use turn_clerk::{Clerk, OpenRefusal, TurnRefusal};
+use test_scenes::formatted;
+use turn_clerk::{Clerk, OpenRefusal};
 
 // What an opening finds on a device, or None where it fails.
 fn look<D: Device>(rt: &impl Abort, alloc: Global, device: D) -> (D, Option<Found>) {
@@ -102,20 +99,6 @@ fn a_device_that_fails_once_loses_nothing(rt: HostRuntime) -> Result<(), Fail> {
     Ok(())
 }
 
-// Each call before the fault reaches the device, and none after it, whoever asks the clerk for a turn.
-#[test]
-fn a_faulted_clerk_makes_no_call(rt: HostRuntime) -> Result<(), Fail> {
-    for at in 0..CALLS {
-        let inner = formatted(rt.alloc(), 2)?;
-        let noting = Noting::new(rt.alloc(), inner, 100).map_err(AllocError::from)?;
-        let device = OneFault::new(noting, Op::Any, at);
-        let (device, course) = take_course(&rt, rt.alloc(), device, 0);
-        assert!(rt; course.met != Met::Nothing);
-        assert!(rt; device.into_inner().calls().len() as u64 == at);
-    }
-    Ok(())
-}
-
 // A device that fails at the first place, and at a later one: where these faults lay.
 fn two_faults(rt: &impl Abort, alloc: Global, first: u64, second: u64) -> Result<Faults, Fail> {
     let inner = OneFault::new(formatted(alloc, 2)?, Op::Any, second);
@@ -155,27 +138,5 @@ fn a_device_that_fails_twice_loses_nothing(rt: HostRuntime) -> Result<(), Fail> 
     }
     assert!(rt; pairs == PAIRS);
     assert!(rt; all.in_openings > 0 && all.in_turns > 0);
-    Ok(())
-}
-
-// A deposit whose first sync fails, which is that of its body: it is in flight, and each station is told of the fault.
-fn failed_sync(rt: &impl Abort, alloc: Global) -> Result<OneFault<MemoryDevice>, Fail> {
-    let device = OneFault::new(formatted(alloc, 4)?, Op::Sync, 1);
-    let three_stations = line([0, 0, 0], [1, 0, 0])?;
-    let mut clerk = Clerk::open(alloc, device, three_stations).map_err(|(_, refusal)| refusal)?;
-    let reason = TurnRefusal::Device;
-    refuses(rt, &mut clerk, 0, &[deposit(1, 5)], reason);
-    has_in_flight(rt, &clerk, 5);
-    refuses(rt, &mut clerk, 0, &[], TurnRefusal::Faulted);
-    refuses(rt, &mut clerk, 1, &[], TurnRefusal::Faulted);
-    Ok(clerk.into_device())
-}
-
-// It isn't there when the device is opened again.
-#[test]
-fn a_turn_whose_first_sync_fails_is_in_flight(rt: HostRuntime) -> Result<(), Fail> {
-    let (_, there) = look(&rt, rt.alloc(), failed_sync(&rt, rt.alloc())?);
-    let (balance, next) = (Some(0), 0);
-    assert!(rt; there == Some(Found { balance, next }));
     Ok(())
 }

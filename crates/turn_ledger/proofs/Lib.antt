@@ -1,3 +1,4 @@
 pub mod InOrder
 pub mod Changes
 mod PlaceTables
+mod KeptPlaces

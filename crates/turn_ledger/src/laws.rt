@@ -1,7 +1,7 @@
 //! Laws of the rules, each as the contract of a function that does nothing.
-ghost use Rattle.std.specs.Prelude.{◌≡◌, ◌↔◌, ◌≤◌, ℕ, true, List, length};
+ghost use Rattle.std.specs.Prelude.{◌≡◌, ◌↔◌, ◌<◌, ◌≤◌, ℕ, Bool, true, List, length, slice_index};
 ghost use Rattle.turn_ledger.specs.State.{LedgerState, IsAccount, IsLedger};
-ghost use Rattle.turn_ledger.specs.Place.{place_bytes};
+ghost use Rattle.turn_ledger.specs.Place.{place_bytes, IsInRange};
 ghost use Rattle.turn_ledger.specs.PlaceTable.{KeepsPlace};
 ghost use Rattle.turn_ledger.specs.declared.entry.Entry.{Entry};
 ghost use Rattle.turn_ledger.specs.Laws.{AYesMeansAllRules, PostingGivesTheSums, NothingIsLostOrMade, ASealedAccountStaysAsItIs, BatchesCompose, AcceptedEntriesArePosted, LaterEntriesSeeTheAccepted};
@@ -19,9 +19,13 @@ pub fn limits_in_numbers()
     ensures place { (entry : Entry) → length (place_bytes entry) ≡ 32 }
 {}
 
-/// The table of a place says of bytes no more than the entries do: those of an entry keep it.
+/// The table of a place says of bytes what the entries do: those of an entry keep it, and 32 bytes that keep it are
+/// those of an entry.
 pub fn entries_keep_their_table()
-    ensures { (entry : Entry) → KeepsPlace true (place_bytes entry) }
+    ensures keep { (entry : Entry) → KeepsPlace true (place_bytes entry) }
+    ensures kept { (seals : Bool) (bytes : List ℕ) → length bytes ≡ 32
+        → ((at : ℕ) → slice_index bytes at < 256) → KeepsPlace seals bytes
+        → (entry : Entry) × IsInRange entry × (bytes ≡ place_bytes entry) }
 {}
 
 /// An entry is accepted exactly if it keeps all rules: its amount isn't zero (a seal has none), the accounts that it

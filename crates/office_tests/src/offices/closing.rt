@@ -5,11 +5,10 @@ ghost use Rattle.sector_device.specs.MemoryDevice.{memory_device_state};
 ghost use Rattle.line_lock.specs.OpenedOn.{Names};
 
 use line_lock::{
-    Blank, Clerk, CloseRefusal, Closing, Count, Line, Office, OfficeWork, OpenedOn, Seat, Turn,
-    TurnRefusal, with_office,
+    Blank, CloseRefusal, Closing, Count, Line, Office, OpenedOn, Seat, Turn, TurnRefusal,
 };
 use sector_device::MemoryDevice;
-use std::alloc::{AllocError, Global};
+use std::alloc::Global;
 use std::marker::Brand;
 use std::process::Abort;
 use std::sync::Wait;
@@ -92,54 +91,6 @@ impl Scene for OneSeatIsMissing {
 #[test]
 fn a_missing_seat_is_told_and_the_office_goes_on(rt: HostRuntime) -> Result<(), Fail> {
     act::<OneSeatIsMissing, _>(&rt, rt.alloc())
-}
-
-#[derive(Clone, Copy)]
-struct NobodyTakesATurn;
-
-impl OfficeWork<MemoryDevice> for NobodyTakesATurn {
-    type Answer = ();
-
-    type Failure = AllocError;
-
-    fn work<L: Count + OpenedOn + Send + Sync>(
-        self,
-        _office: &Office<MemoryDevice, L>,
-        seats: Vec<Seat<L>>,
-    ) -> Result<(Vec<Seat<L>>, ()), AllocError> {
-        let NobodyTakesATurn = self;
-        Ok((seats, ()))
-    }
-}
-
-// A device with one posted deposit, after a power failure.
-fn with_one_deposit(rt: &impl Abort, alloc: Global) -> Result<MemoryDevice, Fail> {
-    let device = formatted(alloc, 4)?;
-    match Clerk::open(alloc, device, line([0, 0, 0], [1, 0, 0])?) {
-        Ok(mut clerk) => {
-            assert!(rt; clerk.turn(0, &[deposit(1, 500)])?.posted == Some(0));
-            Ok(clerk.into_device())
-        }
-        Err((_, refusal)) => panic!(rt; "{refusal}"),
-    }
-}
-
-#[test]
-fn close_keeps_opening(rt: HostRuntime) -> Result<(), Fail> {
-    let alloc = rt.alloc();
-    let device = with_one_deposit(&rt, alloc)?;
-    let opening = line([1, 1, 0], [1, 1, 0])?;
-    match with_office(alloc, device, opening, NobodyTakesATurn) {
-        Ok((Closing { clerk, audit }, _)) => {
-            assert!(rt;
-                (clerk.history().len(), clerk.opening(), audit.last) == (0, opening, opening)
-            );
-            assert!(rt; (clerk.opening_balance(1), clerk.opening_next()) == (Some(500), 1));
-            assert!(rt; audit.first_legitimate == Some(0));
-            Ok(())
-        }
-        Err((_, refusal)) => panic!(rt; "{refusal}"),
-    }
 }
 
 struct NobodyCloses;
