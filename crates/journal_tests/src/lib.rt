@@ -6,6 +6,8 @@ mod devices;
 #[cfg(test)]
 mod faults;
 #[cfg(test)]
+mod fillings;
+#[cfg(test)]
 mod journals;
 #[cfg(test)]
 mod passed_on;
