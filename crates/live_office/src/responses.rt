@@ -51,7 +51,7 @@ pub enum Response {
     },
     /// Why a balance isn't told.
     NoBalance(BalanceRefusal),
-    /// How many batches have an entry of the looked-for reference, of all from this number on.
+    /// How many batches with an entry of the looked-for reference were found; all from this number on were looked at.
     FoundInAll {
         count: u64,
         since: u64,

@@ -51,8 +51,8 @@ fn noted(
     ))
 }
 
-// The calls from that one on are a read of the second bank's gate, which is closed, and then reads of the bodies of these
-// records, in order, one each, and no others.
+// The calls from that one on are a read of the second bank's gate, which is closed, and then reads of the bodies of
+// these records, in order, one each, and no others.
 fn expect_reads(rt: &impl Abort, calls: &[Call], from: usize, slots: u64, steps: &[(u64, u64)]) {
     assert!(rt; from <= calls.len());
     let mut rest = calls[from..].iter();
@@ -69,8 +69,8 @@ fn expect_reads(rt: &impl Abort, calls: &[Call], from: usize, slots: u64, steps:
     assert!(rt; rest.next().is_none());
 }
 
-// A search looks at 256 records, or up to the one that it finds, and reads the body of each once and nothing else, once it
-// has seen that no other bank is open.
+// A search looks at 256 records, or up to the one that it finds, and reads the body of each once and nothing else, once
+// it has seen that no other bank is open.
 #[test]
 fn a_search_reads_the_records_of_its_step_alone(rt: HostRuntime) -> Result<(), Fail> {
     let alloc = rt.alloc();
