@@ -104,6 +104,12 @@ fn each_command_has_its_words(rt: HostRuntime) {
         && copying.formatting.slots.get() == 7
         && copying.formatting.overwrite)
     );
+    let words = ["derbyfig", "archive", "book", "books"];
+    let asked = read_request(alloc, &words);
+    assert!(rt;
+        matches!(&asked, Ok(Request::Archive(archiving)) if archiving.ledger == "book"
+        && archiving.folder == "books")
+    );
 }
 
 // Words, and how it is told that they are wrong.

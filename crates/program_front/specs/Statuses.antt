@@ -6,6 +6,7 @@ use Rattle.program_ends.specs.declared.status.Status.{Status}
 use Rattle.program_ends.specs.declared.status.Status.TheVariants.{Refused, Failed}
 use Rattle.console_engine.specs.Faults.{status_of_script}
 use Rattle.office_engine.specs.Faults as office
+use Rattle.archive_engine.specs.Faults as archive
 use Rattle.program_front.specs.declared.faults.MigrationFault.TheVariants as migration
 use Rattle.program_front.specs.declared.faults.Fault.{Fault}
 use Rattle.program_front.specs.declared.faults.Fault.TheVariants as fault
@@ -20,6 +21,7 @@ status_of (fault.Migration (migration.Refused refusal)) = of_migration refusal
 status_of (fault.Migration migration.NotEmpty) = Refused
 status_of (fault.Office inner) = office.status_of inner
 status_of (fault.Closing inner) = office.status_of_closing inner
+status_of (fault.Archive inner) = archive.status_of inner
 
 -- and of a ledger that wasn't copied, that of its path or of the copying
 abbrev pub of_copy : CopyRefusal → Status

@@ -32,6 +32,12 @@ const CLOSING: &str = "\
 What was asked at the counter before is answered first. The status is 1 if no office has the counter.
 ";
 
+const ARCHIVING: &str = "\
+FOLDER has a ledger for each time that something was added, whose name is the number of its first batch in twenty digits.
+'check', 'journal' and 'balances' take each of them. The status is 1 if LEDGER doesn't go on where the archive ends, or if
+batches between are no longer in LEDGER.
+";
+
 const FILE: &str = "The file or the disk that has the ledger";
 
 const LOOKING: &str = "\
@@ -56,6 +62,7 @@ pub(crate) fn derbyfig_command<'a>(alloc: Global) -> Result<Command<'a>, Error>
         .subcommand(map(alloc)?)?
         .subcommand(format(alloc)?)?
         .subcommand(copy(alloc)?)?
+        .subcommand(archive(alloc)?)?
         .subcommand(migrate(alloc)?)?;
     Ok(command)
 }
@@ -223,6 +230,25 @@ fn migrate<'a>(alloc: Global) -> Result<Command<'a>, Error>
     );
     let about = "Copy a ledger of layout 1 or 2 to another file or disk, in layout 3";
     command_that_copies(alloc, "migrate", about, old)
+}
+
+fn archive<'a>(alloc: Global) -> Result<Command<'a>, Error>
+    ensures memory { IfErr result (λ error. kind_of error ≡ OutOfMemory) }
+{
+    let command = Command::new(alloc, "archive")
+        .about("Add the batches of a ledger that an archive lacks to it")
+        .after_help(ARCHIVING)
+        .arg(positional(
+            alloc,
+            "LEDGER",
+            "The file or the disk that has the ledger; it is only read",
+        ))?
+        .arg(positional(
+            alloc,
+            "FOLDER",
+            "The folder of the archive; an empty one becomes an archive of all that LEDGER lists",
+        ))?;
+    Ok(command)
 }
 
 // A command that copies this ledger.

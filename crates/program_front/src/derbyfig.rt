@@ -9,6 +9,7 @@ ghost use Rattle.program_front.specs.Statuses.{status_of};
 use crate::faults::Fault;
 use crate::request::{Copying, Request, Running};
 use crate::words::read_request;
+use archive_engine::{Archived, Archiving, archive};
 use clap::Error;
 use console_engine::{ScriptFault, run_script};
 use file_device::{FileDevice, Locking, Making, ReadOnlyFile};
@@ -20,7 +21,7 @@ use office_engine::{Serving, Terminal, close_office, serve};
 use program_ends::{Status, Watched, fail, tell_words, tell_wrong, unwritten};
 use script_streams::write_all;
 use sector_device::MemoryDevice;
-use std::alloc::Global;
+use std::alloc::{Alloc, Global};
 use std::fmt;
 use std::fs::{File, Files};
 use std::io::{Read, Write};
@@ -36,7 +37,16 @@ const IN_MEMORY: u64 = 64;
 /// told of faults and wrong words to `errors`, of which a fault is ignored; so does the progress of long work, if it is
 /// to be shown. The call may wait.
 pub fn run_derbyfig<
-    R: Files<File = File> + Threads + Wait + Clock + Sync + Send + Clone + Drop + 'static,
+    R: Files<File = File>
+        + Alloc<A = Global>
+        + Threads
+        + Wait
+        + Clock
+        + Sync
+        + Send
+        + Clone
+        + Drop
+        + 'static,
     I: Read + Send + Drop + 'static,
     O: Write + Send + Drop + 'static,
     W: Write,
@@ -77,6 +87,9 @@ pub fn run_derbyfig<
             ended(alloc, migrate_file(rt, alloc, copying, writer), errors)
         }
         Request::Copy(copying) => ended(alloc, copy_file(rt, alloc, copying, writer), errors),
+        Request::Archive(archiving) => {
+            ended(alloc, add_to_archive(rt, alloc, archiving, writer), errors)
+        }
     };
     status.code()
 }
@@ -230,6 +243,23 @@ fn copy_file<'a, F: Files<File = File>, W: Write>(
     match copy_ledger(rt, alloc, ledger, path, formatting) {
         Ok(_) => say(alloc, format_args!("copied {}", formatting.slots), writer),
         Err(refusal) => Err(Fault::of_copy(old, path, refusal)),
+    }
+}
+
+// Adds to an archive what it lacks.
+fn add_to_archive<'a, R: Files<File = File> + Alloc<A = Global> + Clone + Drop, W: Write>(
+    rt: &R,
+    alloc: Global,
+    archiving: Archiving<'a>,
+    writer: &mut W,
+) -> Result<(), Fault<'a>> {
+    match archive(rt, alloc, archiving) {
+        Ok(Archived { batches, first }) => say(
+            alloc,
+            format_args!("archived {batches} from {first}"),
+            writer,
+        ),
+        Err(fault) => Err(Fault::Archive(fault)),
     }
 }
 

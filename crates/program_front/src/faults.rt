@@ -3,6 +3,7 @@ ghost use Rattle.std.specs.Prelude.{◌≡◌};
 ghost use Rattle.program_ends.specs.Status.{of_ledger, of_opening};
 ghost use Rattle.program_front.specs.Statuses.{status_of, of_copy};
 
+use archive_engine::ArchiveFault;
 use console_engine::ScriptFault;
 use file_device::FileFault;
 use journal_recovery::{MigrateRefusal, OpenName, OpenRefusal};
@@ -68,6 +69,9 @@ pub enum Fault<'a> {
     /// An office wasn't closed.
     #[error("{0}")]
     Closing(CloseFault<'a>),
+    /// An archive doesn't have all of a ledger.
+    #[error("{0}")]
+    Archive(ArchiveFault<'a>),
 }
 
 impl<'a> Fault<'a> {
@@ -85,6 +89,7 @@ impl<'a> Fault<'a> {
             Fault::Migration(MigrationFault::NotEmpty) => Status::Refused,
             Fault::Office(fault) => fault.status(),
             Fault::Closing(fault) => fault.status(),
+            Fault::Archive(fault) => fault.status(),
             Fault::NoLedger { refusal, .. } => Status::from(refusal),
             Fault::Unread { .. } => Status::Failed,
         }

@@ -56,7 +56,16 @@ pub fn run_console<F: Files<File = File> + Threads + Wait + Sync, R: Read, W: Wr
 
 /// Runs `derbyfig` on the words that the system gave, if it did.
 pub fn run_derbyfig_words<
-    R: Files<File = File> + Threads + Wait + Clock + Sync + Send + Clone + Drop + 'static,
+    R: Files<File = File>
+        + Alloc<A = Global>
+        + Threads
+        + Wait
+        + Clock
+        + Sync
+        + Send
+        + Clone
+        + Drop
+        + 'static,
     I: Read + Send + Drop + 'static,
     O: Write + Send + Drop + 'static,
     W: Write,

@@ -20,6 +20,7 @@ mod option_table;
 mod request;
 mod words;
 
+pub use archive_engine::{ArchiveFault, Archived, Archiving};
 pub use commands::VERSION;
 pub use console_engine::{LineFault, ScriptFault};
 pub use console_faults::{ProgramFault, RefusedDisk};

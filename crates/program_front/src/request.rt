@@ -1,4 +1,5 @@
 //! What `derbyfig` is asked for.
+use archive_engine::Archiving;
 use ledger_file::Formatting;
 use ledger_inspection::Inspection;
 use office_engine::Serving;
@@ -27,6 +28,8 @@ pub enum Request<'a> {
     Migrate(Copying<'a>),
     /// To copy a ledger of the present one.
     Copy(Copying<'a>),
+    /// To add to an archive what it lacks of a ledger.
+    Archive(Archiving<'a>),
 }
 
 /// A ledger that is to be copied.

@@ -8,6 +8,7 @@ use crate::option_table::{
     ACCOUNT, FORMAT, FROM, OutOfRange, REFERENCE, SECONDS, SECTORS, SLOTS, STATIONS,
 };
 use crate::request::{Copying, Request, Running};
+use archive_engine::Archiving;
 use clap::error::ErrorKind;
 use clap::{ArgMatches, Error};
 use ledger_file::Formatting;
@@ -85,6 +86,7 @@ fn requested<'a>(alloc: Global, matches: &ArgMatches<'a>) -> Result<Request<'a>,
             let copying = copying(options, "LEDGER", WrongWord::NewIsLedger)?;
             Ok(Request::Copy(copying))
         }
+        "archive" => archiving(options),
         _ => inspection(name, options),
     }
 }
@@ -183,6 +185,15 @@ fn copying<'a>(
         path,
         formatting,
     })
+}
+
+fn archiving<'a>(options: &ArgMatches<'a>) -> Result<Request<'a>, WrongWord>
+    ensures within { IfOk result IsWithin }
+{
+    Ok(Request::Archive(Archiving {
+        ledger: path(options, "LEDGER")?,
+        folder: path(options, "FOLDER")?,
+    }))
 }
 
 fn inspection<'a>(name: &str, options: &ArgMatches<'a>) -> Result<Request<'a>, WrongWord>

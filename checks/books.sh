@@ -1,0 +1,16 @@
+#!/usr/bin/env bash
+# Archives a ledger of three slots again and again while it is posted to, and compares each posting in the files of the
+# archive, and what each begins with and ends at, with a plain list of what was posted; among the runs some that kill -9
+# ends. Looks what becomes of the folder, byte by byte, where nothing is new, where batches are lost, where the ledger is
+# another one or an old copy, where another program has the folder, where it isn't there, and where its newest file is
+# damaged; of what a run left unfinished; and where each request for memory is refused in turn. Looks under strace in what
+# order a file is written, synced and named. One line for each case, and status 1 if one fails. Words: the built derbyfig.
+# Needed beside the toolchain: Python and `strace`. The files are made below the folder BENCH_FOLDER, /var/tmp without it.
+set -euo pipefail
+derbyfig=$(realpath "${1:?the first word is the built derbyfig}")
+command -v strace > /dev/null || { echo "strace is missing (package strace)"; exit 1; }
+cd "$(dirname "$0")/.."
+work=$(mktemp -d "${BENCH_FOLDER:-/var/tmp}/books.XXXXXX")
+trap 'rm -rf "$work"' EXIT
+cc -O1 -Wall -shared -fPIC -o "$work/refuse.so" checks/refused_memory/refuse.c
+PYTHONDONTWRITEBYTECODE=1 python3 checks/books/check.py "$derbyfig" "$work"
