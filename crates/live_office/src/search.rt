@@ -36,10 +36,7 @@ impl Step {
 
 impl Search {
     /// A search that begins with the first record.
-    pub(crate) const BEGINNING: Search = Search {
-        from: 0,
-        count: 0,
-    };
+    pub(crate) const BEGINNING: Search = Search { from: 0, count: 0 };
 
     /// What is asked next.
     pub(crate) fn question(&self, reference: u64) -> Question
