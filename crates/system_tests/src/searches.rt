@@ -86,38 +86,49 @@ fn a_search_reads_the_records_of_its_step_alone(rt: HostRuntime) -> Result<(), F
     Ok(())
 }
 
+// How many calls a clerk makes for searches: the reference of each, where it begins, and what it has to tell. Before
+// them the clerk takes a turn if it is asked to.
+fn calls_of(
+    rt: &impl Abort,
+    alloc: Global,
+    device: MemoryDevice,
+    takes_turn: bool,
+    searches: &[(u64, u64, Found)],
+) -> Result<usize, Fail> {
+    let (mut clerk, from) = noted(rt, alloc, device)?;
+    if takes_turn {
+        clerk.turn(0, &[with_reference(2)])?;
+    }
+    for (reference, first, found) in searches {
+        assert!(rt; clerk.find(*reference, *first)? == *found);
+    }
+    Ok(clerk.into_device().calls().len().saturating_sub(from))
+}
+
 // The records of both banks are found: by a clerk that made the checkpoint, which knows that they belong together and
 // reads the records alone, and by one that was opened behind it. That one looks at the other bank first, and once.
 #[test]
 fn a_search_behind_a_checkpoint_reads_both_banks(rt: HostRuntime) -> Result<(), Fail> {
     let alloc = rt.alloc();
-    let device = posted(&rt, alloc, formatted(alloc, 2)?, 2)?;
-    let (mut clerk, _) = noted(&rt, alloc, device)?;
-    clerk.turn(0, &[with_reference(2)])?;
-    let from = clerk.into_device().calls().len();
-    let device = posted(&rt, alloc, formatted(alloc, 2)?, 2)?;
-    let (mut clerk, _) = noted(&rt, alloc, device)?;
-    clerk.turn(0, &[with_reference(2)])?;
-    assert!(rt; clerk.find(0, 0)? == Found::Posted(0));
-    assert!(rt; clerk.find(2, 1)? == Found::Posted(2));
-    assert!(rt; clerk.find(2, 3)? == Found::Nowhere(0));
-    let device = clerk.into_device();
-    let first = [
-        Call::Read(FIRST.slot_gate(0)),
-        Call::Read(FIRST.body(0)),
-        Call::Read(FIRST.slot_gate(1)),
-        Call::Read(FIRST.body(1)),
-        Call::Read(second(2).body(0)),
+    let searches = [
+        (0, 0, Found::Posted(0)),
+        (2, 1, Found::Posted(2)),
+        (2, 3, Found::Nowhere(0)),
     ];
-    assert!(rt; from <= device.calls().len() && device.calls()[from..] == first[..]);
+    let turn = calls_of(
+        &rt,
+        alloc,
+        posted(&rt, alloc, formatted(alloc, 2)?, 2)?,
+        true,
+        &[],
+    )?;
+    let device = posted(&rt, alloc, formatted(alloc, 2)?, 2)?;
+    // two slots of the earlier bank, a gate and a body each, and a record of the live one
+    assert!(rt; calls_of(&rt, alloc, device, true, &searches)?.saturating_sub(turn) == 5);
 
-    let (mut clerk, from) = noted(&rt, alloc, device.into_inner())?;
-    assert!(rt; clerk.find(1, 0)? == Found::Posted(1));
-    let looked_back = clerk.find(2, 3)?;
-    assert!(rt; looked_back == Found::Nowhere(0));
-    let device = clerk.into_device();
-    // a gate and a head, a snapshot and the two slots, the live snapshot; then the slots, to find the record
-    assert!(rt; device.calls().len() == from + 2 + 17 + 4 + 17 + 4);
+    let device = posted(&rt, alloc, formatted(alloc, 2)?, 3)?;
+    // a gate and a head, a snapshot and the two slots, the live snapshot; and the same records
+    assert!(rt; calls_of(&rt, alloc, device, false, &searches)? == 2 + 17 + 4 + 17 + 5);
     Ok(())
 }
 
@@ -126,14 +137,15 @@ fn a_search_behind_a_checkpoint_reads_both_banks(rt: HostRuntime) -> Result<(), 
 fn a_search_looks_back_in_steps(rt: HostRuntime) -> Result<(), Fail> {
     let alloc = rt.alloc();
     let device = posted(&rt, alloc, formatted(alloc, 258)?, 259)?;
-    let (mut clerk, from) = noted(&rt, alloc, device)?;
-    assert!(rt; clerk.find(257, 0)? == Found::LookingBack);
-    assert!(rt; clerk.find(257, 0)? == Found::Further(256));
-    assert!(rt; clerk.find(257, 256)? == Found::Posted(257));
-    assert!(rt; clerk.find(300, 256)? == Found::Nowhere(0));
-    let device = clerk.into_device();
-    let looking = 2 + 17 + 2 * 258 + 17;
-    assert!(rt; device.calls().len() == from + looking + 2 * 256 + 2 * 2 + 2 * 2 + 1);
+    let searches = [
+        (257, 0, Found::LookingBack),
+        (257, 0, Found::Further(256)),
+        (257, 256, Found::Posted(257)),
+        (300, 256, Found::Nowhere(0)),
+    ];
+    let looking_back = 2 + 17 + 2 * 258 + 17;
+    let searching = 2 * 256 + 2 * 2 + 2 * 2 + 1;
+    assert!(rt; calls_of(&rt, alloc, device, false, &searches)? == looking_back + searching);
     Ok(())
 }
 
