@@ -163,19 +163,27 @@ def an_order(shelf):
 
 
 def no_memory(shelf):
-    """Each request for memory is refused in turn: status 3, and the folder keeps its ledgers. Then the archive goes on."""
+    """Each request for memory is refused in turn: out of memory, or it is done without, and the archive stays whole."""
     ledger, books = shelf.ledger("ledger", 3), shelf.folder("books")
     ledger.post(2)
     shelf.require_archived(ledger, books)
     ledger.post(2)
+    before = shelf.names(books)
     for request in range(1, MOST_REQUESTS):
-        before = shelf.names(books)
         said, was_refused = shelf.archive_refused(ledger.path, books, request)
+        if said.status == 0:
+            require_same(said, Said(0, "archived 2 from 2\n", ""), "an archive that is added to")
+        else:
+            require_same((said.status, said.told.endswith("out of memory")), (3, True), f"request {request} refused: {said.told}")
+        added = set(shelf.names(books)) - set(before)
+        # the last requests are of the line that tells of what was added
+        require_same(said.status == 3 or len(added) == 1, True, f"request {request} refused: something is added")
+        if added:
+            shelf.require_whole(ledger, books)
         if not was_refused:
-            require_same(said, Said(0, "archived 2 from 2\n", ""), "the archive with all its memory")
             break
-        require_same((said.status, said.told.endswith("out of memory")), (3, True), f"request {request} refused: {said.told}")
-        require_same(shelf.names(books), before, "the files")
+        for name in added:
+            (books / name).unlink()
     shelf.require_whole(ledger, books)
 
 
