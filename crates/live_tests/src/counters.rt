@@ -154,6 +154,9 @@ fn told_beside_a_fault<R: Files + Threads + Wait + Clock + Sync + Send + Clone +
     let mut told = String::new(alloc);
     for _ in 0..5 {
         read_line(&mut answers, &mut told)?;
+        if told.as_str().ends_with("closing\n") {
+            break;
+        }
     }
     Ok(Some(told))
 }
