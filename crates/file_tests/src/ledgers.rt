@@ -145,7 +145,7 @@ fn a_copy_that_is_refused_leaves_what_was_there(rt: HostRuntime) -> Result<(), F
     }
     let disk = Disk::new(alloc, "ledger", ".", WHOLE);
     let old = older(alloc, 1)?;
-    let copied = copy_ledger(&disk.files(), alloc, old, "ledger", four_slots(&rt, false));
+    let (_old, copied) = copy_ledger(&disk.files(), alloc, old, "ledger", four_slots(&rt, false));
     let is_refused = matches!(copied, Err(CopyRefusal::Copy(MigrateRefusal::Source(_))));
     assert!(rt; is_refused && disk.take_bytes().is_none());
     Ok(())

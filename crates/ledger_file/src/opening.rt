@@ -150,32 +150,40 @@ pub fn migrate_ledger<D: Device + Drop, F: DeviceFile + Drop, R: Files<File = F>
     Ok(device)
 }
 
-/// The same of a device of the present layout.
+/// The same of a device of the present layout, which is handed back.
 ///
 /// # Errors
 /// As of [`migrate_ledger`].
-pub fn copy_ledger<D: Device + Drop, F: DeviceFile + Drop, R: Files<File = F>>(
+pub fn copy_ledger<D: Device, F: DeviceFile + Drop, R: Files<File = F>>(
     rt: &R,
     alloc: Global,
     old: D,
     path: &str,
     formatting: Formatting,
-) -> Result<DeviceOn<F>, CopyRefusal>
-    ensures enough { IfOk result (λ device. formatting.sectors ≤ device.inner.sectors) }
-    ensures needed { IfOk result (λ device.
+) -> (D, Result<DeviceOn<F>, CopyRefusal>)
+    ensures enough { IfOk result.1 (λ device. formatting.sectors ≤ device.inner.sectors) }
+    ensures needed { IfOk result.1 (λ device.
         39 + 4 * non_zero_u64_get formatting.slots ≤ device.inner.sectors) }
-    ensures fits { IfOk result (λ device. device.inner.sectors * 512 < 2 ^ 63) }
+    ensures fits { IfOk result.1 (λ device. device.inner.sectors * 512 < 2 ^ 63) }
+    ensures call { AreCalls (D.state old) (D.state result.0)
+        (result.1 ≡ Err (CopyRefusal.Copy (MigrateRefusal.Source OpenRefusal.Device))) }
+
+    // On an honest device.
+    ensures looks { LooksOnly (D.state old) (D.state result.0) }
     ensures source { (D.state old).honest → (refusal : OpenRefusal)
-        → result ≡ Err (CopyRefusal.Copy (MigrateRefusal.Source refusal))
+        → result.1 ≡ Err (CopyRefusal.Copy (MigrateRefusal.Source refusal))
         → refusal ≢ OpenRefusal.Memory → refusal ≢ OpenRefusal.Device
         → RecoveryRefuses (D.state old).reads refusal }
 {
-    let (mut device, made) = device_to_format(rt, alloc, path, formatting)?;
-    let (_old, copied) = copy(alloc, old, &mut device, formatting.slots.get());
-    if let Err(refusal) = copied {
-        return Err(taken_back(rt, made, refusal));
+    let (mut device, made) = match device_to_format(rt, alloc, path, formatting) {
+        Ok(both) => both,
+        Err(refusal) => return (old, Err(CopyRefusal::from(refusal))),
+    };
+    let (old, copied) = copy(alloc, old, &mut device, formatting.slots.get());
+    match copied {
+        Ok(()) => (old, Ok(device)),
+        Err(refusal) => (old, Err(taken_back(rt, made, refusal))),
     }
-    Ok(device)
 }
 
 // That nothing was copied. A file that was made for the copy is removed.
