@@ -1,5 +1,7 @@
 -- By which status a fault of an archive ends the program, and what its numbers say.
-use Rattle.std.specs.Prelude.{◌<◌}
+use Rattle.std.specs.Prelude.{◌≡◌, ◌<◌}
+use Rattle.gate_journal.specs.declared.refusals.ReadRefusal.TheVariants as read
+use Rattle.journal_recovery.specs.declared.refusals.OpenRefusal.TheVariants as opening
 use Rattle.program_ends.specs.Status.{of_opening}
 use Rattle.program_ends.specs.declared.status.Status.{Status}
 use Rattle.program_ends.specs.declared.status.Status.TheVariants.{Refused, Failed}
@@ -23,8 +25,18 @@ status_of (fault.Short path next end) = Refused
 status_of (fault.Differs path end) = Refused
 status_of _ = Failed
 
+-- a read of the ledger failed
+abbrev pub IsReadFault : ArchiveFault → Type 0
+IsReadFault (fault.NoLedger path refusal) = refusal ≡ opening.Device
+IsReadFault (fault.Lost path refusal) = refusal ≡ read.Device
+IsReadFault _ = ⊥
+
 -- the numbers that a fault tells show it: the earliest batch comes behind the archive's end, or the next one before it
 abbrev pub TellsNumbers : ArchiveFault → Type 0
 TellsNumbers (fault.Gap path first end) = end < first
 TellsNumbers (fault.Short path next end) = next < end
 TellsNumbers _ = Unit {0}
+
+-- it is no fault of reading the ledger, and tells its numbers rightly
+abbrev pub IsElsewhere : ArchiveFault → Type 0
+IsElsewhere fault = (IsReadFault fault → ⊥) × TellsNumbers fault

@@ -1,6 +1,6 @@
 //! Why nothing, or not all, was added to an archive.
-ghost use Rattle.std.specs.Prelude.{◌≡◌};
-ghost use Rattle.archive_engine.specs.Faults.{TellsNumbers, of_newest, status_of};
+ghost use Rattle.std.specs.Prelude.{◌≡◌, ◌↔◌};
+ghost use Rattle.archive_engine.specs.Faults.{TellsNumbers, IsReadFault, IsElsewhere, of_newest, status_of};
 
 use file_device::{DeviceRefusal, FileFault};
 use journal_recovery::OpenRefusal;
@@ -155,7 +155,8 @@ impl<'a> ArchiveFault<'a> {
 
     // Of one that isn't sound.
     pub(crate) fn of_opening(path: &'a str, refusal: OpenRefusal) -> ArchiveFault<'a>
-        ensures { TellsNumbers result }
+        ensures read { IsReadFault result ↔ (refusal ≡ OpenRefusal.Device) }
+        ensures numbers { TellsNumbers result }
     {
         match refusal {
             OpenRefusal::Memory => ArchiveFault::Memory,
@@ -165,7 +166,7 @@ impl<'a> ArchiveFault<'a> {
 
     // Of the newest ledger of the archive.
     pub(crate) fn of_newest(volume: Volume<'a>, fault: NewestFault) -> ArchiveFault<'a>
-        ensures { TellsNumbers result }
+        ensures { IsElsewhere result }
     {
         match fault {
             NewestFault::Unread(FileFault::Memory) | NewestFault::NoLedger(OpenRefusal::Memory) => {
@@ -178,7 +179,7 @@ impl<'a> ArchiveFault<'a> {
     // Of the ledger that is to be added.
     pub(crate) fn of_device(folder: &'a str, refusal: DeviceRefusal) -> ArchiveFault<'a>
         ensures status { status_of result ≡ Status.Failed }
-        ensures numbers { TellsNumbers result }
+        ensures elsewhere { IsElsewhere result }
     {
         match refusal {
             DeviceRefusal::File(FileFault::Memory) => ArchiveFault::Memory,
