@@ -1,7 +1,7 @@
 -- Spans of a live office, one after another.
 use Rattle.std.specs.Prelude.{◌≡◌, ◌≢◌, ◌<◌, ◌≤◌, ℕ, List, [], ◌∷◌, ◌++◌, length, map, All, refl}
 use Rattle.std.specs.List.{AllZip, slice_index_or}
-use Rattle.std.proofs.Common.{sym, ◌∙◌, ap, subst, arith}
+use Rattle.std.proofs.Common.{sym, ◌∙◌, ap, subst, arith, inl, inr}
 use Rattle.std.proofs.lemmas.List.{append-nil, length-map, get_or-map}
 use Rattle.std.proofs.lemmas.Grind.{flat_map-append}
 use Rattle.std.proofs.lemmas.Slice.Zip.{AllZip-long}
@@ -15,7 +15,7 @@ use Rattle.line_lock.specs.Account.{turns_of, IsBorneOut}
 use Rattle.line_lock.specs.Lent.{new_seats}
 use Rattle.line_lock.specs.Seat.{SeatState, new_seat}
 use Rattle.station_desk.specs.declared.messages.Ask.{Ask}
-use Rattle.station_desk.specs.declared.end.End.TheVariants.{NotStarted, Reached, Refused}
+use Rattle.station_desk.specs.declared.end.End.TheVariants.{NotStarted, Refused}
 use Rattle.station_desk.specs.declared.messages.Answer.{Answer}
 use Rattle.station_desk.specs.Messages.{entries_of, asks_of, outcomes_in, AreNumberedFrom}
 use Rattle.station_desk.specs.PairLaws.{AllStandAt}
@@ -32,7 +32,7 @@ use Rattle.office_day.specs.Day.{HaveServed, IsReconciled, AreReconciled}
 use Rattle.station_desk.specs.declared.end.End.{End}
 use Rattle.office_day.specs.Ended.{HasEnded}
 use Rattle.office_day.proofs.Ended.{has_ended, ended_anyhow}
-use Rattle.office_day.specs.Spans.{Span, span_of, turns_in, IsSpan, AreSpans, LeftAfter, HaveLeft, Adjournment, adjourned_to, HasComeTo, HasLived, WasBrokenOff, WasServed, WasKeptOpen, WasAbandoned}
+use Rattle.office_day.specs.Spans.{Span, span_of, turns_in, IsSpan, AreSpans, WasLookedAt, IsGoodEnd, LeftAfter, HaveLeft, Adjournment, adjourned_to, HasComeTo, HasLived, WasBrokenOff, WasServed, WasKeptOpen, WasAbandoned}
 use Rattle.office_day.proofs.Days.{length-new_seats, new_seat_at}
 use Rattle.office_day.proofs.Lists.{first, AllZip-at, AllZip-each}
 use Rattle.office_day.proofs.Pairing.{stands_with}
@@ -93,18 +93,24 @@ module _ {device : DeviceState} {from : Configuration} {moves : ℕ} {closes : T
 turns-more : {D : Type 0} (i : ℕ) (spans : List (Span D)) (span : Span D) → turns_in i spans ++ turns_in i (span ∷ []) ≡ turns_in i (spans ++ span ∷ [])
 turns-more i spans span = sym (flat_map-append (λ (s : Span _). turns_of i s.clerk.history) spans (span ∷ []))
 
+not_refused : (end : End) → IsGoodEnd end → end ≢ Refused Device
+not_refused end (inl reached) failed = absurd (cc)
+not_refused end (inr closed) failed = absurd (cc)
+
 module _ {D : Type 0} (state : D → DeviceState) (moves : ℕ) where
   -- one more span in a row
-  pub spans-more : (device : D) (from : Configuration) (spans : List (Span D)) (mid : D) (between : Configuration) (span : Span D)
+  pub spans-more : (device : D) (from : Configuration) (spans : List (Span D)) (mid : D) (between : Configuration) (span : Span D) (next : D)
       → AreSpans state moves device from spans mid between → IsSpan state moves (state mid) between span
-      → AreSpans state moves device from (spans ++ span ∷ []) span.clerk.journal.device span.clerk.line
-  spans-more device from [] mid between span row is = (
+      → WasLookedAt (state span.clerk.journal.device) (state next)
+      → AreSpans state moves device from (spans ++ span ∷ []) next span.clerk.line
+  spans-more device from [] mid between span next row is looked = (
     subst (λ (d : D). IsSpan state moves (state d) from span) row.0
         (subst (λ (l : Configuration). IsSpan state moves (state mid) l span) row.1 is),
-    (refl, refl),
+    (next, looked, (refl, refl)),
   )
-  spans-more device from (before ∷ spans) mid between span row is =
-      (row.0, spans-more before.clerk.journal.device before.clerk.line spans mid between span row.1 is)
+  spans-more device from (before ∷ spans) mid between span next row is looked =
+      let (then, was, more) = row.1 in
+      (row.0, (then, was, spans-more then before.clerk.line spans mid between span next more is looked))
 
   pub nothing_lived : (from : Adjournment D) → HasComeTo state moves from from
   nothing_lived from = record {
@@ -139,28 +145,27 @@ module _ {D : Type 0} (state : D → DeviceState) (moves : ℕ) where
     left = left-more closes from before earlier span parts left;
   }
 
-  -- where all turns were taken, the office comes to the next span
+  -- where all turns were taken, or the stations were sent home, the office comes to the next span
   pub come-further : (closes : Type 0) (from before after : Adjournment D) (earlier : HasComeTo state moves from before) (span : Span D) (parts : List Left)
-      → IsSpan state moves (state before.device) before.line span → HaveLeft moves closes [] span before.desks parts → All (λ (part : Left). part.end ≡ Reached) parts
-      → after.device ≡ span.clerk.journal.device → after.line ≡ span.audit.last → after.desks ≡ map (λ (part : Left). part.desk) parts
+      → IsSpan state moves (state before.device) before.line span → HaveLeft moves closes [] span before.desks parts → All (λ (part : Left). IsGoodEnd part.end) parts
+      → WasLookedAt (state span.clerk.journal.device) (state after.device) → after.line ≡ span.audit.last → after.desks ≡ map (λ (part : Left). part.desk) parts
       → HasComeTo state moves from after
-  come-further closes from before after earlier span parts closed left reached device line desks =
+  come-further closes from before after earlier span parts closed left well looked line desks =
       let far = left-more closes from before earlier span parts left in
       let desk_of : Left → DeskState = λ part. part.desk in
       let line_is : span.clerk.line ≡ after.line = sym (line ∙ closed.closed.last) in
       record {
         spans = earlier.spans ++ span ∷ [];
-        joined = subst (λ (d : D). AreSpans state moves from.device from.line (earlier.spans ++ span ∷ []) d after.line) (sym device)
-            (subst (λ (l : Configuration). AreSpans state moves from.device from.line (earlier.spans ++ span ∷ []) span.clerk.journal.device l) line_is
-            (spans-more from.device from.line earlier.spans before.device before.line span earlier.joined closed));
+        joined = subst (λ (l : Configuration). AreSpans state moves from.device from.line (earlier.spans ++ span ∷ []) after.device l) line_is
+            (spans-more from.device from.line earlier.spans before.device before.line span after.device earlier.joined closed looked);
         given = record {
           as_many = ap length desks ∙ length-map parts desk_of ∙ far.as_many;
           each = λ i desk low.
               let there : i < length parts = subst (λ n. i < n) (sym far.as_many) low in
               let part = first parts (omega (arith, there)) in
               let gave = far.each i desk part low in
-              let ended = reached i part there in
-              let none : gave.given_up ≡ [] = gave.ended.none_else (λ failed. absurd (cc)) in
+              let ended = well i part there in
+              let none : gave.given_up ≡ [] = gave.ended.none_else (not_refused (slice_index_or parts i part).end ended) in
               let at : desk_of (slice_index_or parts i part) ≡ slice_index_or after.desks i desk =
               sym (get_or-map desk_of parts i part desk there) ∙ ap (λ (l : List DeskState). slice_index_or l i desk) (sym desks) in
               subst (λ (d : DeskState). HasServed (slice_index_or from.desks i desk) d (turns_in i (earlier.spans ++ span ∷ [])) []) at

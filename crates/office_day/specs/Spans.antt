@@ -1,7 +1,8 @@
 -- A live office: it is opened, its stations take turns, and it is closed, again and again on one device.
-use Rattle.std.specs.Prelude.{◌≡◌, ◌<◌, ◌≤◌, ℕ, List, [], ◌∷◌, ◌++◌, length}
+use Rattle.std.specs.Prelude.{◌≡◌, ◌⊎◌, ◌<◌, ◌≤◌, ℕ, List, [], ◌∷◌, ◌++◌, length}
 use Rattle.std.specs.List.{flat_map, slice_index_or}
 use Rattle.sector_device.specs.Device.{DeviceState}
+use Rattle.sector_device.specs.Crash.{LooksOnly}
 use Rattle.four_state.specs.Configuration.{Configuration, stations}
 use Rattle.sweep_auditor.specs.declared.moves.Audit.{Audit}
 use Rattle.turn_clerk.specs.declared.turns.Turn.{Turn}
@@ -10,6 +11,8 @@ use Rattle.line_lock.specs.Account.{turns_of}
 use Rattle.line_lock.specs.declared.lent.OfficeRefusal.{OfficeRefusal}
 use Rattle.line_lock.specs.Lent.{IsClosed, IsRefused, IfOpening, UnlessOpening}
 use Rattle.line_lock.specs.OpenedOn.{WasLeftByClerk}
+use Rattle.station_desk.specs.declared.end.End.{End}
+use Rattle.station_desk.specs.declared.end.End.TheVariants.{Reached, Closed}
 use Rattle.station_desk.specs.declared.messages.Ask.{Ask}
 use Rattle.station_desk.specs.declared.messages.Answer.{Answer}
 use Rattle.station_desk.specs.Messages.{entries_of, asks_of, outcomes_in, AreNumberedFrom}
@@ -39,13 +42,23 @@ pub record IsSpan {D : Type 0} (state : D → DeviceState) (moves : ℕ) (device
   pub closed : IsClosed state device from span.clerk span.audit
   pub within : length span.clerk.history ≤ moves
 
--- Spans in a row, from that device and that line on: each was opened on the device and the line that the one before it
--- left. The last one left `after` and the line `to`.
+-- The device was looked at: it has as many sectors, is honest where it was and only there, and an honest one was read
+-- and synced, and not written.
+pub record WasLookedAt (old new : DeviceState) : Type 0 where
+  pub sectors : length new.reads ≡ length old.reads
+  pub stays_honest : old.honest → new.honest
+  pub was_honest : new.honest → old.honest
+  pub looks : LooksOnly old new
+
+-- Spans in a row, from that device and that line on: each was opened on the line that the one before it left, and on
+-- the device that it left, which was only looked at between them. So was `after`, behind the last one; it left the line
+-- `to`.
 module _ {D : Type 0} (state : D → DeviceState) (moves : ℕ) where
   abbrev pub AreSpans : D → Configuration → List (Span D) → D → Configuration → Type 0
   AreSpans device from [] after to = (after ≡ device) × (to ≡ from)
   AreSpans device from (span ∷ spans) after to =
-      IsSpan state moves (state device) from span × AreSpans span.clerk.journal.device span.clerk.line spans after to
+      IsSpan state moves (state device) from span × ((next : D) × WasLookedAt (state span.clerk.journal.device) (state next)
+      × AreSpans next span.clerk.line spans after to)
 
 -- Each desk gave, behind its earlier answers and in order, what became of the entries of its station's turns in these
 -- spans.
@@ -66,6 +79,10 @@ pub record HaveLeft {D : Type 0} (moves : ℕ) (closes : Type 0) (earlier : List
   pub as_many : length left ≡ length before
   pub each : (i : ℕ) (desk : DeskState) (part : Left) → i < length before
       → LeftAfter moves closes i earlier last (slice_index_or before i desk) (slice_index_or left i part)
+
+-- all turns were taken, or the station was sent home
+abbrev pub IsGoodEnd : End → Type 0
+IsGoodEnd end = (end ≡ Reached) ⊎ (end ≡ Closed)
 
 -- an office that is to be opened: its device and line, and the desks of its stations
 pub record Adjournment (D : Type 0) : Type 0 where

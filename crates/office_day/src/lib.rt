@@ -8,6 +8,7 @@ mod day;
 mod handing_in;
 mod held_entries;
 mod office_run;
+mod recess;
 mod reconciled;
 mod refusals;
 mod seated;
@@ -19,6 +20,7 @@ pub use line_lock::{
     Audit, Clerk, CloseRefusal, Closing, Device, Line, OfficeRefusal, OpenRefusal,
 };
 pub use office_run::{OfficeRun, run_office};
+pub use recess::Recess;
 pub use reconciled::{StationDay, all_reconciled};
 pub use refusals::DayRefusal;
 pub use seated::Left;

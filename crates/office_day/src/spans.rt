@@ -4,9 +4,10 @@ ghost use Rattle.four_state.specs.Configuration.{stations};
 ghost use Rattle.line_lock.specs.OpenedOn.{WasLeftByClerk};
 ghost use Rattle.line_lock.specs.Lent.{IsRefused, IfOpening, UnlessOpening};
 ghost use Rattle.station_desk.specs.declared.end.End.TheVariants.{Reached};
-ghost use Rattle.office_day.specs.Spans.{adjourned_to, span_of, IsSpan, HaveLeft, HasLived, WasBrokenOff};
+ghost use Rattle.office_day.specs.Spans.{adjourned_to, span_of, IsSpan, HaveLeft, HasLived, WasBrokenOff, WasLookedAt, IsGoodEnd};
 
 use crate::office_run::run_office;
+use crate::recess::Recess;
 use crate::seated::Left;
 use line_lock::{Audit, Clerk, Closing, Device, Line, OfficeRefusal};
 use station_desk::{Desk, End, Gate};
@@ -38,17 +39,19 @@ pub struct Life<D: Device> {
 
 /// Opens an office on the device, with this line and these desks, lets its stations take turns, each in a thread of its
 /// own, and closes it. Where all `moves` turns were taken, it is opened again on the same device, line and desks, and
-/// so on, until a station ends otherwise: it was sent home, or refused. So its history takes the memory of one span,
-/// however long it is open. The gate tells the stations what to do. The call may wait.
+/// so on, until a station ends otherwise: it was sent home, though no recess was called, or refused. Between two spans
+/// the recess is spent. So the office's history takes the memory of one span, however long it is open. The gate tells
+/// the stations what to do. The call may wait.
 ///
 /// # Errors
 /// The device comes back, and the desks are lost. [`OfficeRefusal::Opening`]: a span can't be opened; else the device
 /// is as a clerk that took turns on it left it.
-pub fn run_spans<D: Device + Send, G: Gate + Sync, R: Threads + Wait + Sync>(
+pub fn run_spans<D: Device + Send, G: Gate + Sync, P: Recess<D>, R: Threads + Wait + Sync>(
     rt: &R,
     alloc: Global,
     office: Adjourned<D>,
     gate: &G,
+    recess: &mut P,
     moves: u64,
 ) -> Result<Life<D>, (D, OfficeRefusal<AllocError>)>
     requires as_many { length office.desks.items ≡ stations office.line }
@@ -65,10 +68,10 @@ pub fn run_spans<D: Device + Send, G: Gate + Sync, R: Threads + Wait + Sync>(
             Ok(life) => life,
             Err((device, refusal)) => return Err((device, refusal)),
         };
-        if !all_reached(life.left.as_slice()) {
+        if !goes_on(life.left.as_slice(), recess) {
             return Ok(life);
         }
-        office = match between_spans(alloc, life) {
+        office = match between_spans(alloc, life, recess) {
             Ok(office) => office,
             Err((device, refused)) => return Err((device, OfficeRefusal::Work(refused))),
         };
@@ -104,6 +107,14 @@ fn run_span<D: Device + Send, G: Gate + Sync, R: Threads + Wait + Sync>(
     Ok(Life { clerk, audit, left })
 }
 
+// Whether the office is opened again: all turns were taken, or its stations were sent home for a recess.
+fn goes_on<D: Device, P: Recess<D>>(left: &[Left], recess: &P) -> bool
+    ensures well { IsTrue result → All (λ part. IsGoodEnd part.end) left.now }
+    ensures reached { All (λ part. part.end ≡ Reached) left.now → IsTrue result }
+{
+    all_reached(left) || (all_ended_well(left) && recess.is_called())
+}
+
 // Whether each station ended since all turns were taken.
 fn all_reached(left: &[Left]) -> bool
     ensures { IsTrue result ↔ All (λ part. part.end ≡ Reached) left.now }
@@ -111,9 +122,22 @@ fn all_reached(left: &[Left]) -> bool
     left.iter().all(|part| part.end == End::Reached)
 }
 
-// The office after a span, to be opened again.
-fn between_spans<D: Device>(alloc: Global, life: Life<D>) -> Result<Adjourned<D>, (D, AllocError)>
-    ensures device { IfOk result (λ office. office.device ≡ life.clerk.journal.device) }
+// Whether each station ended since all turns were taken, or was sent home.
+fn all_ended_well(left: &[Left]) -> bool
+    ensures { IsTrue result ↔ All (λ part. IsGoodEnd part.end) left.now }
+{
+    left.iter()
+        .all(|part| part.end == End::Reached || part.end == End::Closed)
+}
+
+// The office after a span, to be opened again behind a recess.
+fn between_spans<D: Device, P: Recess<D>>(
+    alloc: Global,
+    life: Life<D>,
+    recess: &mut P,
+) -> Result<Adjourned<D>, (D, AllocError)>
+    ensures device { IfOk result (λ office.
+        WasLookedAt (D.state life.clerk.journal.device) (D.state office.device)) }
     ensures line { IfOk result (λ office. office.line ≡ life.audit.last) }
     ensures desks { IfOk result (λ office.
         office.desks.items ≡ map (λ part. part.desk) life.left.items) }
@@ -123,7 +147,7 @@ fn between_spans<D: Device>(alloc: Global, life: Life<D>) -> Result<Adjourned<D>
     let device = clerk.into_device();
     match left.into_iter().map(|part| part.desk).collect(alloc) {
         Ok(desks) => Ok(Adjourned {
-            device,
+            device: recess.spend(device),
             line: audit.last,
             desks,
         }),

@@ -1,7 +1,6 @@
 use Rattle.std.proofs.Common.{◌≡◌, All, List, sym, subst}
-use Rattle.station_desk.specs.declared.end.End.TheVariants.{Reached}
 use Rattle.office_day.specs.declared.seated.Left.{Left}
-use Rattle.office_day.specs.Spans.{adjourned_to, span_of}
+use Rattle.office_day.specs.Spans.{adjourned_to, span_of, IsGoodEnd}
 use Rattle.office_day.proofs.SpanLaws.{nothing_lived, lived, come-further, desks_enough}
 use Rattle.office_day.proofs.spans.run_spans.Goals as goal
 
@@ -20,8 +19,8 @@ returns-in-Err-clause-broken_off g c = record {
   left = c.in-Err.ensures.given_up;
 }
 
-pub returns-then-not-all_reached-clause-lived : goal.returns-then-not-all_reached-clause-lived
-returns-then-not-all_reached-clause-lived g c =
+pub returns-then-not-goes_on-clause-lived : goal.returns-then-not-goes_on-clause-lived
+returns-then-not-goes_on-clause-lived g c =
     let from = adjourned_to c.args.office.device c.args.office.line c.args.office.desks.items in
     let before = adjourned_to c.loop.office.device c.loop.office.line c.loop.office.desks.items in
     let life = c.in-Ok.life in
@@ -53,6 +52,6 @@ loop-preserved g c =
     let span = span_of life.clerk life.audit in
     let made = c.in-Ok-between_spans.ensures in (
       come-further g.D.Device.state c.args.moves _ from before after c.loop.invariant.0 span life.left.items c.in-Ok.ensures.closed c.in-Ok.ensures.left
-          (subst (λ (l : List Left). All (λ (part : Left). part.end ≡ Reached) l) c.as_slice.ensures.value (c.all_reached.ensures.0 c.if-not-all_reached.false)) made.device made.line made.desks,
+          (subst (λ (l : List Left). All (λ (part : Left). IsGoodEnd part.end) l) c.as_slice.ensures.value (c.goes_on.ensures.well c.if-not-goes_on.false)) made.device made.line made.desks,
       desks_enough g.D.Device.state c.args.moves _ before after span life.left.items c.loop.invariant.1 c.in-Ok.ensures.closed c.in-Ok.ensures.left made.line made.desks,
     )
