@@ -7,6 +7,7 @@ import shutil
 import signal
 import sys
 
+import archives
 import coming
 import kills
 import order
@@ -39,6 +40,10 @@ CASES = (
     waiting.asks_questions_alone,
     waiting.at_a_terminal,
     waiting.input_that_ends,
+    archives.keeps_each_posting,
+    archives.without_an_archive,
+    archives.makes_copies,
+    archives.an_archive_that_fails,
 )
 
 

@@ -294,19 +294,23 @@ class Case:
         """Whether the file begins as a ledger does."""
         return self.device.exists() and self.device.read_bytes()[:4] == b"TLDG"
 
-    def listed(self, command):
-        """What derbyfig lists of the file, without the header."""
-        words = [self.program, command, self.device, "--as", "csv"]
+    def formatted_ledger(self, slots):
+        """An empty ledger on the device."""
+        subprocess.run([self.program, "format", self.device, "--slots", str(slots)], check=True, capture_output=True)
+
+    def listed(self, command, file=None):
+        """What derbyfig lists of a file, without the header; without a name of the office's."""
+        words = [self.program, command, file or self.device, "--as", "csv"]
         run = subprocess.run(words, capture_output=True, check=False)
         require((run.returncode, run.stderr) == (0, b""), f"derbyfig {command} ends as {run.returncode} with {run.stderr}")
         _, *lines = csv.reader(io.StringIO(run.stdout.decode()))
         return lines
 
-    def rows(self):
-        """The entries that the file holds."""
+    def rows(self, file=None):
+        """The entries that the file holds, or another one."""
         return [
             Row(int(number), int(station), kind, source, target, amount, int(reference))
-            for number, station, kind, source, target, amount, reference, *_ in self.listed("journal") if station
+            for number, station, kind, source, target, amount, reference, *_ in self.listed("journal", file) if station
         ]
 
     def balances(self):

@@ -92,7 +92,7 @@ ROWS = [
     Row(10, 0, "transfer", "3", "1", "10", 64),
 ]
 
-HELP = ["deposit", "withdraw", "transfer", "seal", "balance", "find", "help", "close", "Accounts"]
+HELP = ["deposit", "withdraw", "transfer", "seal", "balance", "find", "copy", "archive", "help", "close", "Accounts"]
 
 
 def require_closed(office, stations, turns):
@@ -112,7 +112,7 @@ def one_after_another(case):
         for said, *told in TALK:
             client.say(said + b"\n")
             require_same(client.hear(len(told)), told, f"the answer to {said[:60]!r}")
-        require_same([line.split()[0] for line in client.ask("help", 9)], HELP, "help")
+        require_same([line.split()[0] for line in client.ask("help", len(HELP))], HELP, "help")
         for piece in (b"bal", b"ance", b" 2\nbal", b"ance 1\n"):
             client.say(piece)
         require_same(client.hear(2), ["balance 2 80", "balance 1 310"], "the answers to lines in pieces")

@@ -39,6 +39,8 @@ fn a_script_and_an_office_have_their_words(rt: HostRuntime) {
         "--overwrite",
         "--sectors=1",
         "--terminal",
+        "--archive=books",
+        "--copies=backups",
     ];
     let asked = read_request(alloc, &words);
     assert!(rt;
@@ -48,7 +50,9 @@ fn a_script_and_an_office_have_their_words(rt: HostRuntime) {
         && office.format.map(|slots| slots.get()) == Some(1_000_000)
         && office.sectors == Some(1)
         && office.overwrite
-        && office.terminal)
+        && office.terminal
+        && office.archive == Some("books")
+        && office.copies == Some("backups"))
     );
 }
 

@@ -115,9 +115,9 @@ impl Conversation {
         ensures { (feed : FeedState) → IsOver feed self.old → IsOver feed self.new }
     {
         match message {
-            Message::Asked(Request::Balance { .. } | Request::Find { .. }) => {
-                self.tell(Response::Closed)
-            }
+            Message::Asked(
+                Request::Balance { .. } | Request::Find { .. } | Request::Copy | Request::Archive,
+            ) => self.tell(Response::Closed),
             Message::Asked(Request::Help) => self.tell(Response::Help),
             Message::Wrong(wrong) => self.tell(Response::Wrong(*wrong)),
             Message::Asked(Request::Post(_) | Request::Close) | Message::Ended => {}

@@ -9,6 +9,7 @@ ghost use Rattle.live_office.specs.Kept.{WasKeptFor, HandsBack, stands_with};
 use crate::conversation::Conversation;
 use crate::counter::{Counter, Unserved};
 use crate::opening::{Begun, begin};
+use crate::recess::{Granting, Keeper};
 use crate::scheduler::Scheduler;
 use crate::session::Session;
 use crate::wakers::Wakers;
@@ -80,7 +81,9 @@ impl From<Unserved> for LiveRefusal {
 /// go, say its requests, and is told the answers. Stations without a counter take turns that are empty. After `moves`
 /// turns the office is closed and opened again, which no counter notices. It ends once a counter asks for that, and all
 /// that was submitted is answered; where the input of a terminal ends; and where a station is refused its turns, as by
-/// a failed device. Then it is closed. The call waits for all of that; the counters' threads are left behind.
+/// a failed device. Then it is closed. Whenever it is closed for a while, the keeper adds to the archive and makes the
+/// copies that were asked for; counters can have it closed for that. If the archive can't be kept, the office ends. The call waits for all of that; the counters' threads are left
+/// behind.
 ///
 /// # Errors
 /// The device comes back with a [`LiveRefusal`].
@@ -89,6 +92,7 @@ pub fn keep_open<
     R: Threads + Wait + Clock + Sync + Send + Clone + Drop + 'static,
     I: Read + Send + Drop + 'static,
     O: Write + Send + Drop + 'static,
+    K: Keeper<D>,
 >(
     rt: &R,
     alloc: Global,
@@ -96,6 +100,7 @@ pub fn keep_open<
     line: Line,
     counters: Vec<Counter<I, O>>,
     moves: u64,
+    keeper: &mut K,
 ) -> Result<Closed<D>, (D, LiveRefusal)>
     ensures kept { IfOk result (λ closed. WasKeptFor D.state moves device line
         (span_of closed.clerk closed.audit) closed.stations.items closed.conversations.items) }
@@ -116,7 +121,12 @@ pub fn keep_open<
         line,
         desks,
     };
-    let life = run_spans(rt, alloc, office, &*scheduler, moves);
+    let mut recess = Granting {
+        rt,
+        scheduler: &*scheduler,
+        keeper,
+    };
+    let life = run_spans(rt, alloc, office, &*scheduler, &mut recess, moves);
     scheduler.note_over();
     let ended = all_ended(rt, alloc, dispatcher.join(rt));
     await_writers(rt, wakers.as_slice());

@@ -5,6 +5,7 @@ ghost use Rattle.live_office.specs.declared.messages.Message.TheVariants.{Asked}
 ghost use Rattle.live_office.specs.Conversation.{is_answer, told_of_balance, IsResponseTo};
 
 use crate::messages::WrongLine;
+use crate::recess::CopyRefusal;
 use line_lock::{BalanceRefusal, FindRefusal};
 use station_desk::{Answer, Outcome};
 use std::fmt;
@@ -18,6 +19,8 @@ transfer A B M [R]    M units from account A to account B
 seal A [R]            account A keeps what it holds for good, and no later entry may name it
 balance A             what account A holds, after all that was asked here before
 find R                in which batches reference R was posted, and how far back one sees
+copy                  a copy of the ledger in the folder for copies
+archive               all batches by now go to the archive
 help                  these requests
 close                 the office closes
 Accounts have numbers from 1 to 1024. R is the entry's reference, and without it the line's number.";
@@ -58,6 +61,18 @@ pub enum Response {
     },
     /// Why a reference wasn't looked for to the end.
     NotFound(FindRefusal),
+    /// All batches below this number are in the archive.
+    Archived {
+        next: u64,
+    },
+    /// The office has no archive.
+    NoArchive,
+    /// The copy has all batches below this number.
+    Copied {
+        next: u64,
+    },
+    /// Why there is no copy.
+    NoCopy(CopyRefusal),
     /// The office closed before the question was answered.
     Closed,
     /// The line is no request.
@@ -122,6 +137,10 @@ impl fmt::Display for Response {
             Response::NoBalance(refusal) => write!(f, "refused {refusal:?}"),
             Response::FoundInAll { count, since } => write!(f, "found {count} since {since}"),
             Response::NotFound(refusal) => write!(f, "refused {refusal:?}"),
+            Response::Archived { next } => write!(f, "archived {next}"),
+            Response::NoArchive => f.write_str("refused NoArchive"),
+            Response::Copied { next } => write!(f, "copied {next}"),
+            Response::NoCopy(refusal) => write!(f, "refused {refusal:?}"),
             Response::Closed => f.write_str("refused Closed"),
             Response::Wrong(wrong) => write!(f, "wrong {wrong}"),
             Response::Help => f.write_str(REQUESTS),

@@ -3,6 +3,7 @@
 //! Nobody asks for a turn while no request waits. While the line may still be healing each station may ask after each
 //! turn; from then on one station alone is privileged, and which one follows from the last move, so that it alone is
 //! woken.
+use crate::recess::{Came, Wish};
 use four_state::Rule;
 use station_desk::{Errand, Gate, Question, Report, Turn};
 use std::alloc::{AllocError, Global};
@@ -22,6 +23,9 @@ const PAUSE: u64 = 5;
 struct Exchange {
     question: Option<Question>,
     report: Option<Report>,
+    // What is wanted there of the next recess, and what came of that.
+    wish: Option<Wish>,
+    came: Option<Came>,
 }
 
 /// What wakes one station.
@@ -43,6 +47,8 @@ impl Waker {
             exchange: Mutex::new(Exchange {
                 question: None,
                 report: None,
+                wish: None,
+                came: None,
             }),
         }
     }
@@ -71,8 +77,12 @@ pub(crate) struct Scheduler {
     closing: AtomicBool,
     // A station has ended.
     stopping: AtomicBool,
+    // A recess was called, for which the stations are sent home.
+    recess: AtomicBool,
     // A station gave up waiting for the others to begin.
     abandoned: AtomicBool,
+    // The archive can't be kept: nobody takes a turn any more.
+    cut_off: AtomicBool,
     // The office's life is over.
     over: AtomicBool,
     dispatcher: Parker,
@@ -97,7 +107,9 @@ impl Scheduler {
             ended: AtomicU64::new(0),
             closing: AtomicBool::new(false),
             stopping: AtomicBool::new(false),
+            recess: AtomicBool::new(false),
             abandoned: AtomicBool::new(false),
+            cut_off: AtomicBool::new(false),
             over: AtomicBool::new(false),
             dispatcher: Parker::new(),
         })
@@ -123,6 +135,54 @@ impl Scheduler {
     pub(crate) fn take_report<R: Wait>(&self, rt: &R, station: u8) -> Option<Report> {
         let waker = self.wakers.get(station as usize)?;
         waker.exchange.lock(rt).report.take()
+    }
+
+    /// Calls a recess for what is wanted at a station.
+    pub(crate) fn call_recess<R: Wait>(&self, rt: &R, station: u8, wish: Wish) {
+        if let Some(waker) = self.wakers.get(station as usize) {
+            waker.exchange.lock(rt).wish = Some(wish);
+            self.recess.store(true, Ordering::SeqCst);
+            self.wake_all();
+        }
+    }
+
+    /// Whether one is called, behind which the office goes on.
+    pub(crate) fn is_recess_called(&self) -> bool {
+        self.recess.load(Ordering::SeqCst) && !self.is_given_up()
+    }
+
+    /// From here on a wish is granted that is there, and each later one calls the next recess.
+    pub(crate) fn begin_recess(&self) {
+        self.recess.store(false, Ordering::SeqCst);
+    }
+
+    /// What is wanted at a station, once.
+    pub(crate) fn take_wish<R: Wait>(&self, rt: &R, station: u8) -> Option<Wish> {
+        let waker = self.wakers.get(station as usize)?;
+        waker.exchange.lock(rt).wish.take()
+    }
+
+    /// Tells a station what came of its wish.
+    pub(crate) fn tell<R: Wait>(&self, rt: &R, station: u8, came: Came) {
+        if let Some(waker) = self.wakers.get(station as usize) {
+            waker.exchange.lock(rt).came = Some(came);
+        }
+    }
+
+    /// What came of the wish of a station, once.
+    pub(crate) fn take_what_came<R: Wait>(&self, rt: &R, station: u8) -> Option<Came> {
+        let waker = self.wakers.get(station as usize)?;
+        waker.exchange.lock(rt).came.take()
+    }
+
+    /// How many stations there are.
+    pub(crate) fn stations(&self) -> u8 {
+        u8::try_from(self.wakers.len()).unwrap_or(u8::MAX)
+    }
+
+    /// Nobody takes a turn any more.
+    pub(crate) fn cut_off(&self) {
+        self.cut_off.store(true, Ordering::SeqCst);
     }
 
     /// The office is to close once all that was submitted is answered.
@@ -168,6 +228,11 @@ impl Scheduler {
         self.abandoned.load(Ordering::SeqCst)
     }
 
+    // Whether nobody waits for turns any more.
+    fn is_given_up(&self) -> bool {
+        self.is_abandoned() || self.cut_off.load(Ordering::SeqCst)
+    }
+
     fn wake_those_who_may_ask(&self) {
         for waker in &self.wakers {
             if waker.may_ask.load(Ordering::SeqCst) {
@@ -206,10 +271,11 @@ impl Scheduler {
         self.abandoned.store(true, Ordering::SeqCst);
     }
 
-    // Whether a station is to end here: nothing waits in an office that closes, or nobody waits any more.
+    // Whether a station is to end here: nothing waits in an office that closes, a recess is called, or nobody waits any
+    // more.
     fn goes_home(&self) -> bool {
         let is_done = self.is_closing() && self.waiting.load(Ordering::SeqCst) == 0;
-        is_done || self.is_abandoned()
+        is_done || self.recess.load(Ordering::SeqCst) || self.is_given_up()
     }
 
     // What a station is to do now, if there is anything.

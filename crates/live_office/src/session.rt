@@ -1,7 +1,7 @@
 //! What the dispatcher does for one counter.
 ghost use Rattle.std.specs.Prelude.{◌≡◌, ◌≤◌, ◌<◌, false, [], ◌++◌, map, IsTrue, IfOk, IfSome, Some, None};
 ghost use Rattle.rtrb.specs.Ring.{known_free, sent, received};
-ghost use Rattle.script_grammar.specs.declared.requests.Request.TheVariants.{Post, Balance, Find, Close};
+ghost use Rattle.script_grammar.specs.declared.requests.Request.TheVariants.{Post, Balance, Find, Archive, Copy, Close};
 ghost use Rattle.station_desk.specs.Messages.{entries_of};
 ghost use Rattle.station_desk.specs.Rings.{StandsAt};
 ghost use Rattle.live_office.specs.declared.messages.Message.TheVariants.{Asked};
@@ -10,6 +10,7 @@ ghost use Rattle.live_office.specs.Conversation.{response_of, is_answer, answers
 use crate::conversation::{Conversation, list};
 use crate::messages::Message;
 use crate::recent::Recent;
+use crate::recess::{Came, Kept, Wish};
 use crate::responses::Response;
 use crate::scheduler::Scheduler;
 use crate::search::{Search, Step};
@@ -40,7 +41,7 @@ pub(crate) struct Session {
     closes_at_end: bool,
     // What is handled next, once all before it is answered.
     next: Option<Message>,
-    // Whether the station was asked for it.
+    // Whether the station was asked for it, or a recess was called.
     is_asked: bool,
     search: Search,
     // How many requests are submitted, and not answered.
@@ -178,6 +179,8 @@ impl Session {
             Message::Asked(Request::Find { reference }) => {
                 self.tell_found(rt, scheduler, reference)
             }
+            Message::Asked(Request::Copy) => self.tell_copied(rt, scheduler),
+            Message::Asked(Request::Archive) => self.tell_archived(rt, scheduler),
             Message::Asked(Request::Help) => self.respond(Response::Help),
             Message::Asked(Request::Close) => self.close(scheduler),
             Message::Wrong(wrong) => self.respond(Response::Wrong(wrong)),
@@ -293,6 +296,55 @@ impl Session {
         let question = self.search.question(reference);
         let _ = self.report(rt, scheduler, question);
         false
+    }
+
+    // What came of a wish, for which a recess is called once, behind all that was asked before.
+    fn what_came<R: Wait>(&mut self, rt: &R, scheduler: &Scheduler, wish: Wish) -> Option<Came>
+        requires behind { self.old.unanswered ≡ 0 }
+        ensures feed { self.new.feed ≡ self.old.feed }
+        ensures next { self.new.next ≡ self.old.next }
+        ensures room { self.new.responses ≡ self.old.responses }
+        ensures unanswered { self.new.unanswered ≡ self.old.unanswered }
+    {
+        if !self.is_asked {
+            self.is_asked = true;
+            scheduler.call_recess(rt, self.station, wish);
+            return None;
+        }
+        let came = scheduler.take_what_came(rt, self.station)?;
+        self.is_asked = false;
+        Some(came)
+    }
+
+    // Tells how far the archive is; false if that isn't known yet. Where it can't be kept the office closes, and tells
+    // that.
+    fn tell_archived<R: Wait>(&mut self, rt: &R, scheduler: &Scheduler) -> bool
+        requires place { self.old.unanswered < known_free self.old.responses }
+        requires behind { self.old.unanswered ≡ 0 }
+        requires next { self.old.next ≡ Some (Asked Archive) }
+        ensures feed { self.new.feed ≡ self.old.feed }
+        ensures next { self.new.next ≡ self.old.next }
+    {
+        match self.what_came(rt, scheduler, Wish::Archive) {
+            Some(Came::Archive(Kept::UpTo(next))) => self.respond(Response::Archived { next }),
+            Some(Came::Archive(Kept::NoArchive)) => self.respond(Response::NoArchive),
+            Some(Came::Archive(Kept::Failed) | Came::Copy(_)) | None => false,
+        }
+    }
+
+    // Tells of a copy; false if it isn't made yet.
+    fn tell_copied<R: Wait>(&mut self, rt: &R, scheduler: &Scheduler) -> bool
+        requires place { self.old.unanswered < known_free self.old.responses }
+        requires behind { self.old.unanswered ≡ 0 }
+        requires next { self.old.next ≡ Some (Asked Copy) }
+        ensures feed { self.new.feed ≡ self.old.feed }
+        ensures next { self.new.next ≡ self.old.next }
+    {
+        match self.what_came(rt, scheduler, Wish::Copy) {
+            Some(Came::Copy(Ok(next))) => self.respond(Response::Copied { next }),
+            Some(Came::Copy(Err(refusal))) => self.respond(Response::NoCopy(refusal)),
+            Some(Came::Archive(_)) | None => false,
+        }
     }
 
     // Tells what comes of a step of a search, if anything.

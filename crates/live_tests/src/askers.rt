@@ -1,5 +1,6 @@
 //! Two counters that ask at the same time.
 use crate::counters::are_told;
+use crate::keepers::Sample;
 use live_office::{Counter, Kind, keep_open};
 use std::alloc::Global;
 use std::io;
@@ -117,7 +118,15 @@ fn each_counter_is_told_what_it_asked(rt: HostRuntime) -> Result<(), Fail> {
         counter_of(b"find 7\n", None, second_pipe, second_lines),
     ]?;
     let (device, line) = (formatted(alloc, 4)?, line([0, 0], [1, 0])?);
-    match keep_open(&rt, alloc, device, line, counters, 1_000) {
+    match keep_open(
+        &rt,
+        alloc,
+        device,
+        line,
+        counters,
+        1_000,
+        &mut Sample { copies: 0 },
+    ) {
         Ok(closed) => assert!(rt; closed.turns == 0),
         Err((_, refusal)) => panic!(rt; "{refusal}"),
     }

@@ -1,4 +1,5 @@
 //! Counters of an office in memory.
+use crate::keepers::Sample;
 use fault_injector::{OneFault, Op};
 use live_office::{Counter, Kind, keep_open};
 use office_day::End;
@@ -56,6 +57,10 @@ balance 2
 balance 2000
 find 7
 find 8
+archive
+copy
+copy
+copy good
 frob
 deposit 1
 seal 2 9
@@ -77,11 +82,15 @@ posted 0 7
 posted 1 7
 found 2 since 0
 found 0 since 0
+refused NoArchive
+copied 7
+refused Occupied
+wrong wrong number of words
 wrong unknown command
 wrong wrong number of words
 posted 2 9
 balance 2 200
-refused Sealed 16
+refused Sealed 20
 closing
 ";
 
@@ -104,7 +113,17 @@ fn a_counter_is_answered_in_order(rt: HostRuntime) -> Result<(), Fail> {
             kind: Kind::Pipes,
         };
         let counters = vec![in alloc; counter]?;
-        let closed = match keep_open(&rt, alloc, formatted(alloc, 4)?, line, counters, moves) {
+        let device = formatted(alloc, 4)?;
+        let kept = keep_open(
+            &rt,
+            alloc,
+            device,
+            line,
+            counters,
+            moves,
+            &mut Sample { copies: 0 },
+        );
+        let closed = match kept {
             Ok(closed) => closed,
             Err((_, refusal)) => panic!(rt; "{refusal}"),
         };
@@ -148,7 +167,18 @@ fn told_beside_a_fault<R: Files + Threads + Wait + Clock + Sync + Send + Clone +
         kind: Kind::Pipes,
     };
     let counters = vec![in alloc; counter]?;
-    if keep_open(rt, alloc, device, line([0, 0], [1, 0])?, counters, 1_000).is_err() {
+    let line = line([0, 0], [1, 0])?;
+    if keep_open(
+        rt,
+        alloc,
+        device,
+        line,
+        counters,
+        1_000,
+        &mut Sample { copies: 0 },
+    )
+    .is_err()
+    {
         return Ok(None);
     }
     let mut told = String::new(alloc);

@@ -5,3 +5,5 @@
 mod askers;
 #[cfg(test)]
 mod counters;
+#[cfg(test)]
+mod keepers;

@@ -3,6 +3,7 @@ ghost use Rattle.std.specs.Prelude.{◌≡◌};
 ghost use Rattle.office_engine.specs.Faults.{status_of};
 
 use crate::pipes::{PipeRefusal, Side};
+use archive_engine::ArchiveFault;
 use four_state::LineRefusal;
 use journal_recovery::OpenRefusal;
 use ledger_file::LedgerRefusal;
@@ -74,6 +75,9 @@ pub enum OfficeFault<'a> {
     /// The system refused a station its thread.
     #[error("the system refused a thread")]
     Threads,
+    /// The archive can't be had, or what it lacks can't be added to it. What was answered stands in the ledger.
+    #[error("{0}")]
+    Archive(ArchiveFault<'a>),
 }
 
 /// Out of memory is told as such, wherever it was met.
@@ -103,6 +107,7 @@ impl<'a> OfficeFault<'a> {
                 Status::from(refusal)
             }
             OfficeFault::Refused(refusal) => Status::from(refusal),
+            OfficeFault::Archive(fault) => fault.status(),
             OfficeFault::Memory
             | OfficeFault::Write
             | OfficeFault::Pipe(_)
@@ -118,6 +123,16 @@ impl<'a> OfficeFault<'a> {
             return OfficeFault::Memory;
         }
         OfficeFault::File { path, refusal }
+    }
+}
+
+/// Out of memory is told as such here too.
+impl<'a> From<ArchiveFault<'a>> for OfficeFault<'a> {
+    fn from(fault: ArchiveFault<'a>) -> Self {
+        match fault {
+            ArchiveFault::Memory => OfficeFault::Memory,
+            fault => OfficeFault::Archive(fault),
+        }
     }
 }
 

@@ -3,6 +3,7 @@ ghost use Rattle.std.specs.Prelude.{◌≡◌, ◌≢◌, ◌↔◌, false, Err,
 ghost use Rattle.turn_clerk.specs.declared.refusals.TurnRefusal.{TurnRefusal};
 ghost use Rattle.office_engine.specs.Ends.{NoneFailed, NoneWasRefused, TellsRefusal, reason_of};
 
+use crate::archivist::Archivist;
 use crate::faults::{OfficeFault, PipeFault};
 use crate::pipes::{Side, open_pipe};
 use crate::serving::{Plan, Serving};
@@ -11,18 +12,21 @@ use file_device::FileNumber;
 use four_state::{Line, MOST_STATIONS};
 use journal_recovery::{Recovered, recover};
 use ledger_file::{FileDevice, Formatting, format_ledger, open_ledger};
-use live_office::{Closed, Conversation, Counter, Entry, Kind, are_threads_granted, keep_open};
+use live_office::{
+    Closed, Conversation, Counter, Entry, Kept, Kind, are_threads_granted, keep_open,
+};
 use office_day::{End, StationDay, TurnRefusal};
 use script_streams::{Output, StreamFault};
 use sector_device::Device;
-use std::alloc::Global;
+use std::alloc::{Alloc, Global};
 use std::fs::{File, Files};
 use std::io::{Read, Write};
 use std::sync::Wait;
 use std::thread::Threads;
 use std::time::Clock;
 
-/// After how many turns an office is closed and opened again: so many its history holds at most.
+/// After how many turns an office is closed and opened again, if its banks have as many slots: so many its history holds
+/// at most.
 pub const SPAN: u64 = 5_000;
 
 /// This number, as a statement; the body does nothing.
@@ -40,14 +44,24 @@ pub struct Terminal<I: Read, O: Write> {
 // A counter, by pipes or by the terminal.
 type AnyCounter<I, O> = Counter<Source<File, I>, Target<File, O>>;
 
-/// Keeps an office open as it is asked for and planned. What is told of it goes to the writer. The call waits until the
-/// office is closed.
+/// Keeps an office open as it is asked for and planned. If it keeps an archive, what that lacks is added before the
+/// first turn, whenever the office is closed for a while, and at its end. What is told of it goes to the writer. The call
+/// waits until the office is closed.
 ///
 /// # Errors
 /// [`OfficeFault`].
 pub fn serve<
     'a,
-    R: Files<File = File> + Threads + Wait + Clock + Sync + Send + Clone + Drop + 'static,
+    R: Files<File = File>
+        + Alloc<A = Global>
+        + Threads
+        + Wait
+        + Clock
+        + Sync
+        + Send
+        + Clone
+        + Drop
+        + 'static,
     I: Read + Send + Drop + 'static,
     O: Write + Send + Drop + 'static,
     W: Write,
@@ -65,11 +79,29 @@ pub fn serve<
     if !are_threads_granted(rt, alloc, plan.stations, counters.len())? {
         return Err(OfficeFault::Threads);
     }
-    let (device, line) = tell_opened(alloc, serving.path, device, plan.stations, &mut output)?;
-    match keep_open(rt, alloc, device, line, counters, SPAN) {
-        Ok(closed) => tell_closed(closed, &mut output),
-        Err((_, refusal)) => Err(OfficeFault::from(refusal)),
+    let mut archivist = Archivist::open(rt, alloc, serving)?;
+    let (device, _) = archivist.add(device)?;
+    let opened = tell_opened(alloc, serving.path, device, plan.stations, &mut output)?;
+    let Opened {
+        device,
+        line,
+        slots,
+    } = opened;
+    // no more turns than a bank has slots: what isn't archived is in the two banks
+    let moves = slots.min(SPAN);
+    let closed = match keep_open(rt, alloc, device, line, counters, moves, &mut archivist) {
+        Ok(closed) => closed,
+        Err((_, refusal)) => return Err(OfficeFault::from(refusal)),
+    };
+    let device = tell_closed(closed, &mut output)?;
+    if let Some(fault) = archivist.fault() {
+        return Err(OfficeFault::from(fault));
     }
+    if let (_, Kept::UpTo(next)) = archivist.add(device)? {
+        output.line(format_args!("archived {next}"))?;
+        output.flush()?;
+    }
+    Ok(())
 }
 
 // The counters, each by its pipes, and the terminal behind them.
@@ -158,6 +190,13 @@ fn open_device<'a, R: Files<File = File>, W: Write>(
     Ok(device)
 }
 
+// What an office begins with, and how many slots each bank has.
+struct Opened<D> {
+    device: D,
+    line: Line,
+    slots: u64,
+}
+
 // Tells what the device holds, and gives the line that its office begins with.
 fn tell_opened<'a, D: Device + Drop, W: Write>(
     alloc: Global,
@@ -165,7 +204,7 @@ fn tell_opened<'a, D: Device + Drop, W: Write>(
     device: D,
     stations: u64,
     output: &mut Output<'_, W>,
-) -> Result<(D, Line), OfficeFault<'a>> {
+) -> Result<Opened<D>, OfficeFault<'a>> {
     let Recovered { journal, ledger } = match recover(alloc, device) {
         Ok(found) => found,
         Err((_, refusal)) => return Err(OfficeFault::NoLedger { path, refusal }),
@@ -174,7 +213,12 @@ fn tell_opened<'a, D: Device + Drop, W: Write>(
     let total = ledger.total();
     output.line(format_args!("opened {stations} next {next} total {total}"))?;
     output.flush()?;
-    Ok((journal.into_device(), first_line(stations)?))
+    let slots = journal.slots();
+    Ok(Opened {
+        device: journal.into_device(),
+        line: first_line(stations)?,
+        slots,
+    })
 }
 
 // The line that an office begins with: any would do, since it heals. On this one the bottom station alone is
@@ -188,11 +232,12 @@ fn first_line<'a>(stations: u64) -> Result<Line, OfficeFault<'a>> {
     }
 }
 
-// Tells how the office ended: its turns, the line, and what was asked and not answered.
+// Tells how the office ended: its turns, the line, and what was asked and not answered. The device comes back of one that
+// ended well.
 fn tell_closed<'a, D: Device + Drop, W: Write>(
     closed: Closed<D>,
     output: &mut Output<'_, W>,
-) -> Result<(), OfficeFault<'a>>
+) -> Result<D, OfficeFault<'a>>
     ensures refused { OnOk result (NoneWasRefused closed.stations.items) }
     ensures threads { OnOk result (closed.is_abandoned ≡ false) }
 {
@@ -208,7 +253,8 @@ fn tell_closed<'a, D: Device + Drop, W: Write>(
         tell_untold(station, conversation, output)?;
     }
     output.flush()?;
-    ended(closed.is_abandoned, closed.stations.as_slice())
+    ended(closed.is_abandoned, closed.stations.as_slice())?;
+    Ok(closed.clerk.into_device())
 }
 
 // Tells of the requests of a station that were submitted and not answered.

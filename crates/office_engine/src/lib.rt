@@ -1,9 +1,10 @@
 //! The engine of an office that is kept open: on a file or a disk, for counters by named pipes and for the terminal.
 //!
-//! [`serve`] opens the pipes and the device, keeps the office open, and tells how it ended. [`close_office`] asks it
-//! from outside to close.
+//! [`serve`] opens the pipes, the device and the archive, keeps the office open, and tells how it ended.
+//! [`close_office`] asks it from outside to close.
 #![tactic(auto)]
 
+mod archivist;
 mod closing;
 mod faults;
 mod keeping;

@@ -24,6 +24,10 @@ pub struct Serving<'a> {
     pub format: Option<NonZeroU64>,
     /// Whether what is formatted may hold anything.
     pub overwrite: bool,
+    /// The folder of the archive, if the office keeps one.
+    pub archive: Option<&'a str>,
+    /// The folder of the copies, if counters may have some made.
+    pub copies: Option<&'a str>,
 }
 
 /// Why words that are well read don't go together.

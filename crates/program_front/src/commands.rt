@@ -26,7 +26,7 @@ Keep a ledger open for counters that come and go.
 A counter is a folder PATH with two named pipes, PATH/in and PATH/out, which its owner makes with mkfifo. It says a request
 a line on PATH/in, and reads an answer a line on PATH/out, in the order of its requests. Answers are 'posted N R', where N
 is the number of the batch, 'refused REASON R', 'undecided R', 'balance A M', 'refused NoAccount', 'found K since N',
-'wrong TEXT' and 'closing'. What was answered as posted outlives a power failure.";
+'archived N', 'copied N', 'wrong TEXT' and 'closing'. What was answered as posted outlives a power failure.";
 
 const CLOSING: &str = "\
 What was asked at the counter before is answered first. The status is 1 if no office has the counter.
@@ -94,6 +94,18 @@ fn serve<'a>(alloc: Global) -> Result<Command<'a>, Error>
         .after_help(REQUESTS)
         .arg(positional(alloc, "FILE", FILE))?
         .arg(counter(alloc))?
+        .arg(option(
+            alloc,
+            "archive",
+            "FOLDER",
+            "Keep every batch in the archive in FOLDER, which gets what it lacks at the start, between turns and at the end",
+        ))?
+        .arg(option(
+            alloc,
+            "copies",
+            "FOLDER",
+            "Where a counter that says 'copy' has a copy of the ledger made, named by the number of its next batch",
+        ))?
         .arg(flag(
             alloc,
             "terminal",

@@ -153,7 +153,16 @@ fn device_for_script<'a, F: Files<File = File>>(
 
 // Keeps an office open, if its words go together.
 fn serve_counters<
-    R: Files<File = File> + Threads + Wait + Clock + Sync + Send + Clone + Drop + 'static,
+    R: Files<File = File>
+        + Alloc<A = Global>
+        + Threads
+        + Wait
+        + Clock
+        + Sync
+        + Send
+        + Clone
+        + Drop
+        + 'static,
     I: Read + Send + Drop + 'static,
     O: Write + Send + Drop + 'static,
     W: Write,
@@ -240,7 +249,8 @@ fn copy_file<'a, F: Files<File = File>, W: Write>(
         formatting,
     } = copying;
     let ledger = opened_first(rt, alloc, old)?;
-    match copy_ledger(rt, alloc, ledger, path, formatting) {
+    let (_ledger, copied) = copy_ledger(rt, alloc, ledger, path, formatting);
+    match copied {
         Ok(_) => say(alloc, format_args!("copied {}", formatting.slots), writer),
         Err(refusal) => Err(Fault::of_copy(old, path, refusal)),
     }

@@ -127,6 +127,8 @@ fn serving<'a>(alloc: Global, options: &ArgMatches<'a>) -> Result<Request<'a>, W
         stations,
         format,
         overwrite: options.get_flag("overwrite"),
+        archive: options.get_str("archive"),
+        copies: options.get_str("copies"),
     }))
 }
 

@@ -20,6 +20,10 @@ pub enum Request {
     Balance { account: u32 },
     /// `find R`: under which numbers entries of reference R were posted.
     Find { reference: u64 },
+    /// `copy`: a copy of the ledger is made.
+    Copy,
+    /// `archive`: all batches by now go to the archive.
+    Archive,
     /// `help`: which requests there are.
     Help,
     /// `close`: the office closes.
@@ -63,6 +67,14 @@ fn read_requested(name: &[u8], words: Words<'_>, line: u64) -> Result<Request, L
         "find" => {
             let One(reference) = exactly(words)?;
             Ok(Request::Find { reference })
+        }
+        "copy" => {
+            let Nothing = exactly(words)?;
+            Ok(Request::Copy)
+        }
+        "archive" => {
+            let Nothing = exactly(words)?;
+            Ok(Request::Archive)
         }
         "help" => {
             let Nothing = exactly(words)?;

@@ -1,0 +1,7 @@
+use Rattle.std.proofs.Common.{◌≡◌}
+use Rattle.office_day.specs.Spans.{WasLookedAt}
+use Rattle.live_office.proofs.recess.GrantingRecess.spend.Given as goal
+
+-- the device was only looked at
+abbrev pub invariant-loop-station : goal.invariant-loop-station
+invariant-loop-station g l = WasLookedAt (g.D.Device.state l.fn.device) (g.D.Device.state l.device)

@@ -1,0 +1,112 @@
+//! What a live office does between two spans.
+ghost use Rattle.office_day.specs.Spans.{WasLookedAt};
+
+use crate::scheduler::Scheduler;
+use office_day::{Device, Recess};
+use std::sync::Wait;
+
+/// Why there is no copy. The first that holds.
+#[derive(Clone, Copy, Debug, PartialEq, Eq)]
+pub enum CopyRefusal {
+    /// The office has no folder for copies.
+    NoFolder,
+    /// Out of memory.
+    Memory,
+    /// The ledger can't be read.
+    Device,
+    /// There is a file of that name, which stays as it is: nothing was posted since the last copy, or it is another's.
+    Occupied,
+    /// The file can't be made or written. If it was made for the copy, it is removed.
+    Unwritten,
+}
+
+/// How far an office's archive is.
+#[derive(Clone, Copy, Debug, PartialEq, Eq)]
+pub enum Kept {
+    /// There is none.
+    NoArchive,
+    /// All batches below this number are in it.
+    UpTo(u64),
+    /// It can't be written.
+    Failed,
+}
+
+/// Who keeps the archive of an office, and makes copies of its ledger.
+pub trait Keeper<D: Device> {
+    /// Adds to the archive what it lacks of the ledger on the device, which is only looked at and handed back.
+    fn keep(&mut self, device: D) -> (D, Kept)
+        ensures looked { WasLookedAt (D.state device) (D.state result.0) };
+
+    /// Makes a copy of the ledger on the device. All batches below the number are in it. The device is only looked at and
+    /// handed back.
+    ///
+    /// # Errors
+    /// [`CopyRefusal`].
+    fn copy(&mut self, device: D) -> (D, Result<u64, CopyRefusal>)
+        ensures looked { WasLookedAt (D.state device) (D.state result.0) };
+}
+
+/// What a counter wants of a recess.
+#[derive(Clone, Copy)]
+pub(crate) enum Wish {
+    Archive,
+    Copy,
+}
+
+/// What came of it.
+#[derive(Clone, Copy)]
+pub(crate) enum Came {
+    Archive(Kept),
+    Copy(Result<u64, CopyRefusal>),
+}
+
+/// A live office between two spans: its archive is kept, and copies are made that were asked for. If the archive can't be
+/// kept, no station takes a turn any more.
+#[derive(Drop)]
+pub(crate) struct Granting<'a, R, K> {
+    pub rt: &'a R,
+    pub scheduler: &'a Scheduler,
+    pub keeper: &'a mut K,
+}
+
+impl<R: Wait, K> Granting<'_, R, K> {
+    // Does what a station wants, if it wants anything, and tells it what came of that.
+    fn grant<D: Device>(&mut self, device: D, station: u8, kept: Kept) -> D
+    where
+        K: Keeper<D>,
+        ensures { WasLookedAt (D.state device) (D.state result) }
+    {
+        let Some(wish) = self.scheduler.take_wish(self.rt, station) else {
+            return device;
+        };
+        let (device, came) = match wish {
+            Wish::Archive => (device, Came::Archive(kept)),
+            Wish::Copy => {
+                let (device, copied) = self.keeper.copy(device);
+                (device, Came::Copy(copied))
+            }
+        };
+        self.scheduler.tell(self.rt, station, came);
+        device
+    }
+}
+
+impl<D: Device, R: Wait, K: Keeper<D>> Recess<D> for Granting<'_, R, K> {
+    fn is_called(&self) -> bool {
+        self.scheduler.is_recess_called()
+    }
+
+    fn spend(&mut self, device: D) -> D {
+        let (device, kept) = self.keeper.keep(device);
+        if kept == Kept::Failed {
+            self.scheduler.cut_off();
+        }
+        self.scheduler.begin_recess();
+        let mut device = device;
+        for station in 0..self.scheduler.stations() {
+            device = self.grant(device, station, kept);
+        }
+        self.scheduler.wake_dispatcher();
+        device
+    }
+}
