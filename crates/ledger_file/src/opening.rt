@@ -1,6 +1,8 @@
 //! Opening a file as a ledger, and making one.
 ghost use Rattle.std.specs.Prelude.{◌≡◌, ◌≢◌, ◌+◌, ◌*◌, ◌<◌, ◌≤◌, ◌^◌, ◌↔◌, max, false, IsOk, IsTrue, IfOk, Err};
 ghost use Rattle.std.specs.Int.NonZero.{non_zero_u64_get};
+ghost use Rattle.sector_device.specs.Device.{AreCalls};
+ghost use Rattle.sector_device.specs.Crash.{LooksOnly};
 ghost use Rattle.journal_recovery.specs.Older.{OldRecoveryRefuses};
 ghost use Rattle.journal_recovery.specs.Refused.{RecoveryRefuses};
 

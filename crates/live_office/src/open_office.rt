@@ -82,8 +82,8 @@ impl From<Unserved> for LiveRefusal {
 /// turns the office is closed and opened again, which no counter notices. It ends once a counter asks for that, and all
 /// that was submitted is answered; where the input of a terminal ends; and where a station is refused its turns, as by
 /// a failed device. Then it is closed. Whenever it is closed for a while, the keeper adds to the archive and makes the
-/// copies that were asked for; counters can have it closed for that. If the archive can't be kept, the office ends. The call waits for all of that; the counters' threads are left
-/// behind.
+/// copies that were asked for; counters can have it closed for that. If the archive can't be kept, the office ends. The
+/// call waits for all of that; the counters' threads are left behind.
 ///
 /// # Errors
 /// The device comes back with a [`LiveRefusal`].

@@ -37,8 +37,8 @@ pub trait Keeper<D: Device> {
     fn keep(&mut self, device: D) -> (D, Kept)
         ensures looked { WasLookedAt (D.state device) (D.state result.0) };
 
-    /// Makes a copy of the ledger on the device. All batches below the number are in it. The device is only looked at and
-    /// handed back.
+    /// Makes a copy of the ledger on the device. All batches below the number are in it. The device is only looked at
+    /// and handed back.
     ///
     /// # Errors
     /// [`CopyRefusal`].
@@ -60,8 +60,8 @@ pub(crate) enum Came {
     Copy(Result<u64, CopyRefusal>),
 }
 
-/// A live office between two spans: its archive is kept, and copies are made that were asked for. If the archive can't be
-/// kept, no station takes a turn any more.
+/// A live office between two spans: its archive is kept, and copies are made that were asked for. If the archive can't
+/// be kept, no station takes a turn any more.
 #[derive(Drop)]
 pub(crate) struct Granting<'a, R, K> {
     pub rt: &'a R,

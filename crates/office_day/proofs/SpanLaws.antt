@@ -32,7 +32,8 @@ use Rattle.office_day.specs.Day.{HaveServed, IsReconciled, AreReconciled}
 use Rattle.station_desk.specs.declared.end.End.{End}
 use Rattle.office_day.specs.Ended.{HasEnded}
 use Rattle.office_day.proofs.Ended.{has_ended, ended_anyhow}
-use Rattle.office_day.specs.Spans.{Span, span_of, turns_in, IsSpan, AreSpans, WasLookedAt, IsGoodEnd, LeftAfter, HaveLeft, Adjournment, adjourned_to, HasComeTo, HasLived, WasBrokenOff, WasServed, WasKeptOpen, WasAbandoned}
+use Rattle.office_day.specs.Spans.{Span, span_of, turns_in, IsSpan, AreSpans, WasLookedAt, IsGoodEnd, LeftAfter, HaveLeft, Adjournment, adjourned_to, HasComeTo}
+use Rattle.office_day.specs.Spans.{HasLived, WasBrokenOff, WasServed, WasKeptOpen, WasAbandoned}
 use Rattle.office_day.proofs.Days.{length-new_seats, new_seat_at}
 use Rattle.office_day.proofs.Lists.{first, AllZip-at, AllZip-each}
 use Rattle.office_day.proofs.Pairing.{stands_with}

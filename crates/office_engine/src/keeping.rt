@@ -25,8 +25,8 @@ use std::sync::Wait;
 use std::thread::Threads;
 use std::time::Clock;
 
-/// After how many turns an office is closed and opened again, if its banks have as many slots: so many its history holds
-/// at most.
+/// After how many turns an office is closed and opened again, if its banks have as many slots: so many its history
+/// holds at most.
 pub const SPAN: u64 = 5_000;
 
 /// This number, as a statement; the body does nothing.
@@ -45,8 +45,8 @@ pub struct Terminal<I: Read, O: Write> {
 type AnyCounter<I, O> = Counter<Source<File, I>, Target<File, O>>;
 
 /// Keeps an office open as it is asked for and planned. If it keeps an archive, what that lacks is added before the
-/// first turn, whenever the office is closed for a while, and at its end. What is told of it goes to the writer. The call
-/// waits until the office is closed.
+/// first turn, whenever the office is closed for a while, and at its end. What is told of it goes to the writer. The
+/// call waits until the office is closed.
 ///
 /// # Errors
 /// [`OfficeFault`].
@@ -232,8 +232,8 @@ fn first_line<'a>(stations: u64) -> Result<Line, OfficeFault<'a>> {
     }
 }
 
-// Tells how the office ended: its turns, the line, and what was asked and not answered. The device comes back of one that
-// ended well.
+// Tells how the office ended: its turns, the line, and what was asked and not answered. The device comes back of one
+// that ended well.
 fn tell_closed<'a, D: Device + Drop, W: Write>(
     closed: Closed<D>,
     output: &mut Output<'_, W>,

@@ -24,11 +24,15 @@ pub returns-in_err-entry-in_default : goal.returns-in_err-entry-in_default
 unfolding IsRequestRead
 returns-in_err-entry-in_default c =
     let other = c.in_default in
-    search (rules, as_entry _ _ c.args.words c.requires c.text_of.ensures.names other.not-balance other.not-find other.not-copy other.not-archive other.not-help other.not-close ∙ c.in_err-entry-in_default.ensures)
+    let told =
+    as_entry _ _ c.args.words c.requires c.text_of.ensures.names other.not-balance other.not-find other.not-copy other.not-archive other.not-help other.not-close in
+    search (rules, told ∙ c.in_err-entry-in_default.ensures)
 
 pub returns-in_ok-entry-in_default : goal.returns-in_ok-entry-in_default
 unfolding IsRequestRead SpellsRequest
 returns-in_ok-entry-in_default c =
     let other = c.in_default in
-    let h = c.in_ok-entry-in_default.ensures in
-    (as_entry _ _ c.args.words c.requires c.text_of.ensures.names other.not-balance other.not-find other.not-copy other.not-archive other.not-help other.not-close ∙ h.0, h.1)
+    let h = c.in_ok-entry-in_default.ensures in (
+      as_entry _ _ c.args.words c.requires c.text_of.ensures.names other.not-balance other.not-find other.not-copy other.not-archive other.not-help other.not-close ∙ h.0,
+      h.1,
+    )
