@@ -1,4 +1,4 @@
-# Installs the programs, their pages and what shells complete:
+# Installs the programs, the clients, their pages and what shells complete:
 #     make install PREFIX=/usr/local DESTDIR=        make uninstall, with the same words
 #     make dist GATE='the last line of the gate'     a tarball of the same, and a file that says what is in it
 #     make deb                                       a package for Debian, with a unit that runs offices
@@ -14,7 +14,7 @@ GATE = not told
 to = $(DESTDIR)$(PREFIX)
 shells = share/bash-completion/completions/derbyfig share/zsh/site-functions/_derbyfig \
 	share/fish/vendor_completions.d/derbyfig.fish
-files = bin/derbyfig bin/turn_console share/man/man1/derbyfig.1 share/man/man1/turn_console.1 $(shells)
+files = bin/derbyfig bin/turn_console bin/derbyfig-counter share/derbyfig/derbyfig.py share/man/man1/derbyfig.1 share/man/man1/turn_console.1 $(shells)
 
 .PHONY: install uninstall dist deb
 
@@ -24,6 +24,8 @@ crates/%/out/derbyfig crates/%/out/turn_console:
 install: $(DERBYFIG) $(CONSOLE)
 	install -D $(DERBYFIG) $(to)/bin/derbyfig
 	install -D $(CONSOLE) $(to)/bin/turn_console
+	install -D clients/counter $(to)/bin/derbyfig-counter
+	install -D -m 644 clients/derbyfig.py $(to)/share/derbyfig/derbyfig.py
 	for page in derbyfig turn_console; do install -D -m 644 docs/man/$$page.1 $(to)/share/man/man1/$$page.1 || exit 1; done
 	mkdir -p $(addprefix $(to)/,$(dir $(shells)))
 	set -- bash zsh fish; for file in $(shells); do \

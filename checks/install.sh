@@ -1,5 +1,5 @@
 #!/usr/bin/env bash
-# Installs the programs into an empty folder, uses them from there with PATH alone, completes words in each shell that is
+# Installs the programs and clients into an empty folder, uses them from there by PATH, completes words in each shell that is
 # there, shows the pages, makes the tarball twice, and takes all away again. Words: the built turn_console, the built
 # derbyfig. Needed beside the toolchain: make, Python.
 set -euo pipefail
@@ -21,6 +21,15 @@ grep -q '^office> posted 0 7$' "$work/said" || fail "the installed office said $
 books derbyfig copy office.ledger more.ledger --slots 128 > /dev/null
 [ "$(books derbyfig balances more.ledger | tail -n 1 | grep -o '[0-9]*$')" = 500 ] || fail "the copy has other balances"
 books turn_console --device office.ledger <<< 'open 2 00 10' | grep -qx 'opened 2 next 1 total 500' || fail "the console opened another ledger"
+
+mkdir "$work/books/north" && mkfifo "$work/books/north/in" "$work/books/north/out"
+PATH="$usr/bin:$PATH" derbyfig serve "$work/books/office.ledger" --counter "$work/books/north" --hello > /dev/null &
+counter() { (cd "$work/books" && PATH="$usr/bin:$PATH" derbyfig-counter "$@"); }
+for _ in $(seq 500); do counter north balance 1 > "$work/said" 2> /dev/null && break || sleep 0.02; done
+grep -qx 'balance 1 500' "$work/said" || fail "derbyfig-counter said $(cat "$work/said")"
+counter -s north.state north deposit 1 7 | grep -q '^posted 1 ' || fail "derbyfig-counter posts nothing"
+[ "$(counter north close)" = closing ] || fail "derbyfig-counter doesn't close"
+wait
 
 completed() { bash -c "source '$usr/share/bash-completion/completions/derbyfig'; COMP_WORDS=($1); COMP_CWORD=$2; _derbyfig; echo \${COMPREPLY[*]}"; }
 [ "$(completed 'derbyfig jo' 1)" = journal ] || fail "bash completes jo by $(completed 'derbyfig jo' 1)"

@@ -12,6 +12,7 @@ import coming
 import kills
 import order
 import refusals
+import retries
 import talking
 import waiting
 from office import Case, Mismatch
@@ -44,6 +45,8 @@ CASES = (
     archives.without_an_archive,
     archives.makes_copies,
     archives.an_archive_that_fails,
+    retries.never_twice,
+    retries.unknown_at_most,
 )
 
 

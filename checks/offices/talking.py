@@ -92,7 +92,7 @@ ROWS = [
     Row(10, 0, "transfer", "3", "1", "10", 64),
 ]
 
-HELP = ["deposit", "withdraw", "transfer", "seal", "balance", "find", "copy", "archive", "help", "close", "Accounts"]
+HELP = ["deposit", "withdraw", "transfer", "seal", "balance", "find", "hello", "copy", "archive", "help", "close", "Accounts"]
 
 
 def require_closed(office, stations, turns):

@@ -40,6 +40,7 @@ fn a_script_and_an_office_have_their_words(rt: HostRuntime) {
         "--sectors=1",
         "--terminal",
         "--archive=books",
+        "--hello",
         "--copies=backups",
     ];
     let asked = read_request(alloc, &words);
@@ -52,6 +53,7 @@ fn a_script_and_an_office_have_their_words(rt: HostRuntime) {
         && office.overwrite
         && office.terminal
         && office.archive == Some("books")
+        && office.hello
         && office.copies == Some("backups"))
     );
 }

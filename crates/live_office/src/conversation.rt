@@ -118,6 +118,9 @@ impl Conversation {
             Message::Asked(
                 Request::Balance { .. } | Request::Find { .. } | Request::Copy | Request::Archive,
             ) => self.tell(Response::Closed),
+            Message::Asked(Request::Hello { number }) => {
+                self.tell(Response::Hello { number: *number })
+            }
             Message::Asked(Request::Help) => self.tell(Response::Help),
             Message::Wrong(wrong) => self.tell(Response::Wrong(*wrong)),
             Message::Asked(Request::Post(_) | Request::Close) | Message::Ended => {}

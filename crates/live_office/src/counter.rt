@@ -36,6 +36,8 @@ pub struct Counter<I: Read, O: Write> {
     /// What it is told.
     pub output: O,
     pub kind: Kind,
+    /// Whether its requests are dropped until it says `hello`: what an earlier client left unread isn't run.
+    pub awaits_hello: bool,
 }
 
 /// Why a counter isn't served.
@@ -74,6 +76,7 @@ pub(crate) fn begin_session<
         input,
         output,
         kind,
+        awaits_hello,
     } = counter;
     let prompt = match kind {
         Kind::Pipes => "",
@@ -82,7 +85,7 @@ pub(crate) fn begin_session<
     let (said, messages) = RingBuffer::new(alloc, CAPACITY)?;
     let (responses, told) = RingBuffer::new(alloc, CAPACITY)?;
     let wakers = new_wakers(alloc)?;
-    let reader = Reader::new(input, LineCutter::new(alloc)?, said);
+    let reader = Reader::new(input, LineCutter::new(alloc)?, said, awaits_hello);
     start_reader(rt, reader, &wakers, scheduler)?;
     let writer = Writer::new(alloc, output, prompt, told)?;
     start_writer(rt, writer, &wakers, scheduler)?;

@@ -20,6 +20,8 @@ pub enum WrongLine {
     Fault(LineFault),
     /// It has more than 256 bytes.
     TooLong,
+    /// Its client hasn't said hello since the office began.
+    NoHello,
 }
 
 impl fmt::Display for WrongLine {
@@ -27,6 +29,7 @@ impl fmt::Display for WrongLine {
         match self {
             WrongLine::Fault(fault) => write!(f, "{fault}"),
             WrongLine::TooLong => f.write_str("line too long"),
+            WrongLine::NoHello => f.write_str("no hello"),
         }
     }
 }

@@ -3,7 +3,7 @@ use crate::messages::{Message, WrongLine};
 use crate::scheduler::Scheduler;
 use crate::wakers::Wakers;
 use rtrb::Producer;
-use script_grammar::{Cut, LineCutter, read_request};
+use script_grammar::{Cut, LineCutter, Request, read_request};
 use std::io::{ErrorKind, Read};
 use std::sync::Wait;
 
@@ -39,17 +39,25 @@ pub(crate) struct Reader<I: Read> {
     beginning: Beginning,
     // How many lines have ended.
     lines: u64,
+    // Whether requests are dropped until the client says hello.
+    awaits_hello: bool,
     messages: Producer<Message>,
 }
 
 impl<I: Read + Drop> Reader<I> {
     /// Before the first line.
-    pub(crate) fn new(input: I, cutter: LineCutter, messages: Producer<Message>) -> Reader<I> {
+    pub(crate) fn new(
+        input: I,
+        cutter: LineCutter,
+        messages: Producer<Message>,
+        awaits_hello: bool,
+    ) -> Reader<I> {
         Reader {
             input,
             cutter,
             beginning: Beginning::Blank,
             lines: 0,
+            awaits_hello,
             messages,
         }
     }
@@ -107,9 +115,21 @@ impl<I: Read + Drop> Reader<I> {
             return (!is_comment).then_some(Message::Wrong(WrongLine::TooLong));
         }
         match read_request(self.cutter.line(), self.lines) {
-            Ok(request) => request.map(Message::Asked),
+            Ok(Some(request)) => Some(self.heard(request)),
+            Ok(None) => None,
             Err(fault) => Some(Message::Wrong(WrongLine::Fault(fault))),
         }
+    }
+
+    // The request, unless its client hasn't said hello, and has to.
+    fn heard(&mut self, request: Request) -> Message {
+        if matches!(request, Request::Hello { .. }) {
+            self.awaits_hello = false;
+        }
+        if self.awaits_hello {
+            return Message::Wrong(WrongLine::NoHello);
+        }
+        Message::Asked(request)
     }
 
     // Hands a message to the dispatcher, and waits for a place where there is none.

@@ -19,6 +19,7 @@ transfer A B M [R]    M units from account A to account B
 seal A [R]            account A keeps what it holds for good, and no later entry may name it
 balance A             what account A holds, after all that was asked here before
 find R                in which batches reference R was posted, and how far back one sees
+hello X               the same as an answer, so that a client knows which are its own
 copy                  a copy of the ledger in the folder for copies
 archive               all batches by now go to the archive
 help                  these requests
@@ -61,6 +62,10 @@ pub enum Response {
     },
     /// Why a reference wasn't looked for to the end.
     NotFound(FindRefusal),
+    /// What a client said to be known by.
+    Hello {
+        number: u64,
+    },
     /// All batches below this number are in the archive.
     Archived {
         next: u64,
@@ -137,6 +142,7 @@ impl fmt::Display for Response {
             Response::NoBalance(refusal) => write!(f, "refused {refusal:?}"),
             Response::FoundInAll { count, since } => write!(f, "found {count} since {since}"),
             Response::NotFound(refusal) => write!(f, "refused {refusal:?}"),
+            Response::Hello { number } => write!(f, "hello {number}"),
             Response::Archived { next } => write!(f, "archived {next}"),
             Response::NoArchive => f.write_str("refused NoArchive"),
             Response::Copied { next } => write!(f, "copied {next}"),

@@ -179,6 +179,9 @@ impl Session {
             Message::Asked(Request::Find { reference }) => {
                 self.tell_found(rt, scheduler, reference)
             }
+            Message::Asked(Request::Hello { number }) => {
+                self.respond(Response::Hello { number })
+            }
             Message::Asked(Request::Copy) => self.tell_copied(rt, scheduler),
             Message::Asked(Request::Archive) => self.tell_archived(rt, scheduler),
             Message::Asked(Request::Help) => self.respond(Response::Help),

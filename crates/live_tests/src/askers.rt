@@ -101,6 +101,7 @@ fn counter_of(
         input,
         output: Told { pipe, lines },
         kind: Kind::Pipes,
+        awaits_hello: false,
     }
 }
 

@@ -61,6 +61,7 @@ archive
 copy
 copy
 copy good
+hello 18446744073709551615
 frob
 deposit 1
 seal 2 9
@@ -86,11 +87,12 @@ refused NoArchive
 copied 7
 refused Occupied
 wrong wrong number of words
+hello 18446744073709551615
 wrong unknown command
 wrong wrong number of words
 posted 2 9
 balance 2 200
-refused Sealed 20
+refused Sealed 21
 closing
 ";
 
@@ -111,6 +113,7 @@ fn a_counter_is_answered_in_order(rt: HostRuntime) -> Result<(), Fail> {
             },
             output,
             kind: Kind::Pipes,
+            awaits_hello: false,
         };
         let counters = vec![in alloc; counter]?;
         let device = formatted(alloc, 4)?;
@@ -165,6 +168,7 @@ fn told_beside_a_fault<R: Files + Threads + Wait + Clock + Sync + Send + Clone +
         input,
         output,
         kind: Kind::Pipes,
+        awaits_hello: false,
     };
     let counters = vec![in alloc; counter]?;
     let line = line([0, 0], [1, 0])?;

@@ -114,7 +114,7 @@ fn open_counters<'a, R: Files<File = File>, I: Read + Drop, O: Write + Drop>(
     let mut counters = Vec::with_capacity(alloc, serving.counters.len())?;
     let mut opened = Vec::new(alloc);
     for folder in &serving.counters {
-        let counter = open_counter(rt, alloc, folder, &mut opened)?;
+        let counter = open_counter(rt, alloc, folder, serving.hello, &mut opened)?;
         if counters.push(counter).is_err() {
             return Err(OfficeFault::Memory);
         }
@@ -131,6 +131,7 @@ fn terminal_counter<I: Read, O: Write>(terminal: Terminal<I, O>) -> AnyCounter<I
         input: Source::Terminal(input),
         output: Target::Terminal(output),
         kind: Kind::Terminal,
+        awaits_hello: false,
     }
 }
 
@@ -139,6 +140,7 @@ fn open_counter<'a, R: Files<File = File>, I: Read, O: Write>(
     rt: &R,
     alloc: Global,
     folder: &'a str,
+    awaits_hello: bool,
     opened: &mut Vec<FileNumber>,
 ) -> Result<AnyCounter<I, O>, OfficeFault<'a>> {
     let input = pipe_of(rt, alloc, folder, Side::In, opened)?;
@@ -147,6 +149,7 @@ fn open_counter<'a, R: Files<File = File>, I: Read, O: Write>(
         input: Source::Pipe(input),
         output: Target::Pipe(output),
         kind: Kind::Pipes,
+        awaits_hello,
     })
 }
 

@@ -16,6 +16,8 @@ pub struct Serving<'a> {
     pub sectors: Option<u64>,
     /// The folders of the counters, that of station 0 first.
     pub counters: Vec<&'a str>,
+    /// Whether a counter's requests are dropped until it says `hello`.
+    pub hello: bool,
     /// Whether the terminal is a counter too, behind the others.
     pub terminal: bool,
     /// How many stations there are, if that is said.

@@ -26,7 +26,7 @@ Keep a ledger open for counters that come and go.
 A counter is a folder PATH with two named pipes, PATH/in and PATH/out, which its owner makes with mkfifo. It says a request
 a line on PATH/in, and reads an answer a line on PATH/out, in the order of its requests. Answers are 'posted N R', where N
 is the number of the batch, 'refused REASON R', 'undecided R', 'balance A M', 'refused NoAccount', 'found K since N',
-'archived N', 'copied N', 'wrong TEXT' and 'closing'. What was answered as posted outlives a power failure.";
+'hello X', 'archived N', 'copied N', 'wrong TEXT' and 'closing'. What was answered as posted outlives a power failure.";
 
 const CLOSING: &str = "\
 What was asked at the counter before is answered first. The status is 1 if no office has the counter.
@@ -105,6 +105,11 @@ fn serve<'a>(alloc: Global) -> Result<Command<'a>, Error>
             "copies",
             "FOLDER",
             "Where a counter that says 'copy' has a copy of the ledger made, named by the number of its next batch",
+        ))?
+        .arg(flag(
+            alloc,
+            "hello",
+            "Drop what a counter says until it says 'hello X': what an earlier client left in the pipe isn't run",
         ))?
         .arg(flag(
             alloc,

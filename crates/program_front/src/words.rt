@@ -123,6 +123,7 @@ fn serving<'a>(alloc: Global, options: &ArgMatches<'a>) -> Result<Request<'a>, W
         path,
         sectors,
         counters,
+        hello: options.get_flag("hello"),
         terminal: options.get_flag("terminal"),
         stations,
         format,

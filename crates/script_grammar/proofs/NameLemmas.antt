@@ -46,6 +46,10 @@ pub find_told : (words : List Word) → request_fault (codes "find" ∷ words) �
 unfolding request_fault
 find_told words = behind (codes "find") ((Number ∷ []) ∷ []) words
 
+pub hello_told : (words : List Word) → request_fault (codes "hello" ∷ words) ≡ told_of_one (Number ∷ []) words
+unfolding request_fault
+hello_told words = behind (codes "hello") ((Number ∷ []) ∷ []) words
+
 pub copy_told : (words : List Word) → request_fault (codes "copy" ∷ words) ≡ told_of_one [] words
 unfolding request_fault
 copy_told words = behind (codes "copy") ([] ∷ []) words
@@ -81,6 +85,6 @@ seal_told (GivenOr line) words = behind (codes "seal") ((Account ∷ []) ∷ wit
 -- what each of the two grammars knows of its names, and that of entries
 pub ruleset commands = (format_told, open_told, turn_told, bits_told, balances_told, crash_told, day_told, fills_named)
 
-pub ruleset requests = (balance_told, find_told, copy_told, archive_told, help_told, close_told, fills_named)
+pub ruleset requests = (balance_told, find_told, hello_told, copy_told, archive_told, help_told, close_told, fills_named)
 
 pub ruleset kinds = (deposit_told, withdraw_told, transfer_told, seal_told, entry_named)

@@ -7,7 +7,7 @@ use Rattle.script_grammar.specs.Places.{Account, Name, Number, NumberIs}
 use Rattle.script_grammar.specs.declared.entries.Reference.TheVariants.{GivenOr}
 use Rattle.script_grammar.specs.declared.faults.LineFault.{LineFault}
 use Rattle.script_grammar.specs.declared.requests.Request.{Request}
-use Rattle.script_grammar.specs.declared.requests.Request.TheVariants.{Post, Balance, Find, Copy, Archive, Help, Close}
+use Rattle.script_grammar.specs.declared.requests.Request.TheVariants.{Post, Balance, Find, Hello, Copy, Archive, Help, Close}
 
 -- the form of each request but entries
 abbrev pub balance_request : List Field
@@ -15,6 +15,9 @@ balance_request = Name (codes "balance") ∷ Account ∷ []
 
 abbrev pub find_request : List Field
 find_request = Name (codes "find") ∷ Number ∷ []
+
+abbrev pub hello_request : List Field
+hello_request = Name (codes "hello") ∷ Number ∷ []
 
 abbrev pub copy_request : List Field
 copy_request = Name (codes "copy") ∷ []
@@ -31,7 +34,7 @@ close_request = Name (codes "close") ∷ []
 -- the forms of a counter's lines
 abbrev pub request_forms : List (List Field)
 request_forms =
-    entries_given ++ (balance_request ∷ find_request ∷ copy_request ∷ archive_request ∷ help_request ∷ close_request ∷ [])
+    entries_given ++ (balance_request ∷ find_request ∷ hello_request ∷ copy_request ∷ archive_request ∷ help_request ∷ close_request ∷ [])
 
 -- what is wrong with a counter's line of these words, the first that holds
 unfoldable pub request_fault : List (List ℕ) → Option LineFault
@@ -42,6 +45,7 @@ unfoldable pub SpellsRequest : List (List ℕ) → ℕ → Request → Type 0
 SpellsRequest words line (Post entry) = SpellsEntry (GivenOr line) words entry
 SpellsRequest words line (Balance account) = Fills words balance_request (NumberIs account ∷ [])
 SpellsRequest words line (Find reference) = Fills words find_request (NumberIs reference ∷ [])
+SpellsRequest words line (Hello number) = Fills words hello_request (NumberIs number ∷ [])
 SpellsRequest words line Copy = Fills words copy_request []
 SpellsRequest words line Archive = Fills words archive_request []
 SpellsRequest words line Help = Fills words help_request []

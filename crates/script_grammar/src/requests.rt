@@ -20,6 +20,8 @@ pub enum Request {
     Balance { account: u32 },
     /// `find R`: under which numbers entries of reference R were posted.
     Find { reference: u64 },
+    /// `hello X`: it is answered by the same, so that a client knows which answers are its own.
+    Hello { number: u64 },
     /// `copy`: a copy of the ledger is made.
     Copy,
     /// `archive`: all batches by now go to the archive.
@@ -67,6 +69,10 @@ fn read_requested(name: &[u8], words: Words<'_>, line: u64) -> Result<Request, L
         "find" => {
             let One(reference) = exactly(words)?;
             Ok(Request::Find { reference })
+        }
+        "hello" => {
+            let One(number) = exactly(words)?;
+            Ok(Request::Hello { number })
         }
         "copy" => {
             let Nothing = exactly(words)?;

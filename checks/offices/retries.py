@@ -1,0 +1,136 @@
+"""Clients that are killed, and whose office is killed, amid postings: none stands twice, and none is lost unseen."""
+import os
+import pathlib
+import random
+import signal
+import subprocess
+import sys
+import time
+
+from office import PATIENCE, require, require_same
+
+CLIENTS = pathlib.Path(__file__).parents[2] / "clients"
+
+# How many clients there are, how much each posts, and how often something is killed.
+COUNTERS = 4
+POSTINGS = 60
+KILLS = 12
+
+# Slots of banks that hold all, and of banks that don't.
+ENOUGH = 1_000
+FEW = 3
+
+
+def post_all(folder, state, account, told):
+    """A client in Python: posts 1, 2, .. to its account, whatever happens, and notes what nobody knows."""
+    from derbyfig import Counter, InUse, NoOffice, TimeOut, Unknown
+    while True:
+        counter = Counter(folder, state, patience=5)
+        try:
+            with counter:
+                while (done := counter.state.reference % 2**32) < POSTINGS:
+                    counter.post(f"deposit {account} {done + 1}")
+                return
+        except Unknown:
+            with open(told, "a", encoding="ascii") as file:
+                print(counter.state.begun, file=file)
+            counter.forget()
+        except (NoOffice, TimeOut, InUse):
+            time.sleep(0.01)
+
+
+def shell_client(folder, state, account):
+    """The same in the shell, of a few postings."""
+    counter = CLIENTS / "counter"
+    return ["sh", "-c", f"""
+        for amount in 1 2 3 4 5 6 7 8 9; do
+            until [ -e '{state}' ] && [ $(( $(head -n 1 '{state}') % 4294967296 )) -ge $amount ]; do
+                '{counter}' -t 5 -s '{state}' '{folder}' deposit {account} $amount || sleep 0.02
+            done
+        done
+        until '{counter}' -t 5 -s '{state}' '{folder}'; do sleep 0.02; done"""]
+
+
+class Clients:
+    """The processes of all clients, each with a state of its own."""
+
+    def __init__(self, case, counters):
+        words = [[sys.executable, __file__, str(counter.folder), str(self.state(case, number)), str(number + 1),
+                  str(self.unknown(case, number))] for number, counter in enumerate(counters[:-1])]
+        last = len(counters) - 1
+        self.words = [*words, shell_client(counters[last].folder, self.state(case, last), last + 1)]
+        self.runs = [None] * len(counters)
+        for number in range(len(counters)):
+            self.start(number)
+
+    @staticmethod
+    def state(case, number):
+        return case.folder / f"state_{number}"
+
+    @staticmethod
+    def unknown(case, number):
+        return case.folder / f"unknown_{number}"
+
+    def start(self, number):
+        path = {**os.environ, "PYTHONPATH": str(CLIENTS), "PYTHONDONTWRITEBYTECODE": "1"}
+        self.runs[number] = subprocess.Popen(self.words[number], env=path, start_new_session=True,
+                                             stdout=subprocess.DEVNULL, stderr=subprocess.DEVNULL)
+
+    def kill(self, number):
+        if self.runs[number].poll() is None:
+            os.killpg(self.runs[number].pid, signal.SIGKILL)
+            self.runs[number].wait()
+        self.start(number)
+
+    def end(self):
+        for number, run in enumerate(self.runs):
+            try:
+                require_same(run.wait(PATIENCE), 0, f"the end of client {number}")
+            except subprocess.TimeoutExpired as late:
+                os.killpg(run.pid, signal.SIGKILL)
+                require(False, f"client {number} never ends: {late}")
+
+
+def retried(case, slots, moments):
+    """The amounts that each account was sent, in order, behind all kills."""
+    counters = case.counters(COUNTERS)
+    books = case.folder / "books"
+    books.mkdir()
+    case.formatted_ledger(slots)
+    clients = Clients(case, counters)
+    for _ in range(KILLS):
+        with case.office(counters, "--hello", "--archive", str(books)) as office:
+            office.opened()
+            time.sleep(moments.uniform(0.02, 0.2))
+            if moments.random() < 0.5:
+                clients.kill(moments.randrange(COUNTERS))
+                time.sleep(moments.uniform(0.02, 0.1))
+    with case.office(counters, "--hello", "--archive", str(books)) as office:
+        office.opened()
+        clients.end()
+        require_same(case.close(counters[0])[:2], (0, "closed\n"), "the closing")
+        office.closed()
+    rows = [row for file in sorted(books.iterdir()) for row in case.rows(file)]
+    return [[int(row.amount) for row in rows if row.target == str(number + 1)] for number in range(COUNTERS)]
+
+
+def never_twice(case):
+    """On banks that hold all that was posted, each posting stands once, in order."""
+    wanted = [list(range(1, POSTINGS + 1))] * (COUNTERS - 1) + [list(range(1, 10))]
+    require_same(retried(case, ENOUGH, random.Random(case.words.seed)), wanted, "what stands")
+
+
+def unknown_at_most(case):
+    """On banks of three slots none stands twice, and what doesn't stand was told as unknown."""
+    found = retried(case, FEW, random.Random(case.words.seed + 1))
+    for number, amounts in enumerate(found[:-1]):
+        require_same(amounts, sorted(set(amounts)), f"what client {number} posted, once and in order")
+        told = Clients.unknown(case, number)
+        unknown = {int(line.split()[2]) for line in told.read_text().splitlines()} if told.exists() else set()
+        missing = set(range(1, POSTINGS + 1)) - set(amounts)
+        require(missing <= unknown, f"client {number}: {missing - unknown} are missing, and weren't told as unknown")
+    require_same(found[-1], sorted(set(found[-1])), "what the client in the shell posted")
+
+
+if __name__ == "__main__":
+    post_all(*sys.argv[1:])
