@@ -11,3 +11,5 @@ mod Standing
 mod Running
 mod Lives
 mod Backs
+mod FarBack
+mod InSight

@@ -6,6 +6,7 @@ use Rattle.turn_clerk.specs.Searched.{find_refusal_of}
 use Rattle.turn_clerk.specs.declared.refusals.FindRefusal.TheVariants.{Changed}
 use Rattle.turn_clerk.specs.declared.searching.Found.TheVariants.{LookingBack}
 use Rattle.turn_clerk.proofs.AfterLooks.{looked}
+use Rattle.turn_clerk.proofs.FarBack.{far_behind_looks}
 use Rattle.turn_clerk.proofs.Searches.{has_found, is_changed, never_changed}
 use Rattle.turn_clerk.proofs.clerk.Clerk.find.Goals as goal
 
@@ -16,6 +17,8 @@ invariant_of-self g c =
       c.self.invariant.1,
       c.self.invariant.2,
       search.ensures.back c.self.invariant.3,
+      far_behind_looks g.D.Device.state g.met.D.Device.sound c.self.inside.opening_journal.value c.self.inside.journal search.new.journal c.self.invariant.4 search.ensures.call.was_honest
+          search.ensures.kept search.ensures.looks,
     )
 
 pub invariant_of-self-2 : goal.invariant_of-self-2
@@ -25,6 +28,8 @@ invariant_of-self-2 g c =
       c.self.invariant.1,
       c.self.invariant.2,
       search.ensures.back c.self.invariant.3,
+      far_behind_looks g.D.Device.state g.met.D.Device.sound c.self.inside.opening_journal.value c.self.inside.journal search.new.journal c.self.invariant.4 search.ensures.call.was_honest
+          search.ensures.kept search.ensures.looks,
     )
 
 pub returns-in_err-found-clause-never_changed : goal.returns-in_err-found-clause-never_changed
