@@ -13,3 +13,4 @@ mod Lives
 mod Backs
 mod FarBack
 mod InSight
+mod AsPosted

@@ -1,6 +1,6 @@
 use Rattle.std.proofs.Common.{◌≡◌, ◌≢◌, ◌∙◌, Err, ap, sym, subst, rules}
 use Rattle.turn_clerk.specs.View.{view_of}
-use Rattle.turn_clerk.specs.Clerk.{ClerkState}
+use Rattle.turn_clerk.specs.Clerk.{ClerkState, accepted_batches}
 use Rattle.turn_clerk.specs.Found.{HasFound}
 use Rattle.turn_clerk.specs.Searched.{find_refusal_of}
 use Rattle.turn_clerk.specs.declared.refusals.FindRefusal.TheVariants.{Changed}
@@ -17,8 +17,8 @@ invariant_of-self g c =
       c.self.invariant.1,
       c.self.invariant.2,
       search.ensures.back c.self.invariant.3,
-      far_behind_looks g.D.Device.state g.met.D.Device.sound c.self.inside.opening_journal.value c.self.inside.journal search.new.journal c.self.invariant.4 search.ensures.call.was_honest
-          search.ensures.kept search.ensures.looks,
+      far_behind_looks g.D.Device.state g.met.D.Device.sound c.self.inside.opening_journal.value c.self.inside.journal search.new.journal
+          (accepted_batches (view_of c.self.inside)) search.ensures.call.was_honest search.ensures.kept search.ensures.looks c.self.invariant.4,
     )
 
 pub invariant_of-self-2 : goal.invariant_of-self-2
@@ -28,8 +28,8 @@ invariant_of-self-2 g c =
       c.self.invariant.1,
       c.self.invariant.2,
       search.ensures.back c.self.invariant.3,
-      far_behind_looks g.D.Device.state g.met.D.Device.sound c.self.inside.opening_journal.value c.self.inside.journal search.new.journal c.self.invariant.4 search.ensures.call.was_honest
-          search.ensures.kept search.ensures.looks,
+      far_behind_looks g.D.Device.state g.met.D.Device.sound c.self.inside.opening_journal.value c.self.inside.journal search.new.journal
+          (accepted_batches (view_of c.self.inside)) search.ensures.call.was_honest search.ensures.kept search.ensures.looks c.self.invariant.4,
     )
 
 pub returns-in_err-found-clause-never_changed : goal.returns-in_err-found-clause-never_changed
