@@ -14,3 +14,4 @@ mod Backs
 mod FarBack
 mod InSight
 mod AsPosted
+mod Told
