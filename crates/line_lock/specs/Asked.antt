@@ -5,7 +5,7 @@ use Rattle.sector_device.specs.Crash.{LooksOnly}
 use Rattle.four_state.specs.Configuration.{Configuration}
 use Rattle.turn_ledger.specs.State.{IsAccount, balance_of}
 use Rattle.turn_clerk.specs.Clerk.{ClerkState, KeepsHistory}
-use Rattle.turn_clerk.specs.Found.{IsNumberedFromSome, HasFound}
+use Rattle.turn_clerk.specs.Found.{IsNumberedFromSome, HasFound, TellsOfBatches}
 use Rattle.turn_clerk.specs.declared.searching.Found.{Found}
 use Rattle.turn_clerk.specs.declared.searching.Found.TheVariants.{LookingBack}
 use Rattle.turn_clerk.specs.declared.refusals.FindRefusal.{FindRefusal}
@@ -66,3 +66,4 @@ pub record WasSearched {D : Type 0} (state : D
   -- on an honest device
   pub looks : LooksOnly (state clerk.journal.device) (state after)
   pub found : device.honest → IfOk answer (λ found. found ≢ LookingBack → HasFound state clerk reference first found)
+  pub batches : device.honest → IfOk answer (TellsOfBatches clerk reference first)

@@ -11,6 +11,7 @@ use Rattle.journal_recovery.specs.Refused.{RecoveryRefuses}
 use Rattle.journal_recovery.specs.declared.refusals.OpenRefusal.{OpenRefusal}
 use Rattle.journal_recovery.specs.declared.refusals.OpenRefusal.TheVariants.{Memory, Device}
 use Rattle.turn_clerk.specs.Clerk.{ClerkState, KeepsHistory, LeavesAcknowledged, LeftPrefixEver}
+use Rattle.turn_clerk.specs.FarBack.{LeftRecordsEver}
 use Rattle.turn_clerk.specs.History.{moves_of}
 use Rattle.line_lock.specs.Account.{IsBorneOut, failed_turns, seats_of}
 use Rattle.line_lock.specs.OpenedOn.{WasOpenedOn}
@@ -40,6 +41,7 @@ pub record IsClosed {D : Type 0} (state : D → DeviceState) (device : DeviceSta
   pub run : IsRun clerk.opening.line (moves_of clerk.history)
   pub acknowledged : (state clerk.journal.device).honest → LeavesAcknowledged state clerk
   pub at_any_moment : (state clerk.journal.device).honest → LeftPrefixEver state clerk
+  pub in_sight : (state clerk.journal.device).honest → LeftRecordsEver state clerk
   pub last : audit.last ≡ clerk.line
   pub audited : IsAuditOf clerk.opening.line (moves_of clerk.history) audit
 

@@ -7,6 +7,7 @@ ghost use Rattle.four_state.specs.Configuration.{stations};
 ghost use Rattle.sweep_auditor.specs.Run.{IsRun};
 ghost use Rattle.sweep_auditor.specs.Audited.{IsAuditOf};
 ghost use Rattle.turn_clerk.specs.Clerk.{KeepsHistory, LeavesAcknowledged, LeftPrefixEver};
+ghost use Rattle.turn_clerk.specs.FarBack.{LeftRecordsEver};
 ghost use Rattle.turn_clerk.specs.History.{moves_of};
 ghost use Rattle.turn_clerk.specs.Reply.{turn_of};
 ghost use Rattle.line_lock.specs.Account.{IsBorneOut, failed_turns, seats_of, IsSeatMissing};
@@ -233,6 +234,8 @@ impl<D: Device, L: Count + OpenedOn> Office<D, L> {
             → LeavesAcknowledged D.state closing.clerk) }
         ensures at_any_moment { IfOk result (λ closing.
             (D.state closing.clerk.journal.device).honest → LeftPrefixEver D.state closing.clerk) }
+        ensures in_sight { IfOk result (λ closing.
+            (D.state closing.clerk.journal.device).honest → LeftRecordsEver D.state closing.clerk) }
 
         // The audit of its opening line and all its moves.
         ensures last { IfOk result (λ closing. closing.audit.last ≡ closing.clerk.line) }
@@ -254,6 +257,7 @@ impl<D: Device, L: Count + OpenedOn> Office<D, L> {
         book.audit(&mut gathered(rest, seats));
         clerk.legal_history();
         clerk.durable_prefix();
+        clerk.how_far_back();
         let audit = audited(&clerk);
         Ok(Closing { clerk, audit })
     }
@@ -267,6 +271,8 @@ impl<D: Device, L: Count + OpenedOn> Office<D, L> {
             → LeavesAcknowledged D.state result }
         ensures at_any_moment { (D.state result.journal.device).honest
             → LeftPrefixEver D.state result }
+        ensures in_sight { (D.state result.journal.device).honest
+            → LeftRecordsEver D.state result }
     {
         let Office { locked } = self;
         let locked = locked.into_inner();
@@ -274,6 +280,7 @@ impl<D: Device, L: Count + OpenedOn> Office<D, L> {
         // for the contract alone: what every clerk keeps
         kept.legal_history();
         kept.durable_prefix();
+        kept.how_far_back();
         kept
     }
 

@@ -6,6 +6,7 @@ ghost use Rattle.four_state.specs.Configuration.{stations};
 ghost use Rattle.sweep_auditor.specs.Run.{IsRun};
 ghost use Rattle.sweep_auditor.specs.Audited.{IsAuditOf};
 ghost use Rattle.turn_clerk.specs.Clerk.{KeepsHistory, LeavesAcknowledged, LeftPrefixEver};
+ghost use Rattle.turn_clerk.specs.FarBack.{LeftRecordsEver};
 ghost use Rattle.turn_clerk.specs.History.{moves_of};
 ghost use Rattle.journal_recovery.specs.Refused.{RecoveryRefuses};
 ghost use Rattle.line_lock.specs.OpenedOn.{WasOpenedOn, WasLeftByClerk};
@@ -83,6 +84,8 @@ pub fn run_day<D: Device + Send, R: Threads + Wait + Sync>(
         (D.state day.clerk.journal.device).honest → LeavesAcknowledged D.state day.clerk) }
     ensures at_any_moment { IfOk result (λ day.
         (D.state day.clerk.journal.device).honest → LeftPrefixEver D.state day.clerk) }
+    ensures in_sight { IfOk result (λ day.
+        (D.state day.clerk.journal.device).honest → LeftRecordsEver D.state day.clerk) }
 
     // The audit of its opening line and all its moves.
     ensures last { IfOk result (λ day. day.audit.last ≡ day.clerk.line) }

@@ -11,3 +11,7 @@ mod Standing
 mod Running
 mod Lives
 mod Backs
+mod FarBack
+mod InSight
+mod AsPosted
+mod Told

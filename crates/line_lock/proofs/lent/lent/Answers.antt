@@ -34,6 +34,7 @@ returns-in-Ok-close-clause-closed g c =
       run = closing.run;
       acknowledged = closing.acknowledged;
       at_any_moment = closing.at_any_moment;
+      in_sight = closing.in_sight;
       last = closing.last;
       audited = closing.audit;
     }

@@ -14,4 +14,5 @@ returns-clause-told g c =
       note = told.note;
       looks = told.looks;
       found = λ honest. told.found (told.opened.stays_honest honest);
+      batches = λ honest. told.batches (told.opened.stays_honest honest);
     }
