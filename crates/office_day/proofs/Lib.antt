@@ -6,3 +6,4 @@ pub mod Pairing
 pub mod Served
 pub mod RefusedOpening
 pub mod SpanLaws
+mod Sights

@@ -2,11 +2,14 @@
 use Rattle.std.specs.Prelude.{◌≡◌, ◌⊎◌, ◌<◌, ◌≤◌, ℕ, List, [], ◌∷◌, ◌++◌, length}
 use Rattle.std.specs.List.{flat_map, slice_index_or}
 use Rattle.sector_device.specs.Device.{DeviceState}
-use Rattle.sector_device.specs.Crash.{LooksOnly}
+use Rattle.sector_device.specs.Image.{Image}
+use Rattle.sector_device.specs.Crash.{LooksOnly, LeavesOnly}
 use Rattle.four_state.specs.Configuration.{Configuration, stations}
 use Rattle.sweep_auditor.specs.declared.moves.Audit.{Audit}
 use Rattle.turn_clerk.specs.declared.turns.Turn.{Turn}
-use Rattle.turn_clerk.specs.Clerk.{ClerkState}
+use Rattle.turn_clerk.specs.Clerk.{ClerkState, accepted_batches}
+use Rattle.turn_clerk.specs.FarBack.{HasInSight}
+use Rattle.journal_recovery.specs.Sight.{Sight}
 use Rattle.line_lock.specs.Account.{turns_of}
 use Rattle.line_lock.specs.declared.lent.OfficeRefusal.{OfficeRefusal}
 use Rattle.line_lock.specs.Lent.{IsClosed, IsRefused, IfOpening, UnlessOpening}
@@ -36,11 +39,18 @@ span_of clerk audit = record { clerk = clerk; audit = audit }
 abbrev pub turns_in : {D : Type 0} → ℕ → List (Span D) → List Turn
 turns_in station spans = flat_map (λ span. turns_of station span.clerk.history) spans
 
+-- every record from that number on is in sight of the image
+abbrev pub SeesFrom : ℕ → Image → Type 0
+SeesFrom number image = (sight : Sight) → HasInSight image sight → sight.base ≤ number
+
 -- The span was opened on that device with that line, and closed: what is promised of a closed office holds of it, and
--- it has at most so many turns.
+-- it has at most so many turns. If it accepted no more batches than a bank has slots, each image that a crash left has
+-- all of them in sight, so that none of them is lost to an archive that had all before.
 pub record IsSpan {D : Type 0} (state : D → DeviceState) (moves : ℕ) (device : DeviceState) (from : Configuration) (span : Span D) : Type 0 where
   pub closed : IsClosed state device from span.clerk span.audit
   pub within : length span.clerk.history ≤ moves
+  pub in_sight : length (accepted_batches span.clerk) ≤ span.clerk.opening.journal.slots → (state span.clerk.journal.device).honest
+      → LeavesOnly (state span.clerk.opening.journal.device) (state span.clerk.journal.device) (SeesFrom span.clerk.opening.journal.next)
 
 -- The device was looked at: it has as many sectors, is honest where it was and only there, and an honest one was read
 -- and synced, and not written.

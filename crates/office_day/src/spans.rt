@@ -104,6 +104,8 @@ fn run_span<D: Device + Send, G: Gate + Sync, R: Threads + Wait + Sync>(
     } = office;
     let run = run_office(rt, alloc, device, line, desks, gate, moves, u64::MAX)?;
     let (Closing { clerk, audit }, left) = run;
+    // for the contract alone: where the records in sight of an image end
+    clerk.how_far_back();
     Ok(Life { clerk, audit, left })
 }
 

@@ -1,6 +1,7 @@
 use Rattle.std.proofs.Common.{◌<◌, ◌∙◌, sym, subst}
 use Rattle.four_state.specs.Configuration.{stations}
 use Rattle.office_day.proofs.Days.{length-new_seats}
+use Rattle.office_day.proofs.Sights.{all_in_sight}
 use Rattle.office_day.proofs.SpanLaws.{is-span, own_served}
 use Rattle.office_day.proofs.spans.run_span.Goals as goal
 
@@ -10,6 +11,9 @@ returns-clause-closed g c =
     record {
       closed = c.in_ok-run.ensures.closed;
       within = is-span (stations c.args.office.line) c.in_ok-run.run'.0.clerk ran.1 ran.2.borne_out ran.2.there c.in_ok-run.ensures.closed.legal;
+      in_sight = λ few honest.
+          all_in_sight g.D.Device.state c.in_ok-run.run'.0.clerk c.how_far_back.ensures.ends few (c.in_ok-run.ensures.closed.at_any_moment honest)
+          (c.in_ok-run.ensures.closed.in_sight honest);
     }
 
 pub returns-clause-left : goal.returns-clause-left
