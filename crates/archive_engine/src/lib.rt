@@ -1,12 +1,14 @@
 //! The engine of an archive: a folder of ledgers, each made whole and never written again, with the records of one
 //! ledger in order.
 //!
-//! [`archive`] adds what the archive lacks of a ledger. `checks/books.sh` has examples.
+//! [`archive`] adds what the archive lacks of a ledger, and [`open_newest`] opens the ledger with which it ends.
+//! `checks/books.sh` has examples.
 #![tactic(auto)]
 
 mod archiving;
 mod faults;
 mod folder;
 
-pub use archiving::{Archived, Archiving, archive};
+pub use archiving::{Archived, Archiving, archive, open_newest};
 pub use faults::{ArchiveFault, FolderFault, NewestFault, Volume};
+pub use folder::{is_folder, numbers_in};
