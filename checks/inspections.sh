@@ -159,8 +159,10 @@ echo "map of a damaged file: as it must be"
 
 # What can't be looked at.
 mkdir folder
+echo "folder: it has no ledger of an archive" > folder_line
 truncate -s 511 short
-run 3 nothing "folder: it is neither a file nor a disk" check folder
+run 1 folder_line "" check folder
+run 3 nothing "folder: it is neither a file nor a disk" map folder
 run 3 nothing "missing: there is no such file" journal missing
 [ ! -e missing ] || { echo "a missing file was made"; exit 1; }
 run 3 nothing "short: its length is no multiple of 512 bytes; it is no ledger, or something was appended to it" balances short
@@ -182,7 +184,7 @@ run 0 "$wanted/check.out" "" check office
 
 # Wrong words, and outputs that fail.
 for words in "" "check" "chart office" "journal office --as xml" "journal office --date 2023-02-29" \
-    "journal office --account 0" "balances office --from 1" "check office more"; do
+    "journal office --account 0" "balances office --from 1" "check office --at 1" "map office more"; do
     status=0
     # shellcheck disable=SC2086
     "$derbyfig" $words > printed 2> told || status=$?
@@ -263,7 +265,7 @@ fi
 options() {
     grep -o -e '--[a-z][a-z]*' | LC_ALL=C sort -u
 }
-for command in "" run serve close check journal balances map format copy migrate; do
+for command in "" run serve close check journal balances map format copy migrate archive restore; do
     "$derbyfig" $command --help
 done | options > helped
 sed 's/\\-/-/g' "$man/derbyfig.1" | options | diff helped - || { echo "docs/man/derbyfig.1: other options"; exit 1; }

@@ -122,10 +122,10 @@ class Shelf:
     def archive(self, ledger, folder):
         return self.run("archive", str(ledger), str(folder))
 
-    def archive_refused(self, ledger, folder, request):
+    def refused(self, request, *words):
         """A run whose request for memory of that number is refused, and whether it was made."""
         refused = self.path / "refused"
-        words = [self.derbyfig, "archive", str(ledger), str(folder)]
+        words = [self.derbyfig, *map(str, words)]
         preloaded = {"LD_PRELOAD": str(self.path.parent / "refuse.so"), "REFUSED_REQUEST": str(request)}
         with refused.open("w") as file:
             os.dup2(file.fileno(), 9)
@@ -167,16 +167,50 @@ class Shelf:
         """The number of the batch behind the last one of an archive."""
         return int(self.rows(folder / names[-1])[-1][0]) + 1 if names else ledger.first
 
-    def rows(self, path):
-        """A ledger's snapshot and its entries, without references and what the accounts hold after each."""
-        said = self.run("journal", str(path), "--as", "csv")
-        require_same((said.status, said.told), (0, ""), f"the journal of {path}")
-        return [row[:6] for row in csv.reader(io.StringIO(said.printed))][1:]
+    def rows(self, *words):
+        """The snapshot and the entries of a ledger or a book, without references and what the accounts hold after
+        each."""
+        printed = self.printed("journal", *words, "--as", "csv")
+        return [row[:6] for row in csv.reader(io.StringIO(printed))][1:]
 
-    def balances(self, path):
-        said = self.run("balances", str(path), "--as", "csv")
-        require_same((said.status, said.told), (0, ""), f"the balances of {path}")
+    def balances(self, *words):
+        return self.printed("balances", *words, "--as", "csv")
+
+    def printed(self, *words):
+        """What a command prints that ends well."""
+        said = self.run(*map(str, words))
+        require_same((said.status, said.told), (0, ""), f"{words}")
         return said.printed
+
+    def memory(self, *words):
+        """The most memory that a command took that ends well, in KB."""
+        running = subprocess.Popen([self.derbyfig, *map(str, words)], stdout=subprocess.DEVNULL)
+        _, status, used = os.wait4(running.pid, 0)
+        running.returncode = status
+        require_same(status, 0, f"the status of {words}")
+        return used.ru_maxrss
+
+    def require_book(self, ledger, *paths):
+        """That these paths are read as one ledger, which has what was posted: each posting once, in order, behind one
+        snapshot, and what the accounts held before each batch."""
+        wanted = [row for row in ledger.rows if int(row[0]) >= ledger.first]
+        require_same(self.rows(*paths) == ledger.held_before(ledger.first) + wanted, True, f"the journal of {paths}")
+        total = sum(int(row[5]) for row in ledger.rows if row[2] == "deposit")
+        numbers = f"first {ledger.first}\nnext {ledger.next}\ntotal {total}\n"
+        require_same(self.printed("check", *paths), numbers, f"the numbers of {paths}")
+        require_same(self.balances(*paths), self.balances(ledger.path), f"the balances of {paths}")
+        for at in {ledger.first, (ledger.first + ledger.next) // 2, ledger.next}:
+            held = [row[4:6] for row in ledger.held_before(at)]
+            found = [row.split(",")[:2] for row in self.balances(*paths, "--at", at).splitlines()[1:-1]]
+            require_same(found, held, f"the balances of {paths} before {at}")
+
+    def require_no_book(self, told, *paths):
+        """That these paths are refused as one ledger, by this line, and nothing of them is printed."""
+        paths = [str(path) for path in paths]
+        require_same(self.run("check", *paths), Said(1, f"{told}\n", ""), f"check of {paths}")
+        require_same(self.run("check", "-q", *paths), Said(1, "", ""), f"a quiet check of {paths}")
+        for command in ("journal", "balances"):
+            require_same(self.run(command, *paths), Said(1, "", told), f"{command} of {paths}")
 
     def require_whole(self, ledger, folder):
         """That the archive has each posting, in order, in files that begin where the one before ends."""

@@ -3,6 +3,7 @@ import fcntl
 import os
 import random
 import shutil
+import subprocess
 import sys
 from pathlib import Path
 
@@ -11,6 +12,9 @@ from books import Ledger, Mismatch, Said, Shelf, require_same
 # How many times the ledger is archived, and how many of these runs are killed first.
 ROUNDS = 60
 KILLS = 20
+
+# How many files the archive of a book has.
+FILES = 24
 
 # More requests for memory than a run makes.
 MOST_REQUESTS = 1000
@@ -26,6 +30,158 @@ def each_posting(shelf):
             shelf.kill_archive(ledger, books, choice.uniform(0, 0.004))
         shelf.require_archived(ledger, books)
     shelf.require_whole(ledger, books)
+
+
+def a_book(shelf):
+    """The folder, alone and with the ledger behind it, is read as one ledger that has each posting once."""
+    ledger, books = shelf.ledger("ledger", 3), shelf.folder("books")
+    choice = random.Random(11)
+    for _ in range(FILES):
+        ledger.post(choice.randint(1, 3), choice)
+        shelf.require_archived(ledger, books)
+    shelf.require_book(ledger, books)
+    names = shelf.names(books)
+    shelf.require_book(ledger, *(books / name for name in names))
+    small = shelf.memory("journal", books / names[0])
+    require_same(shelf.memory("journal", books) <= small + 2048, True, f"memory of {len(names)} files")
+    # the ledger lists some of what the archive has, and more
+    ledger.post(2, choice)
+    shelf.require_book(ledger, books, ledger.path)
+    shelf.require_archived(ledger, books)
+    shelf.require_book(ledger, books, ledger.path)
+    shelf.require_book(ledger, *(books / name for name in names), ledger.path)
+    statement = [row for row in ledger.rows if "34" in (row[3], row[4])]
+    batches = {row[0] for row in statement}
+    wanted = [row for row in ledger.rows if row[0] in batches]
+    require_same(shelf.rows(books, ledger.path, "--account", "34"), wanted, "the statement of an account")
+    require_same(len(statement) > 1, True, "an account with postings")
+
+
+def a_late_book(shelf):
+    """An archive that was begun late is told behind its own snapshot; batches out of it are out of reach."""
+    ledger, books = shelf.ledger("ledger", 3), shelf.folder("books")
+    ledger.post(8)
+    ledger.first = 3
+    require_same(shelf.archive(ledger.path, books), Said(0, "archived 5 from 3\n", ""), "a first run")
+    ledger.post(2)
+    shelf.require_archived(ledger, books)
+    ledger.post(1)
+    shelf.require_book(ledger, books, ledger.path)
+    for at in (2, 12):
+        told = f"{ledger.path}: batch {at} is out of reach: the earliest is 3, and the next one will be 11"
+        said = shelf.run("balances", str(books), str(ledger.path), "--at", str(at))
+        require_same(said, Said(1, "", told), f"the balances before {at}")
+    told = f"{ledger.path}: batch 5 is out of reach: the earliest is 6, and the next one will be 11"
+    require_same(shelf.run("balances", str(ledger.path), "--at", "5"), Said(1, "", told), "the balances of the ledger")
+    require_same(shelf.balances(ledger.path, "--at", "7"), shelf.balances(books, "--at", "7"), "the balances before 7")
+
+
+def no_book(shelf):
+    """A file of the archive is missing, cut, of another ledger, or has another's name; and paths in another order."""
+    ledger, books = shelf.ledger("ledger", 3), shelf.folder("books")
+    for _ in range(4):
+        ledger.post(2)
+        shelf.require_archived(ledger, books)
+    files = [books / name for name in shelf.names(books)]
+    aside = shelf.path / "aside"
+    files[1].rename(aside)
+    told = f"{files[2]}: its earliest batch is 4, and {files[0]} ends before 2; those between are missing"
+    shelf.require_no_book(told, books)
+    shelf.require_no_book(told, books, ledger.path)
+    shelf.require_book(ledger, files[0], aside, files[2], ledger.path)
+    aside.rename(files[1])
+    whole = files[1].read_bytes()
+    files[1].write_bytes(whole[:-512])
+    told = f"{files[1]}: its number of slots is out of range, or it is too short for them (sector 0, byte 8)"
+    shelf.require_no_book(told, books)
+    files[1].write_bytes(files[2].read_bytes())
+    told = f"{files[1]}: it isn't of this archive: its first record doesn't have the number that is its name"
+    shelf.require_no_book(told, books)
+    other, shelved = shelf.ledger("other", 3), shelf.folder("shelved")
+    other.post(1)
+    other.post_entries([["deposit 9 999"]])
+    for _ in range(2):
+        shelf.require_archived(other, shelved)
+        other.post(2)
+    files[1].write_bytes((shelved / files[1].name).read_bytes())
+    sentence = f"before batch 2, where {files[0]} ends, it held other balances or seals; it isn't of the same ledger"
+    shelf.require_no_book(f"{files[1]}: {sentence}", books)
+    files[1].write_bytes(whole)
+    told = f"{files[0]}: its next batch is 2, and that of {files[1]} is 4; it isn't of the same ledger, or an old copy"
+    shelf.require_no_book(told, files[1], files[0])
+    shelf.require_no_book(f"{shelf.folder('empty')}: it has no ledger of an archive", shelf.path / "empty")
+    missing = shelf.path / "missing"
+    said = shelf.run("journal", str(books), str(missing))
+    require_same(said, Said(3, "", f"{missing}: there is no such file"), "a ledger that isn't there")
+    (books / "unfinished").write_bytes(b"left")
+    shelf.require_book(ledger, books, ledger.path)
+
+
+def an_export(shelf):
+    """What is exported for hledger day by day is what is exported at once."""
+    ledger, books = shelf.ledger("ledger", 3), shelf.folder("books")
+    exported = ""
+    for batches in (2, 3, 0, 1):
+        ledger.post(batches)
+        first = shelf.archive(ledger.path, books).printed.split()[-1]
+        exported += shelf.printed("journal", books, "--from", first, "--as", "hledger")
+    require_same(exported, shelf.printed("journal", books, "--as", "hledger"), "the days' exports")
+    require_same(exported.count("opening balance"), 1, "an opening")
+    if shutil.which("hledger"):
+        words = ["hledger", "-f", "-", "balance", "account", "--flat", "--no-total", "-O", "csv"]
+        found = subprocess.run(words, input=exported, capture_output=True, text=True, check=True).stdout
+        held = [row[4:6] for row in ledger.held_before(ledger.next)]
+        rows = [line.replace('"', "").removeprefix("account:").split(",") for line in found.splitlines()[1:]]
+        require_same(sorted(rows), sorted(held), "the balances that hledger finds")
+
+
+def a_restored_ledger(shelf):
+    """A ledger that is restored is byte by byte a copy of the archive's newest file, and goes on in the archive."""
+    ledger, books = shelf.ledger("ledger", 3), shelf.folder("books")
+    new, copy = shelf.path / "new", shelf.path / "copy"
+    told = f"{books}: it has no ledger of an archive"
+    require_same(shelf.run("restore", str(books), str(new), "--slots", "4"), Said(1, "", told), "an empty archive")
+    for _ in range(3):
+        ledger.post(2)
+        shelf.require_archived(ledger, books)
+    (books / "unfinished").write_bytes(b"left")
+    require_same(shelf.printed("restore", books, new, "--slots", "4"), "restored 4\n", "a restored ledger")
+    shelf.printed("copy", books / shelf.names(books)[-1], copy, "--slots", "4")
+    require_same(new.read_bytes() == copy.read_bytes(), True, "a restored ledger as a copy")
+    said = shelf.run("restore", str(books), str(new), "--slots", "4")
+    found = said.status, said.printed, new.read_bytes() == copy.read_bytes()
+    require_same(found, (1, "", True), "a file that holds a ledger")
+    said = shelf.run("restore", str(books), str(new), "--slots", "4", "--overwrite")
+    require_same(said, Said(0, "restored 4\n", ""), "a file that is written over")
+    require_same(new.read_bytes() == copy.read_bytes(), True, "a restored ledger as a copy")
+    ledger.path = new
+    ledger.post(3)
+    shelf.require_book(ledger, books, new)
+    shelf.require_archived(ledger, books)
+    shelf.require_whole(ledger, books)
+    newest = books / shelf.names(books)[-1]
+    newest.write_bytes(newest.read_bytes()[:-512])
+    said = shelf.run("restore", str(books), str(shelf.path / "none"), "--slots", "4")
+    require_same((said.status, said.printed, (shelf.path / "none").exists()), (1, "", False), "a damaged archive")
+
+
+def a_book_without_memory(shelf):
+    """Each request for memory is refused in turn: out of memory, behind a prefix of what is printed."""
+    ledger, books = shelf.ledger("ledger", 3), shelf.folder("books")
+    for _ in range(2):
+        ledger.post(2)
+        shelf.require_archived(ledger, books)
+    for words in (("journal", books, ledger.path), ("check", books), ("balances", books, "--at", "3")):
+        wanted = shelf.printed(*words)
+        for request in range(1, MOST_REQUESTS):
+            said, was_refused = shelf.refused(request, *words)
+            if said.status == 0:
+                require_same(said, Said(0, wanted, ""), f"{words}, request {request} refused")
+            else:
+                told = (said.status, said.told, wanted.startswith(said.printed))
+                require_same(told, (3, "out of memory", True), f"{words}, request {request} refused")
+            if not was_refused:
+                break
 
 
 def a_second_run(shelf):
@@ -170,7 +326,7 @@ def no_memory(shelf):
     ledger.post(2)
     before = shelf.names(books)
     for request in range(1, MOST_REQUESTS):
-        said, was_refused = shelf.archive_refused(ledger.path, books, request)
+        said, was_refused = shelf.refused(request, "archive", ledger.path, books)
         if said.status == 0:
             require_same(said, Said(0, "archived 2 from 2\n", ""), "an archive that is added to")
         else:
@@ -188,7 +344,8 @@ def no_memory(shelf):
 
 
 CASES = (each_posting, a_second_run, both_banks, a_gap, another_ledger, what_was_left, a_folder_of_another, no_folder,
-         a_damaged_file, a_copy, an_order, no_memory)
+         a_damaged_file, a_copy, an_order, no_memory, a_book, a_late_book, no_book, an_export, a_restored_ledger,
+         a_book_without_memory)
 
 
 def main():

@@ -16,10 +16,11 @@ of_newest (newest.Unread inner) = Failed
 of_newest (newest.NoLedger refusal) = of_opening refusal
 of_newest newest.Foreign = Refused
 
--- so is a ledger that doesn't go on where the archive ends, and else something failed
+-- so is a folder without an archive, or a ledger that doesn't go on where the archive ends; else something failed
 abbrev pub status_of : ArchiveFault → Status
 status_of (fault.NoLedger path refusal) = of_opening refusal
 status_of (fault.Newest volume inner) = of_newest inner
+status_of (fault.Empty folder) = Refused
 status_of (fault.Gap path first end) = Refused
 status_of (fault.Short path next end) = Refused
 status_of (fault.Differs path end) = Refused

@@ -54,7 +54,7 @@ impl fmt::Display for Volume<'_> {
     }
 }
 
-/// Why an archive doesn't have all that its ledger lists. What was added before stands.
+/// Why an archive doesn't have all that its ledger lists, or can't be read. What was added before stands.
 #[derive(Clone, Copy, Debug, PartialEq, Eq, Error)]
 pub enum ArchiveFault<'a> {
     /// There is no memory.
@@ -83,6 +83,11 @@ pub enum ArchiveFault<'a> {
     Folder {
         folder: &'a str,
         fault: FolderFault,
+    },
+    /// It has no ledger of an archive.
+    #[error("{folder}: it has no ledger of an archive")]
+    Empty {
+        folder: &'a str,
     },
     /// The archive's newest ledger can't be had.
     #[error("{volume}: {fault}")]
@@ -131,8 +136,10 @@ impl<'a> ArchiveFault<'a> {
         match self {
             ArchiveFault::NoLedger { refusal, .. } => Status::from(refusal),
             ArchiveFault::Newest { fault, .. } => fault.status(),
-            ArchiveFault::Gap { .. } | ArchiveFault::Short { .. } | ArchiveFault::Differs { .. } =>
-                { Status::Refused }
+            ArchiveFault::Empty { .. }
+            | ArchiveFault::Gap { .. }
+            | ArchiveFault::Short { .. }
+            | ArchiveFault::Differs { .. } => Status::Refused,
             ArchiveFault::Memory
             | ArchiveFault::Unread { .. }
             | ArchiveFault::Lost { .. }

@@ -1,6 +1,6 @@
 //! The words of `derbyfig`.
 use crate::images::DEPOSIT;
-use ledger_inspection::{Locking, Task};
+use ledger_inspection::{BookTask, Locking, Task};
 use office_engine::Terminal;
 use program_front::{Request, read_request, run_derbyfig, run_derbyfig_words};
 use std::alloc::Global;
@@ -110,6 +110,20 @@ fn each_command_has_its_words(rt: HostRuntime) {
         && copying.formatting.slots.get() == 7
         && copying.formatting.overwrite)
     );
+    let words = ["derbyfig", "balances", "books", "book", "--at=7"];
+    let asked = read_request(alloc, &words);
+    assert!(rt;
+        matches!(&asked, Ok(Request::Book(book))
+        if book.paths.as_slice() == ["books", "book"].as_slice()
+        && matches!(book.task, BookTask::Balances { at: Some(7), .. }))
+    );
+    let words = ["derbyfig", "restore", "books", "new", "--slots=7"];
+    let asked = read_request(alloc, &words);
+    assert!(rt;
+        matches!(&asked, Ok(Request::Restore(copying)) if copying.old == "books"
+        && copying.path == "new"
+        && copying.formatting.slots.get() == 7)
+    );
     let words = ["derbyfig", "archive", "book", "books"];
     let asked = read_request(alloc, &words);
     assert!(rt;
@@ -141,7 +155,7 @@ const WRONG: [(&[&str], &str); 19] = [
         "error: a date has the form YYYY-MM-DD",
     ),
     (
-        &["check", "book", "-q", "more"],
+        &["map", "book", "more"],
         "error: unexpected argument 'more' found",
     ),
     (

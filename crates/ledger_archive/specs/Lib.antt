@@ -1,2 +1,4 @@
 pub mod Adding
 pub mod Filled
+pub mod Book
+pub mod BookLaws

@@ -14,10 +14,24 @@ pub struct Damage<'a> {
     pub place: Option<Place>,
 }
 
-/// The path, the cause, and the place, which says more than the cause's slot.
+/// The path, the cause, and the place.
 impl fmt::Display for Damage<'_> {
     fn fmt<W: fmt::Write>(&self, f: &mut fmt::Formatter<W>) -> fmt::Result {
-        write!(f, "{}: ", self.path)?;
+        let (refusal, place) = (self.refusal, self.place);
+        write!(f, "{}: {}", self.path, Wrong { refusal, place })
+    }
+}
+
+/// What is wrong, and where.
+#[derive(Clone, Copy, Debug, PartialEq, Eq)]
+pub(crate) struct Wrong {
+    pub(crate) refusal: OpenRefusal,
+    pub(crate) place: Option<Place>,
+}
+
+/// The cause, and the place, which says more than the cause's slot.
+impl fmt::Display for Wrong {
+    fn fmt<W: fmt::Write>(&self, f: &mut fmt::Formatter<W>) -> fmt::Result {
         match self.refusal {
             OpenRefusal::Damaged { cause, .. } => write!(f, "{cause}")?,
             refusal => write!(f, "{refusal}")?,

@@ -14,6 +14,7 @@ use ledger_reading::{Device, OpenRefusal, ReadRefusal, Sound, look};
 use program_ends::{OUT_OF_MEMORY, Status, Watched, fail, tell, unwritten};
 use script_streams::{StreamFault, write_all};
 use std::alloc::Global;
+use std::fmt;
 use std::fs::{File, Files};
 use std::io::Write;
 
@@ -30,17 +31,16 @@ pub fn inspect_file<F: Files<File = File>, W: Write, E: Write>(
 {
     match ReadOnlyFile::open(rt, alloc, wish.path, wish.locking) {
         Ok(device) => {
-            tell_locking(alloc, wish, errors);
+            tell_locking(alloc, wish.path, wish.locking, errors);
             inspect_device(alloc, wish, device, writer, errors, shows_progress)
         }
         Err(fault) => tell_file_fault(alloc, wish.path, fault, errors),
     }
 }
 
-// Tells that a file isn't locked.
-fn tell_locking<E: Write>(alloc: Global, wish: &Inspection<'_>, errors: &mut E) {
-    let path = wish.path;
-    if wish.locking == Locking::Unlocked {
+// Tells that what is at the path isn't locked.
+pub(crate) fn tell_locking<E: Write>(alloc: Global, path: &str, locking: Locking, errors: &mut E) {
+    if locking == Locking::Unlocked {
         let notice = format_args!("{path}: it isn't locked, so what is printed may be torn");
         tell(alloc, notice, errors);
     }
@@ -135,7 +135,7 @@ fn tell_unsound<D: Device + Drop, W: Write, E: Write>(
     let damage = damage(wish.path, &mut device, refusal);
     match (status, Telling::of(wish.task)) {
         (Status::Refused, Telling::Nothing) => status,
-        (Status::Refused, Telling::Answer) => answer_damage(alloc, damage, writer, errors),
+        (Status::Refused, Telling::Answer) => answer(alloc, damage, writer, errors),
         (Status::Refused, Telling::Drawing) => {
             draw_damage(alloc, damage, &mut device, writer, errors)
         }
@@ -167,10 +167,10 @@ fn draw_damage<D: Device, W: Write, E: Write>(
     }
 }
 
-// Prints the damage that was asked for.
-fn answer_damage<W: Write, E: Write>(
+// Prints what is wrong, where that was asked for.
+pub(crate) fn answer<L: fmt::Display + Drop, W: Write, E: Write>(
     alloc: Global,
-    damage: Damage<'_>,
+    wrong: L,
     writer: &mut W,
     errors: &mut E,
 ) -> Status
@@ -178,7 +178,7 @@ fn answer_damage<W: Write, E: Write>(
     ensures words { result ≢ Status.WrongWords }
 {
     let mut output = Watched::over(writer);
-    let Ok(line) = format!(in alloc; "{damage}\n") else {
+    let Ok(line) = format!(in alloc; "{wrong}\n") else {
         return fail(alloc, OUT_OF_MEMORY, errors);
     };
     match write_all(&mut output, line.as_bytes()) {

@@ -1,17 +1,24 @@
 //! Looks at a ledger on a device or in a file, of any layout, and prints what is asked for. It never writes the file.
 //!
 //! [`inspect_file`] opens a file and looks at it, and [`inspect_device`] does so with a device that is handed in.
+//! [`inspect_book`] looks at several ledgers as one.
 //!
 //! The test `a_sound_ledger_is_told_by_its_numbers` in `src/checks.rt` of the crate `front_tests` is an example.
 #![tactic(auto)]
 
+mod book;
+mod book_faults;
+mod book_reader;
 mod damage;
 mod inspecting;
 mod inspection;
 mod meter;
+mod reading_book;
+mod shelf;
 mod sound_ledger;
 mod unsound_ledger;
 
+pub use book::{BookInspection, BookTask};
 pub use damage::Damage;
 pub use device_drawing::Place;
 pub use file_device::{FileFault, Locking};
@@ -21,3 +28,4 @@ pub use ledger_printing::{Date, Format, JournalWish, Progress, Selection};
 pub use ledger_reading::{Cause, Device, OpenRefusal};
 pub use meter::Meter;
 pub use program_ends::Status;
+pub use reading_book::inspect_book;

@@ -1,11 +1,13 @@
 //! Prints the journal and the balances of a sound ledger: as a table, CSV, JSON Lines or for `hledger`.
 //!
 //! [`print_journal`] prints the records one after another, and [`print_balances`] what the accounts hold, each in one
-//! of the [`Format`]s. The memory that they take doesn't grow with the number of records.
+//! of the [`Format`]s. A [`JournalPrint`] prints the records of several listings as one journal. The memory that they
+//! take doesn't grow with the number of records.
 //!
 //! The test `a_journal_is_printed_in_each_format` in `src/formats.rt` of the crate `front_tests` is an example.
 #![tactic(auto)]
 
+mod any_printer;
 mod balances;
 mod csv_rows;
 mod date;
@@ -25,7 +27,7 @@ pub use balances::print_balances;
 pub use date::{BadDate, Date};
 pub use faults::PrintFault;
 pub use format::Format;
-pub use journal::{JournalWish, print_journal};
+pub use journal::{JournalPrint, JournalWish, print_journal};
 pub use ledger_reading::{Batch, Device, Entry, Ledger, Listed, ReadRefusal, Sound};
 pub use progress::Progress;
 pub use script_streams::StreamFault;

@@ -2,7 +2,7 @@
 use Rattle.std.specs.Prelude.{◌≤◌, ℕ, Option, IfSome}
 use Rattle.std.specs.Int.NonZero.{non_zero_u64_get}
 use Rattle.program_front.specs.declared.request.Request.{Request}
-use Rattle.program_front.specs.declared.request.Request.TheVariants.{Run, Serve, Close, Inspect, Format, Migrate, Copy, Archive}
+use Rattle.program_front.specs.declared.request.Request.TheVariants.{Run, Serve, Close, Inspect, Book, Format, Migrate, Copy, Archive, Restore}
 
 -- as many sectors as a ledger of the most slots has, and one at least
 abbrev pub AreSectors : Option ℕ → Type 0
@@ -15,7 +15,9 @@ IsWithin (Serve serving) = AreSectors serving.sectors × IfSome serving.format (
     × IfSome serving.stations (λ count. (2 ≤ count) × (count ≤ 64))
 IsWithin (Close counter seconds) = seconds ≤ 86400
 IsWithin (Inspect inspection) = Unit {0}
+IsWithin (Book inspection) = Unit {0}
 IsWithin (Format path formatting) = non_zero_u64_get formatting.slots ≤ 1000000
 IsWithin (Migrate copying) = non_zero_u64_get copying.formatting.slots ≤ 1000000
 IsWithin (Archive archiving) = Unit {0}
 IsWithin (Copy copying) = non_zero_u64_get copying.formatting.slots ≤ 1000000
+IsWithin (Restore copying) = non_zero_u64_get copying.formatting.slots ≤ 1000000

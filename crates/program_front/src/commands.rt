@@ -5,7 +5,7 @@ ghost use Rattle.clap.specs.declared.error.kind.ErrorKind.TheVariants.{OutOfMemo
 
 use crate::console_words::SCRIPT;
 use crate::option_table::{
-    ACCOUNT, FORMAT, FROM, REFERENCE, SECONDS, SECTORS, SLOTS, STATIONS, flag, option,
+    ACCOUNT, AT, FORMAT, FROM, REFERENCE, SECONDS, SECTORS, SLOTS, STATIONS, flag, option,
 };
 use clap::{Arg, ArgAction, Command, Error};
 use ledger_inspection::Format;
@@ -34,14 +34,23 @@ What was asked at the counter before is answered first. The status is 1 if no of
 
 const ARCHIVING: &str = "\
 FOLDER has a ledger for each time that something was added, whose name is the number of its first batch in twenty digits.
-'check', 'journal' and 'balances' take each of them. The status is 1 if LEDGER doesn't go on where the archive ends, or if
+'check', 'journal' and 'balances' take FOLDER as one ledger, or each file of it. The status is 1 if LEDGER doesn't go on where the archive ends, or if
 batches between are no longer in LEDGER.
 ";
 
 const FILE: &str = "The file or the disk that has the ledger";
 
+const FILES: &str =
+    "A file or a disk that has a ledger, or the folder of an archive; several are read as one";
+
 const LOOKING: &str = "\
 FILE is never written. While it is looked at, no other program can write it, unless --unlocked is given.
+";
+
+const READING: &str = "\
+FILE is never written. While it is looked at, no other program can write it, unless --unlocked is given. Several are read
+as one ledger: each has to go on where the one before ends, and the last may be the one that is posted to. The folder of
+an archive stands for its files.
 ";
 
 /// All of them.
@@ -63,6 +72,7 @@ pub(crate) fn derbyfig_command<'a>(alloc: Global) -> Result<Command<'a>, Error>
         .subcommand(format(alloc)?)?
         .subcommand(copy(alloc)?)?
         .subcommand(archive(alloc)?)?
+        .subcommand(restore(alloc)?)?
         .subcommand(migrate(alloc)?)?;
     Ok(command)
 }
@@ -169,14 +179,14 @@ fn check<'a>(alloc: Global) -> Result<Command<'a>, Error>
 {
     let quiet = flag(alloc, "quiet", "Print nothing: the status tells").short('q');
     let about = "Tell whether the ledger is sound, its numbers, or where it is damaged";
-    Ok(command_on_ledger(alloc, "check", about)?.arg(quiet)?)
+    Ok(command_on_book(alloc, "check", about)?.arg(quiet)?)
 }
 
 fn journal<'a>(alloc: Global) -> Result<Command<'a>, Error>
     ensures memory { IfErr result (λ error. kind_of error ≡ OutOfMemory) }
 {
     let about = "Print the records of both banks, and the balances after each";
-    let command = command_on_ledger(alloc, "journal", about)?
+    let command = command_on_book(alloc, "journal", about)?
         .arg(FROM.arg(
             alloc,
             "Only records with this sequence number or a later one",
@@ -192,7 +202,11 @@ fn balances<'a>(alloc: Global) -> Result<Command<'a>, Error>
     ensures memory { IfErr result (λ error. kind_of error ≡ OutOfMemory) }
 {
     let about = "Print what the accounts hold, and their total";
-    let command = command_on_ledger(alloc, "balances", about)?
+    let command = command_on_book(alloc, "balances", about)?
+        .arg(AT.arg(
+            alloc,
+            "What they held before the record with this sequence number",
+        ))?
         .arg(format_option(alloc))?
         .arg(date_option(alloc))?;
     Ok(command)
@@ -203,7 +217,13 @@ fn map<'a>(alloc: Global) -> Result<Command<'a>, Error>
 {
     let about =
         "Draw the sectors as an SVG: what each is, which gates are open, and where it is damaged";
-    command_on_ledger(alloc, "map", about)
+    command_on(
+        alloc,
+        "map",
+        about,
+        positional(alloc, "FILE", FILE),
+        LOOKING,
+    )
 }
 
 fn format<'a>(alloc: Global) -> Result<Command<'a>, Error>
@@ -268,6 +288,18 @@ fn archive<'a>(alloc: Global) -> Result<Command<'a>, Error>
     Ok(command)
 }
 
+fn restore<'a>(alloc: Global) -> Result<Command<'a>, Error>
+    ensures memory { IfErr result (λ error. kind_of error ≡ OutOfMemory) }
+{
+    let folder = positional(
+        alloc,
+        "FOLDER",
+        "The folder of the archive; it is only read",
+    );
+    let about = "Make a ledger that goes on where an archive ends";
+    command_that_copies(alloc, "restore", about, folder)
+}
+
 // A command that copies this ledger.
 fn command_that_copies<'a>(
     alloc: Global,
@@ -290,8 +322,24 @@ fn command_that_copies<'a>(
     Ok(command)
 }
 
-// A command that looks at a ledger.
-fn command_on_ledger<'a>(alloc: Global, name: &'a str, about: &'a str) -> Result<Command<'a>, Error>
+// A command that looks at one ledger, or at several as one.
+fn command_on_book<'a>(alloc: Global, name: &'a str, about: &'a str) -> Result<Command<'a>, Error>
+    ensures memory { IfErr result (λ error. kind_of error ≡ OutOfMemory) }
+{
+    let files = positional(alloc, "FILE", FILES)
+        .num_args(1..)
+        .action(ArgAction::Append);
+    command_on(alloc, name, about, files, READING)
+}
+
+// A command that looks at this.
+fn command_on<'a>(
+    alloc: Global,
+    name: &'a str,
+    about: &'a str,
+    file: Arg<'a>,
+    after: &'a str,
+) -> Result<Command<'a>, Error>
     ensures memory { IfErr result (λ error. kind_of error ≡ OutOfMemory) }
 {
     let unlocked = flag(
@@ -301,8 +349,8 @@ fn command_on_ledger<'a>(alloc: Global, name: &'a str, about: &'a str) -> Result
     );
     let command = Command::new(alloc, name)
         .about(about)
-        .after_help(LOOKING)
-        .arg(positional(alloc, "FILE", FILE))?
+        .after_help(after)
+        .arg(file)?
         .arg(unlocked)?;
     Ok(command)
 }

@@ -9,19 +9,19 @@ ghost use Rattle.program_front.specs.Statuses.{status_of};
 use crate::faults::Fault;
 use crate::request::{Copying, Request, Running};
 use crate::words::read_request;
-use archive_engine::{Archived, Archiving, archive};
+use archive_engine::{Archived, Archiving, archive, is_folder, open_newest};
 use clap::Error;
 use console_engine::{ScriptFault, run_script};
 use file_device::{FileDevice, Locking, Making, ReadOnlyFile};
 use ledger_file::{
     Formatting, LedgerRefusal, copy_ledger, format_ledger, migrate_ledger, open_for_script,
 };
-use ledger_inspection::inspect_file;
+use ledger_inspection::{BookInspection, BookTask, Inspection, inspect_book, inspect_file};
 use office_engine::{Serving, Terminal, close_office, serve};
-use program_ends::{Status, Watched, fail, tell_words, tell_wrong, unwritten};
+use program_ends::{OUT_OF_MEMORY, Status, Watched, fail, tell_words, tell_wrong, unwritten};
 use script_streams::write_all;
 use sector_device::MemoryDevice;
-use std::alloc::{Alloc, Global};
+use std::alloc::{Alloc, AllocError, Global};
 use std::fmt;
 use std::fs::{File, Files};
 use std::io::{Read, Write};
@@ -79,7 +79,8 @@ pub fn run_derbyfig<
         Request::Close { counter, seconds } => {
             ended(alloc, close(rt, alloc, counter, seconds, writer), errors)
         }
-        Request::Inspect(wish) => inspect_file(rt, alloc, &wish, writer, errors, shows_progress),
+        Request::Inspect(wish) => inspect(rt, alloc, &wish, writer, errors, shows_progress),
+        Request::Book(wish) => inspect_book(rt, alloc, &wish, writer, errors, shows_progress),
         Request::Format { path, formatting } => {
             ended(alloc, make(rt, alloc, path, formatting, writer), errors)
         }
@@ -90,6 +91,7 @@ pub fn run_derbyfig<
         Request::Archive(archiving) => {
             ended(alloc, add_to_archive(rt, alloc, archiving, writer), errors)
         }
+        Request::Restore(copying) => { ended(alloc, restore(rt, alloc, copying, writer), errors) }
     };
     status.code()
 }
@@ -271,6 +273,65 @@ fn add_to_archive<'a, R: Files<File = File> + Alloc<A = Global> + Clone + Drop, 
         ),
         Err(fault) => Err(Fault::Archive(fault)),
     }
+}
+
+// Makes a ledger that goes on where an archive ends.
+fn restore<'a, R: Files<File = File> + Alloc<A = Global> + Clone + Drop, W: Write>(
+    rt: &R,
+    alloc: Global,
+    copying: Copying<'a>,
+    writer: &mut W,
+) -> Result<(), Fault<'a>> {
+    let Copying {
+        old,
+        path,
+        formatting,
+    } = copying;
+    let newest = match open_newest(rt, alloc, old) {
+        Ok(newest) => newest,
+        Err(fault) => return Err(Fault::Archive(fault)),
+    };
+    let (_newest, copied) = copy_ledger(rt, alloc, newest, path, formatting);
+    match copied {
+        Ok(_) => say(alloc, format_args!("restored {}", formatting.slots), writer),
+        Err(refusal) => Err(Fault::of_copy(old, path, refusal)),
+    }
+}
+
+// Looks at a ledger, or at the archive in a folder.
+fn inspect<R: Files<File = File> + Alloc<A = Global> + Clone + Drop, W: Write, E: Write>(
+    rt: &R,
+    alloc: Global,
+    wish: &Inspection<'_>,
+    writer: &mut W,
+    errors: &mut E,
+    shows_progress: bool,
+) -> Status {
+    if !is_folder(rt, wish.path) {
+        return inspect_file(rt, alloc, wish, writer, errors, shows_progress);
+    }
+    match book_of(alloc, wish) {
+        Ok(Some(book)) => inspect_book(rt, alloc, &book, writer, errors, shows_progress),
+        Ok(None) => inspect_file(rt, alloc, wish, writer, errors, shows_progress),
+        Err(_) => fail(alloc, OUT_OF_MEMORY, errors),
+    }
+}
+
+// The same of the archive in that folder, if it can be done with one.
+fn book_of<'a>(
+    alloc: Global,
+    wish: &Inspection<'a>,
+) -> Result<Option<BookInspection<'a>>, AllocError> {
+    let Some(task) = BookTask::of(wish.task) else {
+        return Ok(None);
+    };
+    let mut paths = Vec::new(alloc);
+    paths.push(wish.path)?;
+    Ok(Some(BookInspection {
+        paths,
+        locking: wish.locking,
+        task,
+    }))
 }
 
 // A ledger that is to be copied, which is opened first, so that nothing is made if it isn't there.

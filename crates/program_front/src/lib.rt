@@ -31,7 +31,9 @@ pub use derbyfig::{run_derbyfig, run_on_device};
 pub use faults::{Fault, MigrationFault};
 pub use host::{run_console, run_derbyfig_words, words_given};
 pub use ledger_file::{DeviceRefusal, DiskFault, FileFault, Formatting, LedgerRefusal};
-pub use ledger_inspection::{Date, Format, Inspection, JournalWish, Locking, Selection, Task};
+pub use ledger_inspection::{
+    BookInspection, BookTask, Date, Format, Inspection, JournalWish, Locking, Selection, Task,
+};
 pub use office_engine::{Serving, Terminal};
 pub use program_ends::Status;
 pub use request::{Copying, Request, Running};

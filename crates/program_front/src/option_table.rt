@@ -69,6 +69,14 @@ pub(crate) const FROM: NumberOption = NumberOption {
     most: u64::MAX,
 };
 
+/// Before which record.
+pub(crate) const AT: NumberOption = NumberOption {
+    name: "at",
+    value: "N",
+    least: 0,
+    most: u64::MAX,
+};
+
 /// Which account.
 pub(crate) const ACCOUNT: NumberOption = NumberOption {
     name: "account",

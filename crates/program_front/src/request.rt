@@ -1,7 +1,7 @@
 //! What `derbyfig` is asked for.
 use archive_engine::Archiving;
 use ledger_file::Formatting;
-use ledger_inspection::Inspection;
+use ledger_inspection::{BookInspection, Inspection};
 use office_engine::Serving;
 
 /// What the words of `derbyfig` ask for.
@@ -11,8 +11,10 @@ pub enum Request<'a> {
     Run(Running<'a>),
     /// To keep an office open.
     Serve(Serving<'a>),
-    /// To look at a ledger.
+    /// To look at a ledger, or at the book that a folder has.
     Inspect(Inspection<'a>),
+    /// To look at ledgers that are read as one book.
+    Book(BookInspection<'a>),
     /// To make an empty ledger at this path.
     Format {
         path: &'a str,
@@ -30,12 +32,14 @@ pub enum Request<'a> {
     Copy(Copying<'a>),
     /// To add to an archive what it lacks of a ledger.
     Archive(Archiving<'a>),
+    /// To make a ledger that goes on where the archive in a folder ends.
+    Restore(Copying<'a>),
 }
 
 /// A ledger that is to be copied.
 #[derive(Clone, Copy, Debug)]
 pub struct Copying<'a> {
-    /// The path of the ledger, which is only read.
+    /// The path of the ledger, or of the archive's folder, which is only read.
     pub old: &'a str,
     /// The path that the copy gets.
     pub path: &'a str,

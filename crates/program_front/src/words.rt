@@ -5,14 +5,16 @@ ghost use Rattle.program_front.specs.Requests.{IsWithin};
 
 use crate::commands::derbyfig_command;
 use crate::option_table::{
-    ACCOUNT, FORMAT, FROM, OutOfRange, REFERENCE, SECONDS, SECTORS, SLOTS, STATIONS,
+    ACCOUNT, AT, FORMAT, FROM, OutOfRange, REFERENCE, SECONDS, SECTORS, SLOTS, STATIONS,
 };
 use crate::request::{Copying, Request, Running};
 use archive_engine::Archiving;
 use clap::error::ErrorKind;
 use clap::{ArgMatches, Error};
 use ledger_file::Formatting;
-use ledger_inspection::{Date, Format, Inspection, JournalWish, Locking, Selection, Task};
+use ledger_inspection::{
+    BookInspection, BookTask, Date, Format, Inspection, JournalWish, Locking, Selection, Task,
+};
 use office_engine::Serving;
 use std::alloc::{AllocError, AllocFailed, Global};
 use std::num::NonZeroU64;
@@ -55,6 +57,8 @@ enum WrongWord {
     NewIsOld,
     #[error("NEW is LEDGER; take another path")]
     NewIsLedger,
+    #[error("NEW is FOLDER; take another path")]
+    NewIsFolder,
 }
 
 impl From<OutOfRange> for WrongWord {
@@ -87,7 +91,11 @@ fn requested<'a>(alloc: Global, matches: &ArgMatches<'a>) -> Result<Request<'a>,
             Ok(Request::Copy(copying))
         }
         "archive" => archiving(options),
-        _ => inspection(name, options),
+        "restore" => {
+            let copying = copying(options, "FOLDER", WrongWord::NewIsFolder)?;
+            Ok(Request::Restore(copying))
+        }
+        _ => inspection(alloc, name, options),
     }
 }
 
@@ -199,21 +207,63 @@ fn archiving<'a>(options: &ArgMatches<'a>) -> Result<Request<'a>, WrongWord>
     }))
 }
 
-fn inspection<'a>(name: &str, options: &ArgMatches<'a>) -> Result<Request<'a>, WrongWord>
+fn inspection<'a>(
+    alloc: Global,
+    name: &str,
+    options: &ArgMatches<'a>,
+) -> Result<Request<'a>, WrongWord>
     ensures within { IfOk result IsWithin }
 {
-    let path = path(options, "FILE")?;
     let task = task(name, options)?;
     let locking = if options.get_flag("unlocked") {
         Locking::Unlocked
     } else {
         Locking::Shared
     };
-    Ok(Request::Inspect(Inspection {
-        path,
-        locking,
-        task,
-    }))
+    let paths = paths(alloc, options)?;
+    let before = at(name, options)?;
+    if let (Some(path), None) = (sole(paths.as_slice()), before) {
+        return Ok(Request::Inspect(Inspection {
+            path,
+            locking,
+            task,
+        }));
+    }
+    match BookTask::of(task) {
+        Some(task) => Ok(Request::Book(BookInspection {
+            paths,
+            locking,
+            task: task.before(before),
+        })),
+        None => Err(WrongWord::NoCommand),
+    }
+}
+
+// The paths of what is looked at.
+fn paths<'a>(alloc: Global, options: &ArgMatches<'a>) -> Result<Vec<&'a str>, WrongWord> {
+    let mut paths = Vec::new(alloc);
+    if let Some(files) = options.get_strs("FILE") {
+        for file in files {
+            paths.push(*file)?;
+        }
+    }
+    Ok(paths)
+}
+
+// The path, if it is one.
+fn sole<'a>(paths: &[&'a str]) -> Option<&'a str> {
+    match paths {
+        [path] => Some(*path),
+        _ => None,
+    }
+}
+
+// Before which record balances are asked for.
+fn at(name: &str, options: &ArgMatches<'_>) -> Result<Option<u64>, WrongWord> {
+    if name != "balances" {
+        return Ok(None);
+    }
+    Ok(AT.given(options)?)
 }
 
 fn task(name: &str, options: &ArgMatches<'_>) -> Result<Task, WrongWord> {

@@ -1,0 +1,88 @@
+//! What is done with the ledgers of a book, one after another.
+ghost use Rattle.std.specs.Prelude.{◌≡◌, OnOk};
+ghost use Rattle.ledger_reading.specs.Whole.{numbers_of};
+
+use file_device::ReadOnlyFile;
+use ledger_archive::skip_to;
+use ledger_printing::{JournalPrint, PrintFault, Progress};
+use ledger_reading::{Ledger, Listing};
+use std::io::Write;
+
+/// What is done with the ledgers of a book, one after another.
+pub(crate) trait Reader {
+    /// Begins with the first one.
+    fn begin(&mut self, listing: &Listing<ReadOnlyFile>) -> Result<(), PrintFault>;
+
+    /// Reads what is left of one.
+    fn read(&mut self, listing: &mut Listing<ReadOnlyFile>) -> Result<(), PrintFault>
+        ensures all { OnOk result (listing.new.at ≡ (numbers_of listing.new.journal).next) };
+}
+
+/// Does nothing with them, so that they are found sound.
+#[derive(Drop)]
+pub(crate) struct Passing;
+
+impl Reader for Passing {
+    fn begin(&mut self, _: &Listing<ReadOnlyFile>) -> Result<(), PrintFault> {
+        Ok(())
+    }
+
+    fn read(&mut self, listing: &mut Listing<ReadOnlyFile>) -> Result<(), PrintFault>
+        ensures all { OnOk result (listing.new.at ≡ (numbers_of listing.new.journal).next) }
+    {
+        pass_over(listing)
+    }
+}
+
+/// Prints their records.
+#[derive(Drop)]
+pub(crate) struct Printing<'a, 'b, W: Write + Drop, P: Progress> {
+    pub(crate) printed: JournalPrint<'a, W>,
+    pub(crate) progress: &'b mut P,
+}
+
+impl<W: Write + Drop, P: Progress> Reader for Printing<'_, '_, W, P> {
+    fn begin(&mut self, listing: &Listing<ReadOnlyFile>) -> Result<(), PrintFault> {
+        self.printed.begin(listing)
+    }
+
+    fn read(&mut self, listing: &mut Listing<ReadOnlyFile>) -> Result<(), PrintFault>
+        ensures all { OnOk result (listing.new.at ≡ (numbers_of listing.new.journal).next) }
+    {
+        self.printed.records(listing, self.progress)
+    }
+}
+
+/// Keeps what the accounts held before the record with a sequence number, once that is found.
+#[derive(Drop)]
+pub(crate) struct Keeping {
+    pub(crate) at: u64,
+    pub(crate) ledger: Ledger,
+    pub(crate) is_found: bool,
+}
+
+impl Reader for Keeping {
+    fn begin(&mut self, _: &Listing<ReadOnlyFile>) -> Result<(), PrintFault> {
+        Ok(())
+    }
+
+    fn read(&mut self, listing: &mut Listing<ReadOnlyFile>) -> Result<(), PrintFault>
+        ensures all { OnOk result (listing.new.at ≡ (numbers_of listing.new.journal).next) }
+    {
+        if listing.at() <= self.at && self.at <= listing.end() {
+            skip_to(listing, self.at)?;
+            self.ledger.copy_from(listing.ledger());
+            self.is_found = true;
+        }
+        pass_over(listing)
+    }
+}
+
+// Passes over what is left of a listing.
+fn pass_over(listing: &mut Listing<ReadOnlyFile>) -> Result<(), PrintFault>
+    ensures { OnOk result (listing.new.at ≡ (numbers_of listing.new.journal).next) }
+{
+    let end = listing.end();
+    skip_to(listing, end)?;
+    Ok(())
+}

@@ -1,0 +1,185 @@
+//! Reads ledgers as one book.
+ghost use Rattle.std.specs.Prelude.{◌≢◌};
+
+use crate::book::{BookInspection, BookTask};
+use crate::book_faults::BookFault;
+use crate::book_reader::{Keeping, Passing, Printing};
+use crate::inspecting::{answer, tell_locking};
+use crate::meter::Meter;
+use crate::shelf::{Extent, Shelf, open, parts_of, walk};
+use ledger_printing::{JournalPrint, JournalWish, Progress, print_balances};
+use ledger_reading::Ledger;
+use program_ends::{Status, Watched, tell, unwritten};
+use script_streams::{Output, StreamFault};
+use std::alloc::{Alloc, Global};
+use std::fs::{File, Files};
+use std::io::Write;
+
+/// Does what is asked for with a book. All of it is found sound, and each ledger to go on where the one before ends,
+/// before anything is printed, and the last one stays locked from then on. What is printed goes to the writer; so does
+/// what `check` finds wrong, and every other task tells it to `errors`, of which a fault is ignored.
+pub fn inspect_book<R: Files<File = File> + Alloc<A = Global> + Clone + Drop, W: Write, E: Write>(
+    rt: &R,
+    alloc: Global,
+    wish: &BookInspection<'_>,
+    writer: &mut W,
+    errors: &mut E,
+    shows_progress: bool,
+) -> Status
+    ensures { result ≢ Status.WrongWords }
+{
+    for path in &wish.paths {
+        tell_locking(alloc, path, wish.locking, errors);
+    }
+    let mut output = Watched::over(writer);
+    let mut meter = Meter::over(alloc, errors, shows_progress);
+    let read = read_book(rt, alloc, wish, &mut output, &mut meter);
+    meter.end();
+    match read {
+        Ok(()) => Status::Done,
+        Err(BookFault::Output(StreamFault::Write)) => {
+            unwritten(alloc, output.is_closed(), Status::Done, errors)
+        }
+        Err(fault) => tell_fault(alloc, wish.task, fault, &mut output, errors),
+    }
+}
+
+// Tells why it isn't read.
+fn tell_fault<W: Write, E: Write>(
+    alloc: Global,
+    task: BookTask,
+    fault: BookFault<'_>,
+    writer: &mut W,
+    errors: &mut E,
+) -> Status
+    ensures { result ≢ Status.WrongWords }
+{
+    let status = fault.status();
+    match (status, task) {
+        (Status::Refused, BookTask::Check { quiet: true }) => status,
+        (Status::Refused, BookTask::Check { quiet: false }) => {
+            answer(alloc, fault, writer, errors)
+        }
+        _ => {
+            tell(alloc, fault, errors);
+            status
+        }
+    }
+}
+
+// Finds all of it sound, and then prints what is asked for. The last ledger stays open, so that nobody writes it.
+fn read_book<
+    'a,
+    R: Files<File = File> + Alloc<A = Global> + Clone + Drop,
+    W: Write + Drop,
+    P: Progress,
+>(
+    rt: &R,
+    alloc: Global,
+    wish: &BookInspection<'a>,
+    writer: &mut W,
+    progress: &mut P,
+) -> Result<(), BookFault<'a>> {
+    let parts = parts_of(rt, alloc, wish.paths.as_slice())?;
+    let Some(last) = parts.last() else {
+        return Err(BookFault::Nothing);
+    };
+    let held = open(rt, alloc, *last, wish.locking)?;
+    let shelf = Shelf {
+        parts: parts.as_slice(),
+        locking: wish.locking,
+    };
+    let read = read_shelf(rt, alloc, shelf, wish.task, writer, progress);
+    drop(held);
+    read
+}
+
+fn read_shelf<'a, R: Files<File = File>, W: Write + Drop, P: Progress>(
+    rt: &R,
+    alloc: Global,
+    shelf: Shelf<'a, '_>,
+    task: BookTask,
+    writer: &mut W,
+    progress: &mut P,
+) -> Result<(), BookFault<'a>> {
+    match task {
+        BookTask::Check { quiet } => {
+            let extent = walk(rt, alloc, shelf, &mut Passing)?;
+            if !quiet {
+                print_extent(alloc, &extent, writer)?;
+            }
+        }
+        BookTask::Balances { format, date, at } => {
+            let ledger = held(rt, alloc, shelf, at)?;
+            print_balances(alloc, &ledger, format, date, writer)?;
+        }
+        BookTask::Journal(wish) => print_book(rt, alloc, shelf, wish, writer, progress)?,
+    }
+    Ok(())
+}
+
+// Prints the records of a book, once all of it is found sound.
+fn print_book<'a, R: Files<File = File>, W: Write + Drop, P: Progress>(
+    rt: &R,
+    alloc: Global,
+    shelf: Shelf<'a, '_>,
+    wish: JournalWish,
+    writer: &mut W,
+    progress: &mut P,
+) -> Result<(), BookFault<'a>> {
+    let Extent { last, .. } = walk(rt, alloc, shelf, &mut Passing)?;
+    let printed = match JournalPrint::over(alloc, wish, writer) {
+        Ok(printed) => printed,
+        Err(fault) => return Err(BookFault::of_printing(last, fault)),
+    };
+    let mut printing = Printing { printed, progress };
+    walk(rt, alloc, shelf, &mut printing)?;
+    let Printing { printed, .. } = printing;
+    match printed.end() {
+        Ok(()) => Ok(()),
+        Err(fault) => Err(BookFault::of_printing(last, fault)),
+    }
+}
+
+// What the accounts hold at the end, or held before the record with that sequence number.
+fn held<'a, R: Files<File = File>>(
+    rt: &R,
+    alloc: Global,
+    shelf: Shelf<'a, '_>,
+    at: Option<u64>,
+) -> Result<Ledger, BookFault<'a>> {
+    let Some(at) = at else {
+        let extent = walk(rt, alloc, shelf, &mut Passing)?;
+        let mut ledger = Ledger::new(alloc)?;
+        ledger.copy_from(extent.seam.ledger());
+        return Ok(ledger);
+    };
+    let mut keeping = Keeping {
+        at,
+        ledger: Ledger::new(alloc)?,
+        is_found: false,
+    };
+    let extent = walk(rt, alloc, shelf, &mut keeping)?;
+    if !keeping.is_found {
+        return Err(BookFault::OutOfReach {
+            part: extent.last,
+            at,
+            first: extent.first,
+            next: extent.seam.next(),
+        });
+    }
+    Ok(keeping.ledger)
+}
+
+// A line for each of its numbers.
+fn print_extent<W: Write>(
+    alloc: Global,
+    extent: &Extent<'_>,
+    writer: &mut W,
+) -> Result<(), StreamFault> {
+    let mut output = Output::new(alloc, writer)?;
+    output.line(format_args!("first {}", extent.first))?;
+    output.line(format_args!("next {}", extent.seam.next()))?;
+    output.line(format_args!("total {}", extent.seam.ledger().total()))?;
+    output.flush()
+}
