@@ -8,7 +8,8 @@ use Rattle.script_grammar.proofs.requests.read_requested.Goals as goal
 
 -- what is told of a line of another name is told of it as an entry
 as_entry : (text word : Word) (words : List Word) → (slice_index word 0 == 35) ≡ false → IsText text word → (text ≡ codes "balance" → ⊥) → (text ≡ codes "find" → ⊥)
-    → (text ≡ codes "hello" → ⊥) → (text ≡ codes "copy" → ⊥) → (text ≡ codes "archive" → ⊥) → (text ≡ codes "help" → ⊥) → (text ≡ codes "close" → ⊥) → request_fault (word ∷ words) ≡ told_by entries_given (word ∷ words)
+    → (text ≡ codes "hello" → ⊥) → (text ≡ codes "copy" → ⊥) → (text ≡ codes "archive" → ⊥) → (text ≡ codes "help" → ⊥) → (text ≡ codes "close" → ⊥)
+    → request_fault (word ∷ words) ≡ told_by entries_given (word ∷ words)
 unfolding request_fault
 as_entry text word words no_comment same balance find hello copy archive help close = rw (
   no_comment,
