@@ -129,7 +129,7 @@ def closed_from_outside(case):
         require_same(office.closed(), [], "what is unanswered")
         require_closed(office, 2, 2)
         told = other.hear_rest()
-        require_same((told[0], told[1].split()[0], told[2:]), ("posted 1 1", "wrong", ["closing"]), "what its counter is told")
+        require_same((told[0], told[1].split()[0], told[2:]), ("posted 1 1", "wrong", ["hello 0", "closing"]), "what its counter is told")
     require_same(case.close(other), (1, "", none), "closing one that has ended")
     (other.folder / "in").unlink()
     missing = f"{other.folder}/in: it can't be opened\n"

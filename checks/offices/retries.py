@@ -7,6 +7,7 @@ import subprocess
 import sys
 import time
 
+from archives import archived, require_whole
 from office import PATIENCE, require, require_same
 
 CLIENTS = pathlib.Path(__file__).parents[2] / "clients"
@@ -41,14 +42,14 @@ def post_all(folder, state, account, told):
 
 def shell_client(folder, state, account):
     """The same in the shell, of a few postings."""
-    counter = CLIENTS / "counter"
+    counter = f"'{CLIENTS / 'counter'}' -t 5 -s '{state}'"
     return ["sh", "-c", f"""
+        begun() {{ [ -e '{state}' ] && [ $(( $(head -n 1 '{state}') % 4294967296 )) -ge $1 ]; }}
+        ask() {{ {counter} '{folder}' "$@" || {{ [ $? -eq 4 ] && {counter} -f '{folder}'; }} || sleep 0.02; }}
         for amount in 1 2 3 4 5 6 7 8 9; do
-            until [ -e '{state}' ] && [ $(( $(head -n 1 '{state}') % 4294967296 )) -ge $amount ]; do
-                '{counter}' -t 5 -s '{state}' '{folder}' deposit {account} $amount || sleep 0.02
-            done
+            until begun $amount; do ask deposit {account} $amount; done
         done
-        until '{counter}' -t 5 -s '{state}' '{folder}'; do sleep 0.02; done"""]
+        until {counter} '{folder}'; do ask; done"""]
 
 
 class Clients:
@@ -83,12 +84,19 @@ class Clients:
         self.start(number)
 
     def end(self):
+        """Waits until all have posted what they are to post."""
         for number, run in enumerate(self.runs):
             try:
                 require_same(run.wait(PATIENCE), 0, f"the end of client {number}")
             except subprocess.TimeoutExpired as late:
-                os.killpg(run.pid, signal.SIGKILL)
                 require(False, f"client {number} never ends: {late}")
+
+    def stop(self):
+        """Ends those that go on."""
+        for run in self.runs:
+            if run.poll() is None:
+                os.killpg(run.pid, signal.SIGKILL)
+                run.wait()
 
 
 def retried(case, slots, moments):
@@ -98,6 +106,17 @@ def retried(case, slots, moments):
     books.mkdir()
     case.formatted_ledger(slots)
     clients = Clients(case, counters)
+    try:
+        retry(case, counters, books, clients, moments)
+    finally:
+        clients.stop()
+    rows = archived(case, books)
+    require_whole(rows)
+    return [[int(row.amount) for row in rows if row.target == str(number + 1)] for number in range(COUNTERS)]
+
+
+def retry(case, counters, books, clients, moments):
+    """Kills the office and clients again and again, and lets all of them end."""
     for _ in range(KILLS):
         with case.office(counters, "--hello", "--archive", str(books)) as office:
             office.opened()
@@ -110,8 +129,6 @@ def retried(case, slots, moments):
         clients.end()
         require_same(case.close(counters[0])[:2], (0, "closed\n"), "the closing")
         office.closed()
-    rows = [row for file in sorted(books.iterdir()) for row in case.rows(file)]
-    return [[int(row.amount) for row in rows if row.target == str(number + 1)] for number in range(COUNTERS)]
 
 
 def never_twice(case):

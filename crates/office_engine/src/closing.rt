@@ -13,8 +13,8 @@ use std::time::{Clock, Duration};
 use thiserror::Error;
 
 /// What is said at the counter. The first line is wrong, whatever part of a line a client has left before it, so that
-/// no request comes of that part.
-const SAID: &[u8] = b" ?\nclose\n";
+/// no request comes of that part; the second one is for an office that drops all until it is greeted.
+const SAID: &[u8] = b" ?\nhello 0\nclose\n";
 
 /// How often in a second it is looked whether the office has ended.
 const LOOKS: u64 = 50;
