@@ -84,7 +84,9 @@ def that_cant_be_opened(programs, _moments):
     for path, sentence in ((folder, "it is neither a file nor a disk"), (pipe, "it is neither a file nor a disk"), (odd, appended)):
         for words in ((), ("--format", "4"), ("--format", "4", "--overwrite")):
             programs.require_refused(path, sentence, *words, status=3)
-        require_same(programs.check(path), Said(3, "", f"{path}: {sentence}"), "the check")
+        # a folder may be an archive
+        told = Said(1, f"{path}: it has no ledger of an archive\n", "") if path == folder else Said(3, "", f"{path}: {sentence}")
+        require_same(programs.check(path), told, "the check")
     if os.getuid() != 0:
         print("not tried: files without permission, since this user may not run a program as another one")
         return
