@@ -17,7 +17,7 @@ from pathlib import Path
 
 
 class NoOffice(Exception):
-    """No office has the counter, or it has ended."""
+    """No office has the counter, or it ends. What became of a posting is asked by the next `Counter`."""
 
 
 class InUse(Exception):
@@ -118,7 +118,7 @@ class Counter:
         while (answer := self.hear().split())[0] == "posted":
             posted.append(int(answer[1]))
         if answer[0] != "found":
-            raise Refused(" ".join(answer[1:]))
+            raise NoOffice(f"{self.folder}: {' '.join(answer)}; the next office tells whether {self.state.begun!r} stands")
         if posted:
             self.remember(batch=posted[-1], begun="")
         elif int(answer[3]) <= self.state.batch + 1:
@@ -137,8 +137,9 @@ class Counter:
         if kind == "posted":
             self.remember(batch=int(words[0]), begun="")
             return int(words[0])
-        if kind == "undecided":
-            raise TimeOut("the device failed; the next office tells whether it stands")
+        if kind not in ("refused", "wrong"):
+            # its device failed, or it closes
+            raise NoOffice(f"{self.folder}: {kind}; the next office tells whether {self.state.begun!r} stands")
         self.remember(begun="")
         raise Refused(" ".join(words[:1] if kind == "refused" else words))
 
