@@ -32,7 +32,7 @@ pub record HeldThen {D : Type 0} (clerk : ClerkState D) (told : ToldBalance) : T
 -- The clerk bears out what a seat holds. Its turns are those of its station in the history, in order, each once. What
 -- it was told is so: that it wasn't its turn; that the history holds so many turns; the last balance, as the account
 -- then stood; that a fault of the device was met; and that the device failed in its turn: what the clerk accepts of
--- that turn's entries is in flight.
+-- that turn's entries is in flight, as that of its station.
 pub record IsBorneOut {D : Type 0} (clerk : ClerkState D) (seat : SeatState) : Type 0 where
   pub turns : seat.turns ≡ turns_of seat.station clerk.history
   pub denied : IfSome seat.denied (WasDenied clerk.opening.line clerk.history seat.station)
@@ -40,6 +40,7 @@ pub record IsBorneOut {D : Type 0} (clerk : ClerkState D) (seat : SeatState) : T
   pub balance : IfSome seat.told (HeldThen clerk)
   pub faulted : seat.faulted ≡ true → clerk.journal.faulted ≡ true
   pub undecided : IfSome seat.undecided (λ entries. clerk.in_flight ≡ Some (accepted clerk.ledger entries))
+  pub undecided_by : IfSome seat.undecided (λ entries. clerk.in_flight_by ≡ seat.station)
 
 -- in how many turns the device failed: in one at most, since after it the clerk takes none
 abbrev pub failed_turns : {D : Type 0} → ClerkState D → ℕ

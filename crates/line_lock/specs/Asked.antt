@@ -1,13 +1,16 @@
 -- What an office is asked of its ledger while it is open.
-use Rattle.std.specs.Prelude.{◌≢◌, ◌≡◌, ◌≤◌, ◌↔◌, ℕ, true, false, length, IsTrue, Result, Ok, Err, IfOk, Some}
+use Rattle.std.specs.Prelude.{◌≢◌, ◌≡◌, ◌≤◌, ◌↔◌, ℕ, true, false, length, IsTrue, Result, Ok, Err, IfOk, Some, None}
 use Rattle.sector_device.specs.Device.{DeviceState, AreCalls}
 use Rattle.sector_device.specs.Crash.{LooksOnly}
 use Rattle.four_state.specs.Configuration.{Configuration}
 use Rattle.turn_ledger.specs.State.{IsAccount, balance_of}
 use Rattle.turn_clerk.specs.Clerk.{ClerkState, KeepsHistory}
 use Rattle.turn_clerk.specs.Found.{IsNumberedFromSome, HasFound, TellsOfBatches}
+use Rattle.turn_clerk.specs.Latest.{IsStepFromSome, HasLatest, TellsOfPostings, end_of_step}
 use Rattle.turn_clerk.specs.declared.searching.Found.{Found}
 use Rattle.turn_clerk.specs.declared.searching.Found.TheVariants.{LookingBack}
+use Rattle.turn_clerk.specs.declared.postings.Latest.{Latest}
+use Rattle.turn_clerk.specs.declared.postings.Reached.TheVariants as reached
 use Rattle.turn_clerk.specs.declared.refusals.FindRefusal.{FindRefusal}
 use Rattle.turn_clerk.specs.declared.refusals.FindRefusal.TheVariants as find
 use Rattle.line_lock.specs.OpenedOn.{WasOpenedOn}
@@ -44,8 +47,8 @@ pub record WasToldBalance {D : Type 0} (state : D → DeviceState) (device : Dev
   pub note : new ≡ noted old account (length clerk.history) answer
 
 -- a seat that was told this of a search: of a fault of the device alone something is noted
-abbrev pub searched : SeatState → Result Found FindRefusal → SeatState
-searched seat (Ok found) = seat
+abbrev pub searched : {Told : Type 0} → SeatState → Result Told FindRefusal → SeatState
+searched seat (Ok told) = seat
 searched seat (Err find.Faulted) = record seat { faulted = true }
 searched seat (Err find.Changed) = seat
 searched seat (Err find.Device) = seat
@@ -67,3 +70,21 @@ pub record WasSearched {D : Type 0} (state : D
   pub looks : LooksOnly (state clerk.journal.device) (state after)
   pub found : device.honest → IfOk answer (λ found. found ≢ LookingBack → HasFound state clerk reference first found)
   pub batches : device.honest → IfOk answer (TellsOfBatches clerk reference first)
+
+-- The same of a seat that asked for its station's posting with the greatest reference within a limit.
+pub record WasToldLatest {D : Type 0} (state : D
+    → DeviceState) (device : DeviceState) (from : Configuration) (old new : SeatState) (limit first : ℕ) (answer : Result Latest FindRefusal) : Type 0 where
+  pub clerk : ClerkState D
+  pub opened : WasOpenedOn state device from clerk
+  pub legal : KeepsHistory clerk
+  pub after : D
+  pub call : AreCalls (state clerk.journal.device) (state after) (answer ≡ Err find.Device)
+  pub faulted : (answer ≡ Err find.Faulted) ↔ IsTrue clerk.journal.faulted
+  pub looking_back : IfOk answer (λ latest. latest.reached ≡ reached.LookingBack → latest.posting ≡ None)
+  pub numbered : IfOk answer (λ latest. latest.reached ≢ reached.LookingBack → IsStepFromSome clerk.journal limit first latest)
+  pub note : new ≡ searched old answer
+  -- on an honest device
+  pub looks : LooksOnly (state clerk.journal.device) (state after)
+  pub latest : device.honest → IfOk answer (λ latest. latest.reached ≢ reached.LookingBack → HasLatest state clerk old.station limit first latest)
+  pub batches : device.honest
+      → IfOk answer (λ latest. latest.reached ≢ reached.LookingBack → TellsOfPostings clerk old.station limit first (end_of_step clerk.journal.next latest.reached) latest.posting)

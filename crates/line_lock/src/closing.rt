@@ -118,7 +118,9 @@ fn is_borne_out<D: Device, L: Count>(clerk: &Clerk<D>, seat: &Seat<L>) -> bool
         None => true,
     };
     let failed = match &seat.undecided {
-        Some(entries) => are_in_flight(clerk, entries),
+        Some(entries) => {
+            are_in_flight(clerk, entries) && clerk.in_flight_station() == seat.station()
+        }
         None => true,
     };
     let faulted = clerk.is_faulted() || !seat.was_faulted();

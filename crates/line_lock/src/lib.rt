@@ -25,6 +25,7 @@ pub use std::sync::ledger::{Blank, Ledger as Count};
 pub use sweep_auditor::Audit;
 pub use told::ToldBalance;
 pub use turn_clerk::{
-    Clerk, FindRefusal, Found, OpenRefusal, SEARCH_STEP, Taken, Turn, TurnRefusal,
+    Clerk, FindRefusal, Found, Latest, OpenRefusal, Posting, Reached, SEARCH_STEP, Taken, Turn,
+    TurnRefusal,
 };
 pub use turn_ledger::{BATCH_LIMIT, Entry};

@@ -15,7 +15,7 @@ ghost use Rattle.journal_recovery.specs.Refused.{RecoveryRefuses};
 ghost use Rattle.line_lock.specs.OpenedOn.{Names, WasOpenedOn, WasLeftByClerk};
 ghost use Rattle.line_lock.specs.Seat.{new_seat};
 ghost use Rattle.line_lock.specs.Told.{WasTold};
-ghost use Rattle.line_lock.specs.Asked.{WasToldBalance, WasSearched};
+ghost use Rattle.line_lock.specs.Asked.{WasToldBalance, WasSearched, WasToldLatest};
 ghost use Rattle.turn_ledger.specs.State.{IsAccount};
 
 use crate::closing::{CloseRefusal, Closing, audited, gathered, look_at};
@@ -28,7 +28,7 @@ use sector_device::Device;
 use std::alloc::Global;
 use std::sync::ledger::{Blank, Ledger as Count};
 use std::sync::{Mutex, Wait};
-use turn_clerk::{Clerk, FindRefusal, Found, OpenRefusal, Taken, Turn, TurnRefusal};
+use turn_clerk::{Clerk, FindRefusal, Found, Latest, OpenRefusal, Taken, Turn, TurnRefusal};
 use turn_ledger::Entry;
 
 /// One clerk that several stations share, one turn at a time.
@@ -193,6 +193,25 @@ impl<D: Device, L: Count + OpenedOn> Office<D, L> {
         ensures never_changed { L.device.honest → result ≢ Err FindRefusal.Changed }
     {
         self.locked.lock(rt).find(seat, reference, from)
+    }
+
+    /// Looks for the posting of the seat's own station with the greatest reference above 0 and at most the limit, as
+    /// [`Clerk::latest`] does. It waits, takes the lock for one step, and is noted, as [`Office::find`].
+    ///
+    /// # Errors
+    /// [`FindRefusal`], the first that holds.
+    pub fn latest<R: Wait>(
+        &self,
+        rt: &R,
+        seat: &mut Seat<L>,
+        limit: u64,
+        from: u64,
+    ) -> Result<Latest, FindRefusal>
+        ensures told { WasToldLatest D.state L.device L.line seat.old seat.new
+            limit from result }
+        ensures never_changed { L.device.honest → result ≢ Err FindRefusal.Changed }
+    {
+        self.locked.lock(rt).latest(seat, limit, from)
     }
 
     /// Closes the office, if the list has the seat of each station and the clerk bears out what each one holds: its

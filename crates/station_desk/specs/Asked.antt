@@ -2,7 +2,7 @@
 use Rattle.sector_device.specs.Device.{DeviceState}
 use Rattle.four_state.specs.Configuration.{Configuration}
 use Rattle.line_lock.specs.Seat.{SeatState}
-use Rattle.line_lock.specs.Asked.{WasToldBalance, WasSearched}
+use Rattle.line_lock.specs.Asked.{WasToldBalance, WasSearched, WasToldLatest}
 use Rattle.station_desk.specs.declared.errand.Question.{Question}
 use Rattle.station_desk.specs.declared.errand.Question.TheVariants as question
 use Rattle.station_desk.specs.declared.errand.Report.{Report}
@@ -13,4 +13,5 @@ use Rattle.station_desk.specs.declared.errand.Report.TheVariants as report
 abbrev pub IsReportOn : {D : Type 0} → (D → DeviceState) → DeviceState → Configuration → SeatState → SeatState → Question → Report → Type 0
 IsReportOn state device from old new (question.Balance account) (report.Balance answer) = WasToldBalance state device from old new account answer
 IsReportOn state device from old new (question.Find reference first) (report.Found answer) = WasSearched state device from old new reference first answer
+IsReportOn state device from old new (question.Latest limit first) (report.Latest answer) = WasToldLatest state device from old new limit first answer
 IsReportOn state device from old new _ _ = ⊥

@@ -2,7 +2,7 @@
 ghost use Rattle.line_lock.specs.Asked.{NotesAlone};
 ghost use Rattle.station_desk.specs.Asked.{IsReportOn};
 
-use line_lock::{BalanceRefusal, Count, FindRefusal, Found, Office, OpenedOn, Seat};
+use line_lock::{BalanceRefusal, Count, FindRefusal, Found, Latest, Office, OpenedOn, Seat};
 use sector_device::Device;
 use std::sync::Wait;
 
@@ -29,6 +29,14 @@ pub enum Question {
         /// The number of the first record that is looked at.
         from: u64,
     },
+    /// Which is the station's own posting with the greatest reference above 0 and at most a limit, from the record of a
+    /// number on.
+    Latest {
+        /// The greatest reference that is looked for.
+        limit: u64,
+        /// The number of the first record that is looked at.
+        from: u64,
+    },
 }
 
 /// What the office answered.
@@ -38,6 +46,8 @@ pub enum Report {
     Balance(Result<u64, BalanceRefusal>),
     /// What one step of the search found, or why it wasn't made.
     Found(Result<Found, FindRefusal>),
+    /// What one step of the search for the station's latest posting tells, or why it wasn't made.
+    Latest(Result<Latest, FindRefusal>),
 }
 
 // What the office answers to a question of the station at this seat.
@@ -53,5 +63,6 @@ pub(crate) fn put_question<D: Device, L: Count + OpenedOn, R: Wait>(
     match question {
         Question::Balance(account) => Report::Balance(office.balance(rt, seat, account)),
         Question::Find { reference, from } => Report::Found(office.find(rt, seat, reference, from)),
+        Question::Latest { limit, from } => Report::Latest(office.latest(rt, seat, limit, from)),
     }
 }

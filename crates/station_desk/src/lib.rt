@@ -25,7 +25,9 @@ pub use end::{End, EndName};
 pub use errand::{Errand, Question, Report};
 pub use feed::Feed;
 pub use gate::Gate;
-pub use line_lock::{BalanceRefusal, Count, FindRefusal, Found, Office, OpenedOn, Seat};
+pub use line_lock::{
+    BalanceRefusal, Count, FindRefusal, Found, Latest, Office, OpenedOn, Posting, Reached, Seat,
+};
 pub use messages::{Answer, Ask, Outcome};
 pub use reconciling::{Reconciled, reconcile};
 pub use rings::desk;

@@ -7,7 +7,7 @@ use std::alloc::{AllocError, Global};
 use std::process::Abort;
 use std::test::Fail;
 use test_scenes::{FIRST, Rewritten, formatted, line, second};
-use turn_clerk::{Clerk, Entry, FindRefusal, Found};
+use turn_clerk::{Clerk, Entry, FindRefusal, Found, Reached};
 
 fn with_reference(reference: u64) -> Entry {
     let (to, amount) = (1, 1);
@@ -146,6 +146,33 @@ fn a_search_looks_back_in_steps(rt: HostRuntime) -> Result<(), Fail> {
     let looking_back = 2 + 17 + 2 * 258 + 17;
     let searching = 2 * 256 + 2 * 2 + 2 * 2 + 1;
     assert!(rt; calls_of(&rt, alloc, device, false, &searches)? == looking_back + searching);
+    Ok(())
+}
+
+// The latest posting of a station is looked for in the same steps, and each record is read once in each.
+#[test]
+fn a_latest_posting_is_looked_for_in_steps(rt: HostRuntime) -> Result<(), Fail> {
+    let alloc = rt.alloc();
+    let device = posted(&rt, alloc, formatted(alloc, 258)?, 259)?;
+    let (mut clerk, from) = noted(&rt, alloc, device)?;
+    let searches = [
+        (0, u64::MAX, 0, None, Reached::LookingBack),
+        (0, u64::MAX, 0, Some(254), Reached::Further(256)),
+        (0, u64::MAX, 256, Some(258), Reached::All(0)),
+        (1, 100, 0, Some(99), Reached::Further(256)),
+        (1, 100, 256, None, Reached::All(0)),
+    ];
+    for (station, limit, first, number, reached) in &searches {
+        let latest = clerk.latest(*station, *limit, *first)?;
+        let told = latest
+            .posting
+            .map(|posting| (posting.number, posting.entry));
+        let expected = number.map(|number| (number, with_reference(number)));
+        assert!(rt; (told, latest.reached) == (expected, *reached));
+    }
+    let calls = clerk.into_device().calls().len().saturating_sub(from);
+    let looking_back = 2 + 17 + 2 * 258 + 17;
+    assert!(rt; calls == looking_back + 2 * (2 * 256 + 2 * 2 + 1));
     Ok(())
 }
 

@@ -14,4 +14,7 @@ mod Backs
 mod FarBack
 mod InSight
 mod AsPosted
+mod LastBatches
 mod Told
+mod Latests
+mod ToldLatest

@@ -17,7 +17,7 @@ use Rattle.sweep_auditor.specs.Run.{IsRun}
 use Rattle.turn_clerk.specs.declared.turns.Turn.{Turn}
 use Rattle.turn_clerk.specs.Room.{bank_for, after_batches, after_failed_batch}
 use Rattle.turn_clerk.specs.Turn.{accepted_of, as_batch}
-use Rattle.turn_clerk.specs.History.{moves_of, batches_of, line_after, state_after_turns, IsLegal}
+use Rattle.turn_clerk.specs.History.{moves_of, batches_of, by_station, stations_of, line_after, state_after_turns, IsLegal}
 
 -- what a clerk found when it was opened
 pub record Opening (D : Type 0) : Type 0 where
@@ -36,6 +36,8 @@ pub record ClerkState (D : Type 0) : Type 0 where
   pub history : List Turn
   -- the accepted entries of the turn that ended by a fault of the device
   pub in_flight : Option (List Entry)
+  -- and the station that took it
+  pub in_flight_by : ℕ
   pub opening : Opening D
 
 -- the state at the opening
@@ -61,15 +63,15 @@ after_turn old device turn = record old {
   history = old.history ++ turn ∷ [];
 }
 
--- the clerk after a turn in which the device failed, where that bank was live: these entries are in flight
-abbrev pub after_failed_turn : {D : Type 0} → ClerkState D → LiveBank → D → List Entry → ClerkState D
-after_failed_turn old live device entries = record old { journal = after_failed_batch old.journal live device; in_flight = Some entries }
+-- the clerk after a turn of a station in which the device failed, where that bank was live: these entries are in flight
+abbrev pub after_failed_turn : {D : Type 0} → ClerkState D → LiveBank → D → ℕ → List Entry → ClerkState D
+after_failed_turn old live device station entries = record old { journal = after_failed_batch old.journal live device; in_flight = Some entries; in_flight_by = station }
 
--- The device failed in a turn: these entries are in flight, the journal is faulted, on the bank that was live or on the
+-- The device failed in a turn of the station: these entries are in flight, the journal is faulted, on the bank that was live or on the
 -- one for them, and all else is as it was.
-pub record HasFailedTurn {D : Type 0} (old : ClerkState D) (entries : List Entry) (new : ClerkState D) : Type 0 where
+pub record HasFailedTurn {D : Type 0} (old : ClerkState D) (station : ℕ) (entries : List Entry) (new : ClerkState D) : Type 0 where
   pub live : (new.journal.live ≡ old.journal.live) ⊎ (new.journal.live ≡ bank_for old.journal.slots old.journal.live old.journal.next)
-  pub is : new ≡ after_failed_turn old new.journal.live new.journal.device entries
+  pub is : new ≡ after_failed_turn old new.journal.live new.journal.device station entries
 
 -- The batches accepted since the opening, in order: those of the turns taken, and last that of the turn in flight.
 abbrev pub in_flight_batch : Option (List Entry) → List (List Entry)
@@ -78,6 +80,10 @@ in_flight_batch (Some entries) = entries ∷ []
 
 abbrev pub accepted_batches : {D : Type 0} → ClerkState D → List (List Entry)
 accepted_batches clerk = batches_of clerk.history ++ in_flight_batch clerk.in_flight
+
+-- the station that each of them is of
+abbrev pub accepted_stations : {D : Type 0} → ClerkState D → List ℕ
+accepted_stations clerk = stations_of clerk.history ++ by_station clerk.in_flight_by (in_flight_batch clerk.in_flight)
 
 -- the second list begins with the first
 pub record Extends (first second : List (List Entry)) : Type 0 where

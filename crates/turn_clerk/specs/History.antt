@@ -20,6 +20,14 @@ moves_of turns = map move_of turns
 abbrev pub batches_of : List Turn → List (List Entry)
 batches_of turns = flat_map (λ turn. as_batch (accepted_of turn)) turns
 
+-- a station for each of these batches
+abbrev pub by_station : ℕ → List (List Entry) → List ℕ
+by_station station batches = map (λ (batch : List Entry). station) batches
+
+-- the stations whose turns journaled them, in the same order
+abbrev pub stations_of : List Turn → List ℕ
+stations_of turns = flat_map (λ turn. by_station turn.station (as_batch (accepted_of turn))) turns
+
 -- the line after the turns: that after their moves
 abbrev pub line_after : Configuration → List Turn → Configuration
 line_after line turns = after line (moves_of turns)

@@ -1,7 +1,7 @@
 -- Laws of histories that the crates above may cite: what one turn more adds.
 use Rattle.std.specs.Prelude.{◌≡◌, ◌+◌, ◌-◌, ℕ, List, [], ◌∷◌, ◌++◌, length, Some, slice_get}
 use Rattle.std.proofs.Common.{refl, sym, ◌∙◌, ap, subst, arith}
-use Rattle.std.proofs.lemmas.List.{append-nil, length-append, map-append, take-append-le, take_all}
+use Rattle.std.proofs.lemmas.List.{append-nil, length-append, length-map, map-append, take-append-le, take_all}
 use Rattle.std.proofs.lemmas.Grind.{flat_map-append}
 use Rattle.std.proofs.lemmas.Option.{slice_get_within}
 use Rattle.gate_journal.specs.OneMore.{each_there}
@@ -18,7 +18,7 @@ use Rattle.journal_recovery.specs.State.{State, state_after}
 use Rattle.journal_recovery.specs.RecoveryLaws.{state_after-append}
 use Rattle.turn_clerk.specs.declared.turns.Turn.{Turn}
 use Rattle.turn_clerk.specs.Turn.{accepted_of, as_batch, IsTurn}
-use Rattle.turn_clerk.specs.History.{move_of, moves_of, batches_of, line_after, state_after_turns, IsTurnAt, IsLegal}
+use Rattle.turn_clerk.specs.History.{move_of, moves_of, batches_of, by_station, stations_of, line_after, state_after_turns, IsTurnAt, IsLegal}
 
 -- one batch has its entries
 pub entries_of-as_batch : (batch : List Entry) → entries_of (as_batch batch) ≡ batch
@@ -41,6 +41,19 @@ pub batches_of-push : (turns : List Turn) (turn : Turn) → batches_of (turns ++
 batches_of-push turns turn =
     flat_map-append (λ (t : Turn). as_batch (accepted_of t)) turns (turn ∷ [])
     ∙ ap (λ (more : List (List Entry)). batches_of turns ++ more) (append-nil (as_batch (accepted_of turn)))
+
+pub stations_of-push : (turns : List Turn) (turn : Turn) → stations_of (turns ++ turn ∷ []) ≡ stations_of turns ++ by_station turn.station (as_batch (accepted_of turn))
+stations_of-push turns turn =
+    flat_map-append (λ (t : Turn). by_station t.station (as_batch (accepted_of t))) turns (turn ∷ [])
+    ∙ ap (λ (more : List ℕ). stations_of turns ++ more) (append-nil (by_station turn.station (as_batch (accepted_of turn))))
+
+-- each batch has a station
+pub stations_paired : (turns : List Turn) → length (stations_of turns) ≡ length (batches_of turns)
+stations_paired [] = refl
+stations_paired (turn ∷ turns) =
+    let batch = as_batch (accepted_of turn) in
+    let here : length (by_station turn.station batch) ≡ length batch = length-map batch (λ (b : List Entry). turn.station) in
+    omega (arith, here, stations_paired turns, length-append (by_station turn.station batch) (stations_of turns), length-append batch (batches_of turns))
 
 pub line_after-push : (line : Configuration) (turns : List Turn) (turn : Turn) → line_after line (turns ++ turn ∷ []) ≡ next (line_after line turns) (move_of turn)
 line_after-push line turns turn = ap (after line) (moves_of-push turns turn) ∙ after-push (moves_of turns) (move_of turn) line

@@ -10,6 +10,7 @@ pub mod Answered
 pub mod Journaled
 pub mod Found
 pub mod Searched
+pub mod Latest
 pub mod FarBack
 pub mod Lives
 pub mod View

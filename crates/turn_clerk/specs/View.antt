@@ -9,5 +9,6 @@ view_of k = record {
   line = k.line;
   history = k.history.items;
   in_flight = k.in_flight;
+  in_flight_by = k.in_flight_station;
   opening = record { journal = k.opening_journal.value; ledger = k.opening_ledger; line = k.opening_line };
 }

@@ -80,6 +80,13 @@ impl<D: Device> Clerk<D> {
         self.in_flight
     }
 
+    /// The station of that turn, if there is one.
+    pub fn in_flight_station(&self) -> u8
+        ensures { result ≡ self.now.in_flight_by }
+    {
+        self.in_flight_station
+    }
+
     /// The sequence number of the next record.
     pub fn next(&self) -> u64
         ensures { result ≡ self.now.journal.next }

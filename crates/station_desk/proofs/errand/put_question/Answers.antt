@@ -9,3 +9,6 @@ returns-in-Balance-clause-seat g c =
 
 pub returns-in-Find-clause-seat : goal.returns-in-Find-clause-seat
 returns-in-Find-clause-seat g c = searched-alone c.args.seat.now c.find.new.seat c.find.result c.find.ensures.told.note
+
+pub returns-in-Latest-clause-seat : goal.returns-in-Latest-clause-seat
+returns-in-Latest-clause-seat g c = searched-alone c.args.seat.now c.latest.new.seat c.latest.result c.latest.ensures.told.note

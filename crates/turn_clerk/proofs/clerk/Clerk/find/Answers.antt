@@ -1,16 +1,12 @@
-use Rattle.std.proofs.Common.{◌≡◌, ◌≢◌, ◌∙◌, ℕ, List, Err, ap, sym, subst, rules}
-use Rattle.turn_ledger.specs.declared.entry.Entry.{Entry}
+use Rattle.std.proofs.Common.{◌≡◌, ◌≢◌, ◌∙◌, Err, ap, sym, subst, rules}
 use Rattle.turn_clerk.specs.View.{view_of}
-use Rattle.turn_clerk.specs.Clerk.{ClerkState, accepted_batches}
+use Rattle.turn_clerk.specs.Clerk.{ClerkState, accepted_batches, accepted_stations}
 use Rattle.turn_clerk.specs.Found.{HasFound, TellsOfBatches}
-use Rattle.turn_clerk.specs.FarBack.{KeepsRecords, KeepsSinceOpening}
-use Rattle.turn_clerk.specs.History.{batches_of}
 use Rattle.turn_clerk.specs.Searched.{find_refusal_of}
 use Rattle.turn_clerk.specs.declared.refusals.FindRefusal.TheVariants.{Changed}
 use Rattle.turn_clerk.specs.declared.searching.Found.TheVariants.{LookingBack}
 use Rattle.turn_clerk.proofs.AfterLooks.{looked}
-use Rattle.turn_clerk.proofs.AfterTurn.{none_in_flight}
-use Rattle.turn_clerk.proofs.FarBack.{far_behind_looks, left_reads}
+use Rattle.turn_clerk.proofs.FarBack.{far_behind_looks, kept_now}
 use Rattle.turn_clerk.proofs.Told.{tells}
 use Rattle.turn_clerk.proofs.Searches.{has_found, is_changed, never_changed}
 use Rattle.turn_clerk.proofs.clerk.Clerk.find.Goals as goal
@@ -23,7 +19,7 @@ invariant_of-self g c =
       c.self.invariant.2,
       search.ensures.back c.self.invariant.3,
       far_behind_looks g.D.Device.state g.met.D.Device.sound c.self.inside.opening_journal.value c.self.inside.journal search.new.journal
-          (accepted_batches (view_of c.self.inside)) search.ensures.call.was_honest search.ensures.kept search.ensures.looks c.self.invariant.4,
+          (accepted_batches (view_of c.self.inside)) (accepted_stations (view_of c.self.inside)) search.ensures.call.was_honest search.ensures.kept search.ensures.looks c.self.invariant.4,
     )
 
 pub invariant_of-self-2 : goal.invariant_of-self-2
@@ -34,7 +30,7 @@ invariant_of-self-2 g c =
       c.self.invariant.2,
       search.ensures.back c.self.invariant.3,
       far_behind_looks g.D.Device.state g.met.D.Device.sound c.self.inside.opening_journal.value c.self.inside.journal search.new.journal
-          (accepted_batches (view_of c.self.inside)) search.ensures.call.was_honest search.ensures.kept search.ensures.looks c.self.invariant.4,
+          (accepted_batches (view_of c.self.inside)) (accepted_stations (view_of c.self.inside)) search.ensures.call.was_honest search.ensures.kept search.ensures.looks c.self.invariant.4,
     )
 
 pub returns-in_err-found-clause-never_changed : goal.returns-in_err-found-clause-never_changed
@@ -65,13 +61,7 @@ returns-clause-batches g c =
     let found = c.in_ok-found.found in
     let first = (state clerk.opening.journal.device).reads in
     subst (λ (k : ClerkState g.row.D.Denot). (state k.journal.device).honest → TellsOfBatches k c.args.reference c.args.from found) c.self.view_is
-    (λ honest.
-    let kept = left_reads (state clerk.opening.journal.device) (state clerk.journal.device) (KeepsSinceOpening state clerk) (g.met.D.Device.sound clerk.journal.device honest)
-    (c.self.invariant.4.ever honest) in
-    let posted = none_in_flight (batches_of clerk.history) clerk.in_flight (is.in_flight works) in
-    tells state clerk first
-    (subst (λ (n : ℕ). KeepsRecords n first clerk.opening.journal.next (batches_of clerk.history) (state clerk.journal.device).reads) (sym c.self.invariant.4.slots)
-    (subst (λ (batches : List (List Entry)). KeepsRecords clerk.opening.journal.slots first clerk.opening.journal.next batches (state clerk.journal.device).reads) posted kept))
+    (λ honest. tells state clerk first (kept_now state g.met.D.Device.sound clerk is works honest c.self.invariant.4)
     c.args.reference c.args.from found
     (λ searched. has_found state clerk is honest works c.args.reference c.args.from found searched
     (λ contents is spare. c.in_ok-found.ensures.found contents is spare c.self.invariant.3)))
