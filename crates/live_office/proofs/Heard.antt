@@ -14,6 +14,7 @@ use Rattle.station_desk.specs.Rings.{FeedState, DeskState}
 use Rattle.office_day.specs.declared.seated.Left.{Left}
 use Rattle.office_day.specs.declared.reconciled.StationDay.{StationDay}
 use Rattle.office_day.specs.Day.{IsReconciled, AreReconciled}
+use Rattle.office_day.specs.Archive.{Archive}
 use Rattle.office_day.specs.Spans.{Span, adjourned_to, HasLived, WasKeptOpen}
 use Rattle.office_day.proofs.Lists.{first, AllZip-at}
 use Rattle.live_office.specs.Conversation.{ConversationState, IsOver, IsHeard}
@@ -29,10 +30,10 @@ heard feed conversation part day over done = record {
 -- all of them
 pub kept_for : {D : Type 0} (state : D
     → DeviceState) (moves : ℕ) (device : D) (line : Configuration) (last : Span D) (desks : List DeskState) (left : List Left) (feeds : List FeedState) (days : List StationDay)
-    (conversations : List ConversationState)
-    → WasKeptOpen state moves device line last (map (λ (feed : FeedState). feed.collected) feeds) days → length desks ≡ stations line → length feeds ≡ stations line
-    → AllZip IsOver feeds conversations → AreReconciled feeds left days → WasKeptFor state moves device line last days conversations
-kept_for state moves device line last desks left feeds days conversations kept many fed over done = record {
+    (conversations : List ConversationState) (old new : Archive)
+    → WasKeptOpen state moves device line last (map (λ (feed : FeedState). feed.collected) feeds) days old new → length desks ≡ stations line → length feeds ≡ stations line
+    → AllZip IsOver feeds conversations → AreReconciled feeds left days → WasKeptFor state moves device line last days conversations old new
+kept_for state moves device line last desks left feeds days conversations old new kept many fed over done = record {
   collected = map (λ (feed : FeedState). feed.collected) feeds;
   kept = kept;
   as_many = AllZip-long IsOver feeds conversations over ∙ fed;
@@ -49,8 +50,8 @@ kept_for state moves device line last desks left feeds days conversations kept m
 
 -- an office that has lived, and isn't told of
 pub left_open : {D : Type 0} (state : D → DeviceState) (moves : ℕ) (closes : Type 0) (device : D) (line : Configuration) (desks : List DeskState) (last : Span D) (left : List Left) (after : D)
-    → HasLived state moves closes (adjourned_to device line desks) last left → last.clerk.journal.device ≡ after → WasLeftOpen state moves device line after
-left_open state moves closes device line desks last left after lived has = record {
+    (old new : Archive) → HasLived state moves closes (adjourned_to device line desks) last left old new → last.clerk.journal.device ≡ after → WasLeftOpen state moves device line after
+left_open state moves closes device line desks last left after old new lived has = record {
   earlier = lived.earlier.spans;
   between = lived.before.device;
   stood = lived.before.line;

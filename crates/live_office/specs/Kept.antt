@@ -8,6 +8,7 @@ use Rattle.station_desk.specs.Rings.{FeedState, AreTogether}
 use Rattle.station_desk.specs.declared.messages.Answer.{Answer}
 use Rattle.office_day.specs.declared.seated.Left.{Left}
 use Rattle.office_day.specs.declared.reconciled.StationDay.{StationDay}
+use Rattle.office_day.specs.Archive.{Archive}
 use Rattle.office_day.specs.Spans.{AreSpans, Span, WasKeptOpen, WasAbandoned}
 use Rattle.live_office.specs.Conversation.{ConversationState, IsHeard}
 use Rattle.live_office.specs.declared.counter.Unserved.{Unserved}
@@ -20,11 +21,12 @@ abbrev pub stands_with : FeedState → Left → Type 0
 stands_with feed part = AreTogether feed part.desk
 
 -- An office was kept open on that device and that line, of whose spans this is the last, for counters with whom it had
--- these conversations: each was told the answers that were collected for it, and what it asked for was heard.
+-- these conversations: each was told the answers that were collected for it, and what it asked for was heard. Its
+-- archive was kept behind each of the earlier spans.
 pub record WasKeptFor {D : Type 0} (state : D
-    → DeviceState) (moves : ℕ) (device : D) (line : Configuration) (last : Span D) (days : List StationDay) (conversations : List ConversationState) : Type 0 where
+    → DeviceState) (moves : ℕ) (device : D) (line : Configuration) (last : Span D) (days : List StationDay) (conversations : List ConversationState) (old new : Archive) : Type 0 where
   pub collected : List (List Answer)
-  pub kept : WasKeptOpen state moves device line last collected days
+  pub kept : WasKeptOpen state moves device line last collected days old new
   pub as_many : length conversations ≡ stations line
   pub heard : (i : ℕ) (conversation : ConversationState) (answers : List Answer) (day : StationDay) → i < stations line
       → IsHeard (slice_index_or conversations i conversation) (slice_index_or collected i answers) (slice_index_or days i day)

@@ -83,6 +83,7 @@ impl From<Unserved> for LiveRefusal {
 /// that was submitted is answered; where the input of a terminal ends; and where a station is refused its turns, as by
 /// a failed device. Then it is closed. Whenever it is closed for a while, the keeper adds to the archive and makes the
 /// copies that were asked for; counters can have it closed for that. If the archive can't be kept, the office ends. The
+/// keeper comes back with an office that is closed: its archive has all batches of the spans before the last one. The
 /// call waits for all of that; the counters' threads are left behind.
 ///
 /// # Errors
@@ -92,7 +93,7 @@ pub fn keep_open<
     R: Threads + Wait + Clock + Sync + Send + Clone + Drop + 'static,
     I: Read + Send + Drop + 'static,
     O: Write + Send + Drop + 'static,
-    K: Keeper<D>,
+    K: Keeper<D> + Drop,
 >(
     rt: &R,
     alloc: Global,
@@ -100,10 +101,11 @@ pub fn keep_open<
     line: Line,
     counters: Vec<Counter<I, O>>,
     moves: u64,
-    keeper: &mut K,
-) -> Result<Closed<D>, (D, LiveRefusal)>
-    ensures kept { IfOk result (λ closed. WasKeptFor D.state moves device line
-        (span_of closed.clerk closed.audit) closed.stations.items closed.conversations.items) }
+    keeper: K,
+) -> Result<(Closed<D>, K), (D, LiveRefusal)>
+    ensures kept { IfOk result (λ both. WasKeptFor D.state moves device line
+        (span_of both.0.clerk both.0.audit) both.0.stations.items both.0.conversations.items
+        (K.archive keeper) (K.archive both.1)) }
     ensures left { IfErr result (λ e. HandsBack D.state moves device line e.0 e.1) }
 {
     let begun = match begin(rt, alloc, line.stations(), counters) {
@@ -138,7 +140,7 @@ pub fn keep_open<
         return Err((life.clerk.into_device(), LiveRefusal::Unsettled));
     };
     match settled(alloc, life, feeds, conversations, &scheduler) {
-        Ok(closed) => Ok(closed),
+        Ok(closed) => Ok((closed, recess.keeper)),
         Err((device, refusal)) => Err((device, refusal)),
     }
 }

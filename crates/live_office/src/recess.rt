@@ -1,4 +1,6 @@
 //! What a live office does between two spans.
+ghost use Rattle.std.specs.Prelude.{◌≡◌, ◌⊎◌, ◌↔◌, ℕ, true, false};
+ghost use Rattle.office_day.specs.Archive.{Archive, WasKept, next_of};
 ghost use Rattle.office_day.specs.Spans.{WasLookedAt};
 
 use crate::scheduler::Scheduler;
@@ -33,9 +35,20 @@ pub enum Kept {
 
 /// Who keeps the archive of an office, and makes copies of its ledger.
 pub trait Keeper<D: Device> {
+    ghost use Rattle.office_day.specs.Archive.{no_archive};
+
+    /// The archive, which an office that doesn't say so has none of.
+    ghost archive: { Self → Archive } = { λ _. no_archive };
+
     /// Adds to the archive what it lacks of the ledger on the device, which is only looked at and handed back.
     fn keep(&mut self, device: D) -> (D, Kept)
-        ensures looked { WasLookedAt (D.state device) (D.state result.0) };
+        ensures looked { WasLookedAt (D.state device) (D.state result.0) }
+        ensures kept { WasKept (D.state device) (archive self.old) (archive self.new) }
+        ensures none { result.1 ≡ Kept.NoArchive → (archive self.old).honest ≡ false }
+        ensures up_to { (next : ℕ) → result.1 ≡ Kept.UpTo next → (archive self.old).honest ≡ true
+            → next ≡ next_of (archive self.new) }
+        ensures failed { ((archive self.new).failed ≡ true)
+            ↔ (((archive self.old).failed ≡ true) ⊎ (result.1 ≡ Kept.Failed)) };
 
     /// Makes a copy of the ledger on the device. All batches below the number are in it. The device is only looked at
     /// and handed back.
@@ -43,7 +56,8 @@ pub trait Keeper<D: Device> {
     /// # Errors
     /// [`CopyRefusal`].
     fn copy(&mut self, device: D) -> (D, Result<u64, CopyRefusal>)
-        ensures looked { WasLookedAt (D.state device) (D.state result.0) };
+        ensures looked { WasLookedAt (D.state device) (D.state result.0) }
+        ensures archive { archive self.new ≡ archive self.old };
 }
 
 /// What a counter wants of a recess.
@@ -66,7 +80,7 @@ pub(crate) enum Came {
 pub(crate) struct Granting<'a, R, K> {
     pub rt: &'a R,
     pub scheduler: &'a Scheduler,
-    pub keeper: &'a mut K,
+    pub keeper: K,
 }
 
 impl<R: Wait, K> Granting<'_, R, K> {
@@ -74,7 +88,8 @@ impl<R: Wait, K> Granting<'_, R, K> {
     fn grant<D: Device>(&mut self, device: D, station: u8, kept: Kept) -> D
     where
         K: Keeper<D>,
-        ensures { WasLookedAt (D.state device) (D.state result) }
+        ensures looked { WasLookedAt (D.state device) (D.state result) }
+        ensures archive { K.archive self.new.keeper ≡ K.archive self.old.keeper }
     {
         let Some(wish) = self.scheduler.take_wish(self.rt, station) else {
             return device;
@@ -92,6 +107,8 @@ impl<R: Wait, K> Granting<'_, R, K> {
 }
 
 impl<D: Device, R: Wait, K: Keeper<D>> Recess<D> for Granting<'_, R, K> {
+    ghost archive = { λ granting. K.archive granting.keeper };
+
     fn is_called(&self) -> bool {
         self.scheduler.is_recess_called()
     }

@@ -126,9 +126,9 @@ fn each_counter_is_told_what_it_asked(rt: HostRuntime) -> Result<(), Fail> {
         line,
         counters,
         1_000,
-        &mut Sample { copies: 0 },
+        Sample { copies: 0 },
     ) {
-        Ok(closed) => assert!(rt; closed.turns == 0),
+        Ok((closed, _)) => assert!(rt; closed.turns == 0),
         Err((_, refusal)) => panic!(rt; "{refusal}"),
     }
     assert!(rt; is_answered_so(&mut balances, b"balance 1 0\n")?);

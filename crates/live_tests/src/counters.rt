@@ -124,10 +124,10 @@ fn a_counter_is_answered_in_order(rt: HostRuntime) -> Result<(), Fail> {
             line,
             counters,
             moves,
-            &mut Sample { copies: 0 },
+            Sample { copies: 0 },
         );
         let closed = match kept {
-            Ok(closed) => closed,
+            Ok((closed, _)) => closed,
             Err((_, refusal)) => panic!(rt; "{refusal}"),
         };
         assert!(rt; are_told(&mut answers, RESPONSES)?);
@@ -179,7 +179,7 @@ fn told_beside_a_fault<R: Files + Threads + Wait + Clock + Sync + Send + Clone +
         line,
         counters,
         1_000,
-        &mut Sample { copies: 0 },
+        Sample { copies: 0 },
     )
     .is_err()
     {

@@ -5,5 +5,6 @@ pub mod Limits
 pub mod Pairing
 pub mod Served
 pub mod RefusedOpening
+mod Archived
 pub mod SpanLaws
 mod Sights

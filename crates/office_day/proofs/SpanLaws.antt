@@ -33,7 +33,8 @@ use Rattle.station_desk.specs.declared.end.End.{End}
 use Rattle.office_day.specs.Ended.{HasEnded}
 use Rattle.office_day.proofs.Ended.{has_ended, ended_anyhow}
 use Rattle.office_day.specs.Spans.{Span, span_of, turns_in, IsSpan, AreSpans, WasLookedAt, IsGoodEnd, LeftAfter, HaveLeft, Adjournment, adjourned_to, HasComeTo}
-use Rattle.office_day.specs.Spans.{HasLived, WasBrokenOff, WasServed, WasKeptOpen, WasAbandoned}
+use Rattle.office_day.specs.Archive.{Archive}
+use Rattle.office_day.specs.Spans.{WereArchived, HasLived, WasBrokenOff, WasServed, WasKeptOpen, WasAbandoned}
 use Rattle.office_day.proofs.Days.{length-new_seats, new_seat_at}
 use Rattle.office_day.proofs.Lists.{first, AllZip-at, AllZip-each}
 use Rattle.office_day.proofs.Pairing.{stands_with}
@@ -94,7 +95,7 @@ module _ {device : DeviceState} {from : Configuration} {moves : ℕ} {closes : T
 turns-more : {D : Type 0} (i : ℕ) (spans : List (Span D)) (span : Span D) → turns_in i spans ++ turns_in i (span ∷ []) ≡ turns_in i (spans ++ span ∷ [])
 turns-more i spans span = sym (flat_map-append (λ (s : Span _). turns_of i s.clerk.history) spans (span ∷ []))
 
-not_refused : (end : End) → IsGoodEnd end → end ≢ Refused Device
+pub not_refused : (end : End) → IsGoodEnd end → end ≢ Refused Device
 not_refused end (inl reached) failed = absurd (cc)
 not_refused end (inr closed) failed = absurd (cc)
 
@@ -113,7 +114,7 @@ module _ {D : Type 0} (state : D → DeviceState) (moves : ℕ) where
       let (then, was, more) = row.1 in
       (row.0, (then, was, spans-more then before.clerk.line spans mid between span next more is looked))
 
-  pub nothing_lived : (from : Adjournment D) → HasComeTo state moves from from
+  unfoldable pub nothing_lived : (from : Adjournment D) → HasComeTo state moves from from
   nothing_lived from = record {
     spans = [];
     joined = (refl, refl);
@@ -137,17 +138,19 @@ module _ {D : Type 0} (state : D → DeviceState) (moves : ℕ) where
         };
   }
 
-  pub lived : (closes : Type 0) (from before : Adjournment D) → HasComeTo state moves from before → (clerk : Span D) (parts : List Left)
-      → IsSpan state moves (state before.device) before.line clerk → HaveLeft moves closes [] clerk before.desks parts → HasLived state moves closes from clerk parts
-  lived closes from before earlier span parts closed left = record {
+  pub lived : (closes : Type 0) (from before : Adjournment D) → (earlier : HasComeTo state moves from before) → (clerk : Span D) (parts : List Left) (old new : Archive)
+      → IsSpan state moves (state before.device) before.line clerk → HaveLeft moves closes [] clerk before.desks parts
+      → WereArchived state from.device earlier.spans before.device old new → HasLived state moves closes from clerk parts old new
+  lived closes from before earlier span parts old new closed left archived = record {
     before = before;
     earlier = earlier;
     closed = closed;
     left = left-more closes from before earlier span parts left;
+    archived = archived;
   }
 
   -- where all turns were taken, or the stations were sent home, the office comes to the next span
-  pub come-further : (closes : Type 0) (from before after : Adjournment D) (earlier : HasComeTo state moves from before) (span : Span D) (parts : List Left)
+  unfoldable pub come-further : (closes : Type 0) (from before after : Adjournment D) (earlier : HasComeTo state moves from before) (span : Span D) (parts : List Left)
       → IsSpan state moves (state before.device) before.line span → HaveLeft moves closes [] span before.desks parts → All (λ (part : Left). IsGoodEnd part.end) parts
       → WasLookedAt (state span.clerk.journal.device) (state after.device) → after.line ≡ span.audit.last → after.desks ≡ map (λ (part : Left). part.desk) parts
       → HasComeTo state moves from after
@@ -199,14 +202,15 @@ was_served moves closes station earlier last before feed part day fresh left don
 
 module _ {D : Type 0} (state : D → DeviceState) (moves : ℕ) where
   pub kept_open : (closes : Type 0) (device : D) (line : Configuration) (desks : List DeskState) (last : Span D) (left : List Left) (feeds : List FeedState) (days : List StationDay)
-      → HasLived state moves closes (adjourned_to device line desks) last left → All IsFresh desks → length desks ≡ stations line → length feeds ≡ stations line
-      → AreReconciled feeds left days → WasKeptOpen state moves device line last (map (λ (feed : FeedState). feed.collected) feeds) days
-  kept_open closes device line desks last left feeds days lived fresh many fed done = record {
+      → (old new : Archive) → HasLived state moves closes (adjourned_to device line desks) last left old new → All IsFresh desks → length desks ≡ stations line → length feeds ≡ stations line
+      → AreReconciled feeds left days → WasKeptOpen state moves device line last (map (λ (feed : FeedState). feed.collected) feeds) days old new
+  kept_open closes device line desks last left feeds days old new lived fresh many fed done = record {
     earlier = lived.earlier.spans;
     between = lived.before.device;
     stood = lived.before.line;
     joined = lived.earlier.joined;
     closed = lived.closed;
+    archived = lived.archived;
     served = record {
       as_many = done.as_many ∙ fed;
       collected_as_many = length-map feeds (λ (feed : FeedState). feed.collected) ∙ fed;

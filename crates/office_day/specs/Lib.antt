@@ -2,5 +2,6 @@ pub mod HandedIn
 pub mod Left
 pub mod Refusal
 pub mod Day
+pub mod Archive
 pub mod Spans
 pub mod Ended

@@ -1,5 +1,5 @@
 -- A live office: it is opened, its stations take turns, and it is closed, again and again on one device.
-use Rattle.std.specs.Prelude.{◌≡◌, ◌⊎◌, ◌<◌, ◌≤◌, ℕ, List, [], ◌∷◌, ◌++◌, length}
+use Rattle.std.specs.Prelude.{◌≡◌, ◌⊎◌, ◌+◌, ◌<◌, ◌≤◌, ℕ, true, false, List, [], ◌∷◌, ◌++◌, length, All}
 use Rattle.std.specs.List.{flat_map, slice_index_or}
 use Rattle.sector_device.specs.Device.{DeviceState}
 use Rattle.sector_device.specs.Image.{Image}
@@ -8,8 +8,14 @@ use Rattle.four_state.specs.Configuration.{Configuration, stations}
 use Rattle.sweep_auditor.specs.declared.moves.Audit.{Audit}
 use Rattle.turn_clerk.specs.declared.turns.Turn.{Turn}
 use Rattle.turn_clerk.specs.Clerk.{ClerkState, accepted_batches}
-use Rattle.turn_clerk.specs.FarBack.{HasInSight}
-use Rattle.journal_recovery.specs.Sight.{Sight}
+use Rattle.turn_clerk.specs.Clerk.{Extends}
+use Rattle.turn_clerk.specs.FarBack.{HasInSight, end_of}
+use Rattle.turn_clerk.specs.History.{batches_of}
+use Rattle.turn_ledger.specs.declared.entry.Entry.{Entry}
+use Rattle.journal_recovery.specs.Places.{Spells}
+use Rattle.journal_recovery.specs.Recovery.{batch_at}
+use Rattle.journal_recovery.specs.Sight.{Sight, numbered}
+use Rattle.office_day.specs.Archive.{Archive, EndsWith}
 use Rattle.line_lock.specs.Account.{turns_of}
 use Rattle.line_lock.specs.declared.lent.OfficeRefusal.{OfficeRefusal}
 use Rattle.line_lock.specs.Lent.{IsClosed, IsRefused, IfOpening, UnlessOpening}
@@ -39,18 +45,23 @@ span_of clerk audit = record { clerk = clerk; audit = audit }
 abbrev pub turns_in : {D : Type 0} → ℕ → List (Span D) → List Turn
 turns_in station spans = flat_map (λ span. turns_of station span.clerk.history) spans
 
--- every record from that number on is in sight of the image
-abbrev pub SeesFrom : ℕ → Image → Type 0
-SeesFrom number image = (sight : Sight) → HasInSight image sight → sight.base ≤ number
+-- Every record from that number on is in sight of the image, and spells the batch of its number, of these.
+pub record SeesFrom (number : ℕ) (batches : List (List Entry)) (image : Image) : Type 0 where
+  pub from : (sight : Sight) → HasInSight image sight → sight.base ≤ number
+  pub spelled : (sight : Sight) → HasInSight image sight → (k : ℕ) → number + k < end_of sight → Spells (numbered sight (number + k)) (batch_at batches k)
+
+-- the clerk accepted no more batches than a bank has slots
+abbrev pub FitsBank : {D : Type 0} → ClerkState D → Type 0
+FitsBank clerk = length (accepted_batches clerk) ≤ clerk.opening.journal.slots
 
 -- The span was opened on that device with that line, and closed: what is promised of a closed office holds of it, and
 -- it has at most so many turns. If it accepted no more batches than a bank has slots, each image that a crash left has
--- all of them in sight, so that none of them is lost to an archive that had all before.
+-- all of them in sight, as they were accepted, so that none of them is lost to an archive that had all before.
 pub record IsSpan {D : Type 0} (state : D → DeviceState) (moves : ℕ) (device : DeviceState) (from : Configuration) (span : Span D) : Type 0 where
   pub closed : IsClosed state device from span.clerk span.audit
   pub within : length span.clerk.history ≤ moves
-  pub in_sight : length (accepted_batches span.clerk) ≤ span.clerk.opening.journal.slots → (state span.clerk.journal.device).honest
-      → LeavesOnly (state span.clerk.opening.journal.device) (state span.clerk.journal.device) (SeesFrom span.clerk.opening.journal.next)
+  pub in_sight : FitsBank span.clerk → (state span.clerk.journal.device).honest
+      → LeavesOnly (state span.clerk.opening.journal.device) (state span.clerk.journal.device) (SeesFrom span.clerk.opening.journal.next (accepted_batches span.clerk))
 
 -- The device was looked at: it has as many sectors, is honest where it was and only there, and an honest one was read
 -- and synced, and not written.
@@ -69,6 +80,33 @@ module _ {D : Type 0} (state : D → DeviceState) (moves : ℕ) where
   AreSpans device from (span ∷ spans) after to =
       IsSpan state moves (state device) from span × ((next : D) × WasLookedAt (state span.clerk.journal.device) (state next)
       × AreSpans next span.clerk.line spans after to)
+
+-- These batches are the clerk's: all that it acknowledged, with the one in flight or without it.
+abbrev pub AreOf : {D : Type 0} → ClerkState D → List (List Entry) → Type 0
+AreOf clerk batches = (batches ≡ batches_of clerk.history) ⊎ (batches ≡ accepted_batches clerk)
+
+-- These batches are those of the spans, in order, each once.
+abbrev pub AreOfSpans : {D : Type 0} → List (Span D) → List (List Entry) → Type 0
+AreOfSpans [] batches = batches ≡ []
+AreOfSpans (span ∷ spans) batches = (own : List (List Entry)) × (later : List (List Entry)) × AreOf span.clerk own × AreOfSpans spans later × (batches ≡ own ++ later)
+
+-- An archive went on with all batches of the spans, and nothing else.
+pub record WentOn {D : Type 0} (spans : List (Span D)) (old new : Archive) : Type 0 where
+  pub more : List (List Entry)
+  pub longer : new.batches ≡ old.batches ++ more
+  pub are : AreOfSpans spans more
+
+-- An archive was kept from the opening on that device, behind each of the spans, the last of which left `to`: it begins
+-- where it did, and has what it had. Unless it failed, an honest one that ended where the ledger did went on with all
+-- batches of the spans, and ends where the ledger does, if the device is honest and each span fits in a bank.
+pub record WereArchived {D : Type 0} (state : D → DeviceState) (device : D) (spans : List (Span D)) (to : D) (old new : Archive) : Type 0 where
+  pub first : new.first ≡ old.first
+  pub honest : new.honest ≡ old.honest
+  pub keeps : Extends old.batches new.batches
+  pub failed : old.failed ≡ true → new.failed ≡ true
+  pub all : old.honest ≡ true → new.failed ≡ false → (state device).honest → EndsWith old (state device).reads
+      → All (λ span. FitsBank span.clerk) spans
+      → (state to).honest × WentOn spans old new × EndsWith new (state to).reads
 
 -- Each desk gave, behind its earlier answers and in order, what became of the entries of its station's turns in these
 -- spans.
@@ -111,11 +149,13 @@ pub record HasComeTo {D : Type 0} (state : D → DeviceState) (moves : ℕ) (fro
   pub given : HaveGiven spans from.desks to.desks
 
 -- From there on an office was open for some spans and this last one, and each station left what it gave in them all.
-pub record HasLived {D : Type 0} (state : D → DeviceState) (moves : ℕ) (closes : Type 0) (from : Adjournment D) (last : Span D) (parts : List Left) : Type 0 where
+-- The archive was kept behind each of the earlier spans.
+pub record HasLived {D : Type 0} (state : D → DeviceState) (moves : ℕ) (closes : Type 0) (from : Adjournment D) (last : Span D) (parts : List Left) (old new : Archive) : Type 0 where
   pub before : Adjournment D
   pub earlier : HasComeTo state moves from before
   pub closed : IsSpan state moves (state before.device) before.line last
   pub left : HaveLeft moves closes earlier.spans last from.desks parts
+  pub archived : WereArchived state from.device earlier.spans before.device old new
 
 -- From there on an office was open for some spans, and the next one wasn't opened, or wasn't closed: the device is as
 -- the refused opening left it, or comes from a clerk that took turns on it.
@@ -144,14 +184,16 @@ pub record HaveBeenServed {D : Type 0} (count moves : ℕ) (earlier : List (Span
       → WasServed moves i earlier last (slice_index_or collected i answers) (slice_index_or days i day)
 
 -- An office was kept open on that device and that line for some spans in a row, of which this is the last one, and its
--- clients, who collected these answers, were served so.
-pub record WasKeptOpen {D : Type 0} (state : D → DeviceState) (moves : ℕ) (device : D) (line : Configuration) (last : Span D) (collected : List (List Answer)) (days : List StationDay) : Type 0 where
+-- clients, who collected these answers, were served so. Its archive was kept behind each of the earlier spans.
+pub record WasKeptOpen {D : Type 0} (state : D → DeviceState) (moves : ℕ) (device : D) (line : Configuration) (last : Span D) (collected : List (List Answer)) (days : List StationDay)
+    (old new : Archive) : Type 0 where
   pub earlier : List (Span D)
   pub between : D
   pub stood : Configuration
   pub joined : AreSpans state moves device line earlier between stood
   pub closed : IsSpan state moves (state between) stood last
   pub served : HaveBeenServed (stations line) moves earlier last collected days
+  pub archived : WereArchived state device earlier between old new
 
 -- The device comes from an office that was kept open on that one with that line, and isn't told of: behind some spans
 -- the next wasn't opened, and the device is as that left it, or a clerk took turns on it.

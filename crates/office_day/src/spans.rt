@@ -1,9 +1,11 @@
 //! An office that stays open: it is closed and opened again, on one device and one line, as often as it takes.
-ghost use Rattle.std.specs.Prelude.{◌≡◌, ◌↔◌, [], length, map, All, IsTrue, IfOk, IfErr};
+ghost use Rattle.std.specs.Prelude.{◌≡◌, ◌↔◌, [], length, map, All, IsTrue, IfOk, IfErr, OnOk};
 ghost use Rattle.four_state.specs.Configuration.{stations};
+ghost use Rattle.sector_device.specs.Device.{IsSound};
 ghost use Rattle.line_lock.specs.OpenedOn.{WasLeftByClerk};
 ghost use Rattle.line_lock.specs.Lent.{IsRefused, IfOpening, UnlessOpening};
 ghost use Rattle.station_desk.specs.declared.end.End.TheVariants.{Reached};
+ghost use Rattle.office_day.specs.Archive.{WasKept};
 ghost use Rattle.office_day.specs.Spans.{adjourned_to, span_of, IsSpan, HaveLeft, HasLived, WasBrokenOff, WasLookedAt, IsGoodEnd};
 
 use crate::office_run::run_office;
@@ -41,7 +43,8 @@ pub struct Life<D: Device> {
 /// own, and closes it. Where all `moves` turns were taken, it is opened again on the same device, line and desks, and
 /// so on, until a station ends otherwise: it was sent home, though no recess was called, or refused. Between two spans
 /// the recess is spent. So the office's history takes the memory of one span, however long it is open. The gate tells
-/// the stations what to do. The call may wait.
+/// the stations what to do. An archive that the recess keeps then has all batches of the spans before the last one, in
+/// order and each once, behind those that it had. The call may wait.
 ///
 /// # Errors
 /// The device comes back, and the desks are lost. [`OfficeRefusal::Opening`]: a span can't be opened; else the device
@@ -57,7 +60,8 @@ pub fn run_spans<D: Device + Send, G: Gate + Sync, P: Recess<D>, R: Threads + Wa
     requires as_many { length office.desks.items ≡ stations office.line }
     ensures lived { IfOk result (λ life. HasLived D.state moves (G.closes gate.now)
         (adjourned_to office.device office.line office.desks.items)
-        (span_of life.clerk life.audit) life.left.items) }
+        (span_of life.clerk life.audit) life.left.items
+        (P.archive recess.old) (P.archive recess.new)) }
     ensures ended { IfOk result (λ life. All (λ part. part.end ≡ Reached) life.left.items → ⊥) }
     ensures broken_off { IfErr result (λ e. WasBrokenOff D.state moves
         (adjourned_to office.device office.line office.desks.items) e.0 e.1) }
@@ -144,6 +148,9 @@ fn between_spans<D: Device, P: Recess<D>>(
     ensures desks { IfOk result (λ office.
         office.desks.items ≡ map (λ part. part.desk) life.left.items) }
     ensures back { IfErr result (λ e. e.0 ≡ life.clerk.journal.device) }
+    ensures archived { OnOk result (WasKept (D.state life.clerk.journal.device)
+        (P.archive recess.old) (P.archive recess.new)) }
+    ensures sound { let left = D.state life.clerk.journal.device in left.honest → IsSound left }
 {
     let Life { clerk, audit, left } = life;
     let device = clerk.into_device();

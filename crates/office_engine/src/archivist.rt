@@ -1,6 +1,7 @@
 //! Who keeps the archive of an office, and makes copies of its ledger.
 ghost use Rattle.std.specs.Prelude.{◌≡◌};
 ghost use Rattle.office_engine.specs.Copies.{copy_refusal_of};
+ghost use Rattle.office_engine.specs.FolderArchive.{folder_archive};
 
 use crate::faults::OfficeFault;
 use crate::serving::Serving;
@@ -68,6 +69,8 @@ impl<'a, 'r, R: Files<File = File> + Alloc<A = Global> + Clone + Drop> Archivist
 
 impl<D: Device, R: Files<File = File> + Alloc<A = Global> + Clone + Drop> Keeper<D>
     for Archivist<'_, '_, R> {
+    ghost archive = { λ archivist. folder_archive archivist.fault };
+
     fn keep(&mut self, device: D) -> (D, Kept) {
         let Some(folder) = &self.folder else {
             return (device, Kept::NoArchive);

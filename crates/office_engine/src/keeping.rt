@@ -1,5 +1,5 @@
 //! An office that is kept open, from its pipes and its device to what is told of its end.
-ghost use Rattle.std.specs.Prelude.{◌≡◌, ◌≢◌, ◌↔◌, false, Err, IsTrue, IfErr, OnOk};
+ghost use Rattle.std.specs.Prelude.{◌≡◌, ◌≢◌, ◌≤◌, ◌↔◌, min, false, Err, IsTrue, IfErr, OnOk};
 ghost use Rattle.turn_clerk.specs.declared.refusals.TurnRefusal.{TurnRefusal};
 ghost use Rattle.office_engine.specs.Ends.{NoneFailed, NoneWasRefused, TellsRefusal, reason_of};
 
@@ -33,6 +33,15 @@ pub const SPAN: u64 = 5_000;
 pub fn span_in_numbers()
     ensures { SPAN ≡ 5000 }
 {}
+
+// How many turns a span has, where each bank has so many slots: no more than slots, so that what isn't archived is in
+// the two banks.
+fn turns_of_span(slots: u64) -> u64
+    ensures fits { result ≤ slots }
+    ensures value { result ≡ min slots 5000 }
+{
+    slots.min(SPAN)
+}
 
 /// The streams of the terminal.
 #[derive(Drop)]
@@ -87,10 +96,10 @@ pub fn serve<
         line,
         slots,
     } = opened;
-    // no more turns than a bank has slots: what isn't archived is in the two banks
-    let moves = slots.min(SPAN);
-    let closed = match keep_open(rt, alloc, device, line, counters, moves, &mut archivist) {
-        Ok(closed) => closed,
+    let moves = turns_of_span(slots);
+    let kept = keep_open(rt, alloc, device, line, counters, moves, archivist);
+    let (closed, mut archivist) = match kept {
+        Ok(both) => both,
         Err((_, refusal)) => return Err(OfficeFault::from(refusal)),
     };
     let device = tell_closed(closed, &mut output)?;

@@ -30,6 +30,8 @@ returns-in-Ok-settled-clause-kept g c =
     let life = c.in-Ok-life.life in
     let closed = c.in-Ok-settled.closed in
     let told = c.in-Ok-settled.ensures in
+    let before = g.K.Keeper.archive c.args.keeper in
+    let after = g.K.Keeper.archive c.run_spans-life.new.recess.keeper in
     let begun = c.in-Ok.begun in
     let old = feeds begun.dispatcher.promise.0.value.items in
     let new = c.in-Ok-ended.feeds.items in
@@ -41,17 +43,17 @@ returns-in-Ok-settled-clause-kept g c =
     let over : AllZip IsOver new closed.conversations.items =
     subst (λ (l : List ConversationState). AllZip IsOver new l) (sym told.conversations)
     (subst (λ (l : List FeedState). AllZip IsOver l c.in-Ok-ended.conversations.items) (sym are) c.in-Ok-ended.ensures.over) in
-    let kept = kept_open g.D.Device.state c.args.moves (Unit {0}) c.args.device c.args.line begun.desks.items (span_of closed.clerk closed.audit) life.left.items new closed.stations.items
-    (subst (λ (span : Span _). HasLived g.D.Device.state c.args.moves (Unit {0}) (adjourned_to c.args.device c.args.line begun.desks.items) span life.left.items) last lived)
+    let kept = kept_open g.D.Device.state c.args.moves (Unit {0}) c.args.device c.args.line begun.desks.items (span_of closed.clerk closed.audit) life.left.items new closed.stations.items before after
+    (subst (λ (span : Span _). HasLived g.D.Device.state c.args.moves (Unit {0}) (adjourned_to c.args.device c.args.line begun.desks.items) span life.left.items before after) last lived)
     c.in-Ok.ensures.fresh many (fed ∙ many) told.stations in
     kept_for g.D.Device.state c.args.moves c.args.device c.args.line (span_of closed.clerk closed.audit) begun.desks.items life.left.items new closed.stations.items closed.conversations.items
-    kept many (fed ∙ many) over told.stations
+    before after kept many (fed ∙ many) over told.stations
 
 pub returns-in_default-clause-left : goal.returns-in_default-clause-left
 returns-in_default-clause-left g c =
     let life = c.in-Ok-life.life in
     left_open g.D.Device.state c.args.moves (Unit {0}) c.args.device c.args.line c.in-Ok.begun.desks.items (span_of life.clerk life.audit) life.left.items c.into_device.result
-    c.in-Ok-life.ensures.lived (sym c.into_device.ensures)
+    _ _ c.in-Ok-life.ensures.lived (sym c.into_device.ensures)
 
 pub returns-clause-left : goal.returns-clause-left
 returns-clause-left g c =
@@ -59,4 +61,4 @@ returns-clause-left g c =
     let told = c.in-Err-settled.ensures in
     subst (HandsBack g.D.Device.state c.args.moves c.args.device c.args.line c.in-Err-settled.device) (sym told.unsettled)
     (left_open g.D.Device.state c.args.moves (Unit {0}) c.args.device c.args.line c.in-Ok.begun.desks.items (span_of life.clerk life.audit) life.left.items c.in-Err-settled.device
-    c.in-Ok-life.ensures.lived (sym told.back))
+    _ _ c.in-Ok-life.ensures.lived (sym told.back))

@@ -12,7 +12,7 @@ returns-clause-closed g c =
       closed = c.in_ok-run.ensures.closed;
       within = is-span (stations c.args.office.line) c.in_ok-run.run'.0.clerk ran.1 ran.2.borne_out ran.2.there c.in_ok-run.ensures.closed.legal;
       in_sight = λ few honest.
-          all_in_sight g.D.Device.state c.in_ok-run.run'.0.clerk c.how_far_back.ensures.ends few (c.in_ok-run.ensures.closed.at_any_moment honest)
+          all_in_sight g.D.Device.state c.in_ok-run.run'.0.clerk c.how_far_back.ensures.ends c.how_far_back.ensures.has few (c.in_ok-run.ensures.closed.at_any_moment honest)
           (c.in_ok-run.ensures.closed.in_sight honest);
     }
 

@@ -1,12 +1,17 @@
 use Rattle.std.proofs.Common.{◌≡◌, All, List, sym, subst}
 use Rattle.office_day.specs.declared.seated.Left.{Left}
 use Rattle.office_day.specs.Spans.{adjourned_to, span_of, IsGoodEnd}
+use Rattle.office_day.proofs.Archived.{nothing_archived, archived-more}
 use Rattle.office_day.proofs.SpanLaws.{nothing_lived, lived, come-further, desks_enough}
 use Rattle.office_day.proofs.spans.run_spans.Goals as goal
 
 pub loop-init : goal.loop-init
-loop-init g c =
-    (nothing_lived g.D.Device.state c.args.moves (adjourned_to c.args.office.device c.args.office.line c.args.office.desks.items), c.requires.as_many)
+unfolding nothing_lived
+loop-init g c = (
+  nothing_lived g.D.Device.state c.args.moves (adjourned_to c.args.office.device c.args.office.line c.args.office.desks.items),
+  c.requires.as_many,
+  nothing_archived g.D.Device.state c.args.office.device (g.P.Recess.archive c.args.recess.now),
+)
 
 pub run_span-requires-clause-as_many : goal.run_span-requires-clause-as_many
 run_span-requires-clause-as_many g c κs within = c.loop.invariant.1
@@ -24,7 +29,8 @@ returns-then-not-goes_on-clause-lived g c =
     let from = adjourned_to c.args.office.device c.args.office.line c.args.office.desks.items in
     let before = adjourned_to c.loop.office.device c.loop.office.line c.loop.office.desks.items in
     let life = c.in-Ok.life in
-    lived g.D.Device.state c.args.moves _ from before c.loop.invariant.0 (span_of life.clerk life.audit) life.left.items c.in-Ok.ensures.closed c.in-Ok.ensures.left
+    lived g.D.Device.state c.args.moves _ from before c.loop.invariant.0 (span_of life.clerk life.audit) life.left.items _ _ c.in-Ok.ensures.closed c.in-Ok.ensures.left
+    c.loop.invariant.2
 
 pub returns-in-Err-between_spans-clause-broken_off : goal.returns-in-Err-between_spans-clause-broken_off
 returns-in-Err-between_spans-clause-broken_off g c =
@@ -43,6 +49,7 @@ returns-in-Err-between_spans-clause-broken_off g c =
     }
 
 pub loop-preserved : goal.loop-preserved
+unfolding come-further
 loop-preserved g c =
     let from = adjourned_to c.args.office.device c.args.office.line c.args.office.desks.items in
     let before = adjourned_to c.loop.office.device c.loop.office.line c.loop.office.desks.items in
@@ -54,4 +61,6 @@ loop-preserved g c =
       come-further g.D.Device.state c.args.moves _ from before after c.loop.invariant.0 span life.left.items c.in-Ok.ensures.closed c.in-Ok.ensures.left
           (subst (λ (l : List Left). All (λ (part : Left). IsGoodEnd part.end) l) c.as_slice.ensures.value (c.goes_on.ensures.well c.if-not-goes_on.false)) made.device made.line made.desks,
       desks_enough g.D.Device.state c.args.moves _ before after span life.left.items c.loop.invariant.1 c.in-Ok.ensures.closed c.in-Ok.ensures.left made.line made.desks,
+      archived-more g.D.Device.state c.args.moves from.device c.loop.invariant.0.spans before.device before.line span after.device _ _ _
+          c.loop.invariant.2 c.in-Ok.ensures.closed made.sound made.device made.archived,
     )

@@ -1,8 +1,12 @@
-use Rattle.std.proofs.Common.{◌≡◌}
+use Rattle.std.proofs.Common.{◌≡◌, sym, subst}
+use Rattle.office_day.specs.Archive.{Archive, WasKept}
 use Rattle.live_office.proofs.Looks.{looked_again}
 use Rattle.live_office.proofs.recess.GrantingRecess.spend.Goals as goal
 
 pub loop-station-preserved : goal.loop-station-preserved
 loop-station-preserved g c =
     let state = g.D.Device.state in
-    looked_again (state c.args.device) (state c.loop-station.device) (state c.grant-device.result) c.loop-station.invariant c.grant-device.ensures
+    let before = c.loop-station.invariant in (
+      looked_again (state c.args.device) (state c.loop-station.device) (state c.grant-device.result) before.0 c.grant-device.ensures.looked,
+      subst (λ (archive : Archive). WasKept (state c.args.device) (g.K.Keeper.archive c.args.self.now.keeper) archive) (sym c.grant-device.ensures.archive) before.1,
+    )

@@ -1,7 +1,10 @@
 use Rattle.std.proofs.Common.{◌≡◌}
 use Rattle.office_day.specs.Spans.{WasLookedAt}
+use Rattle.office_day.specs.Archive.{WasKept}
 use Rattle.live_office.proofs.recess.GrantingRecess.spend.Given as goal
 
--- the device was only looked at
+-- the device was only looked at, and its archive was kept
 abbrev pub invariant-loop-station : goal.invariant-loop-station
-invariant-loop-station g l = WasLookedAt (g.D.Device.state l.fn.device) (g.D.Device.state l.device)
+invariant-loop-station g l =
+    WasLookedAt (g.D.Device.state l.fn.device) (g.D.Device.state l.device)
+    × WasKept (g.D.Device.state l.fn.device) (g.K.Keeper.archive l.fn.self.keeper) (g.K.Keeper.archive l.self.keeper)
