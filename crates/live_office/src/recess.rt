@@ -84,6 +84,21 @@ pub(crate) struct Granting<'a, R, K> {
 }
 
 impl<R: Wait, K> Granting<'_, R, K> {
+    // Keeps the archive; if it can't be kept, no station takes a turn any more.
+    fn keep_archive<D: Device>(&mut self, device: D) -> (D, Kept)
+    where
+        K: Keeper<D>,
+        ensures looked { WasLookedAt (D.state device) (D.state result.0) }
+        ensures kept { WasKept (D.state device)
+            (K.archive self.old.keeper) (K.archive self.new.keeper) }
+    {
+        let (device, kept) = self.keeper.keep(device);
+        if kept == Kept::Failed {
+            self.scheduler.cut_off();
+        }
+        (device, kept)
+    }
+
     // Does what a station wants, if it wants anything, and tells it what came of that.
     fn grant<D: Device>(&mut self, device: D, station: u8, kept: Kept) -> D
     where
@@ -114,12 +129,8 @@ impl<D: Device, R: Wait, K: Keeper<D>> Recess<D> for Granting<'_, R, K> {
     }
 
     fn spend(&mut self, device: D) -> D {
-        let (device, kept) = self.keeper.keep(device);
-        if kept == Kept::Failed {
-            self.scheduler.cut_off();
-        }
+        let (mut device, kept) = self.keep_archive(device);
         self.scheduler.begin_recess();
-        let mut device = device;
         for station in 0..self.scheduler.stations() {
             device = self.grant(device, station, kept);
         }

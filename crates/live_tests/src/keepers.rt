@@ -1,6 +1,9 @@
 //! Who keeps an archive, and copies, of an office in memory.
 use live_office::{CopyRefusal, Keeper, Kept};
+use office_day::{Clerk, MemoryArchive};
 use sector_device::Device;
+use std::test::Fail;
+use test_scenes::{deposit, formatted, line};
 
 /// No archive; and a copy now and then.
 #[derive(Drop)]
@@ -20,4 +23,19 @@ impl<D: Device> Keeper<D> for Sample {
         }
         (device, Err(CopyRefusal::Occupied))
     }
+}
+
+// An archive that always failed would keep its promise too.
+#[test]
+fn an_archive_in_memory_catches_up(rt: HostRuntime) -> Result<(), Fail> {
+    let alloc = rt.alloc();
+    let (device, line) = (formatted(alloc, 4)?, line([0, 0], [1, 0])?);
+    let mut clerk = Clerk::open(alloc, device, line).map_err(|(_, refusal)| refusal)?;
+    for (station, amount) in [(0, 10), (1, 20), (0, 30)] {
+        clerk.turn(station, &[deposit(1, amount)])?;
+    }
+    let mut archive = MemoryArchive::new(alloc, 0);
+    let (_, is_kept) = archive.catch_up(clerk.into_device());
+    assert!(rt; is_kept && archive.batches().len() == 3);
+    Ok(())
 }

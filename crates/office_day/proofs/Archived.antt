@@ -1,13 +1,11 @@
 -- An archive that is kept behind each span goes on with all of its batches.
-use Rattle.std.specs.Prelude.{◌≡◌, ◌⊎◌, ◌+◌, ◌-◌, ◌<◌, ◌≤◌, ℕ, Bool, true, false, List, [], ◌∷◌, ◌++◌, length, take, All, Option, Some, None, refl}
+use Rattle.std.specs.Prelude.{◌≡◌, ◌+◌, ◌-◌, ◌<◌, ◌≤◌, ℕ, Bool, true, false, List, [], ◌∷◌, ◌++◌, length, take, All, Option, Some, None, refl}
 use Rattle.std.proofs.Common.{sym, ◌∙◌, ap, subst, arith, inl, inr}
 use Rattle.std.specs.List.{slice_index_or}
 use Rattle.std.proofs.Math.Seq.{take-append_seam}
 use Rattle.std.proofs.lemmas.Bool.{cases_lt}
 use Rattle.std.proofs.lemmas.List.{append-nil, append_assoc, ext_get_or, get_or-take, get_or_append_left, get_or-append_right, length-append, length-take-le, take_all}
-use Rattle.sector_device.specs.Image.{Image}
 use Rattle.sector_device.specs.Device.{DeviceState, IsSound}
-use Rattle.sector_device.specs.Crash.{LeavesOnly}
 use Rattle.gate_journal.specs.Record.{RecordData}
 use Rattle.turn_ledger.specs.declared.entry.Entry.{Entry}
 use Rattle.turn_ledger.specs.declared.entry.Entry.TheVariants.{Deposit}
@@ -15,13 +13,12 @@ use Rattle.turn_ledger.specs.PlaceLaws.{place_bytes-injective}
 use Rattle.four_state.specs.Configuration.{Configuration}
 use Rattle.journal_recovery.specs.Places.{Spells, IsEntryAt, entry_at}
 use Rattle.journal_recovery.specs.Recovery.{batch_at}
-use Rattle.journal_recovery.specs.Sight.{Sight, numbered}
-use Rattle.journal_recovery.specs.State.{State, state_after}
-use Rattle.turn_clerk.specs.Clerk.{ClerkState, Extends, RecoversToPrefix, opening_state, accepted_batches, in_flight_batch}
-use Rattle.turn_clerk.specs.FarBack.{end_of}
+use Rattle.journal_recovery.specs.Sight.{numbered}
+use Rattle.journal_recovery.specs.State.{state_after}
+use Rattle.turn_clerk.specs.Clerk.{ClerkState, Extends, opening_state, accepted_batches, in_flight_batch}
 use Rattle.turn_clerk.specs.History.{batches_of}
 use Rattle.office_day.specs.Archive.{Archive, WasKept, HasCaughtUp, EndsWith, next_of}
-use Rattle.office_day.specs.Spans.{Span, IsSpan, WasLookedAt, SeesFrom, FitsBank, AreOf, AreOfSpans, WentOn, WereArchived}
+use Rattle.office_day.specs.Spans.{Span, IsSpan, WasLookedAt, FitsBank, AreOf, AreOfSpans, WereArchived}
 
 -- a place holds one entry
 one_entry : (r : RecordData) (place : ℕ) (d e : Entry) → IsEntryAt r place d → IsEntryAt r place e → d ≡ e

@@ -1,6 +1,6 @@
 -- How a station ended, from what was done at its seat.
-use Rattle.std.specs.Prelude.{◌≡◌, ◌≢◌, ◌≤◌, ℕ, List, Option, Some, None, IsSomeAnd, IfSome}
-use Rattle.std.proofs.Common.{◌∙◌, ap, sym, subst, arith}
+use Rattle.std.specs.Prelude.{◌≡◌, ℕ, List, Option, Some, None, IsSomeAnd, IfSome}
+use Rattle.std.proofs.Common.{◌∙◌, ap, subst, arith}
 use Rattle.sector_device.specs.Device.{DeviceState}
 use Rattle.turn_ledger.specs.declared.entry.Entry.{Entry}
 use Rattle.turn_ledger.specs.Screen.{accepted}
@@ -10,7 +10,6 @@ use Rattle.line_lock.specs.Seat.{SeatState, new_seat}
 use Rattle.line_lock.specs.Account.{IsBorneOut}
 use Rattle.station_desk.specs.declared.messages.Ask.{Ask}
 use Rattle.station_desk.specs.declared.end.End.{End}
-use Rattle.station_desk.specs.Messages.{entries_of}
 use Rattle.station_desk.specs.Rings.{DeskState}
 use Rattle.station_desk.specs.Run.{HasRun}
 use Rattle.office_day.specs.Ended.{WasOnceDenied, HasEnded}

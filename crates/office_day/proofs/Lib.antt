@@ -6,5 +6,6 @@ pub mod Pairing
 pub mod Served
 pub mod RefusedOpening
 mod Archived
+mod MemoryAdds
 pub mod SpanLaws
 mod Sights

@@ -1,5 +1,5 @@
 -- What a span accepted is in sight of each image that a crash left.
-use Rattle.std.proofs.Common.{◌≡◌, ◌+◌, ◌<◌, ◌≤◌, ℕ, List, length, take, inl, inr, ⊎_elim, subst, arith}
+use Rattle.std.proofs.Common.{◌≡◌, ◌+◌, ◌<◌, ◌≤◌, ℕ, length, take, inl, inr, ⊎_elim, subst, arith}
 use Rattle.std.proofs.lemmas.List.{length-take-le}
 use Rattle.sector_device.specs.Image.{Image}
 use Rattle.sector_device.specs.Device.{DeviceState}

@@ -7,6 +7,7 @@
 mod day;
 mod handing_in;
 mod held_entries;
+mod memory_archive;
 mod office_run;
 mod recess;
 mod reconciled;
@@ -19,6 +20,7 @@ pub use held_entries::{HELD_LIMIT, HeldEntries};
 pub use line_lock::{
     Audit, Clerk, CloseRefusal, Closing, Device, Line, OfficeRefusal, OpenRefusal,
 };
+pub use memory_archive::MemoryArchive;
 pub use office_run::{OfficeRun, run_office};
 pub use recess::Recess;
 pub use reconciled::{StationDay, all_reconciled};

@@ -1,4 +1,4 @@
-use Rattle.std.proofs.Common.{◌≡◌, All, List, sym, subst}
+use Rattle.std.proofs.Common.{All, List, sym, subst}
 use Rattle.office_day.specs.declared.seated.Left.{Left}
 use Rattle.office_day.specs.Spans.{adjourned_to, span_of, IsGoodEnd}
 use Rattle.office_day.proofs.Archived.{nothing_archived, archived-more}
