@@ -5,7 +5,7 @@
         held = counter.balance(1)
 
 A posting that was begun is never posted twice, whoever is killed amid it: its reference is in the state file, durably,
-before it is said. The next `Counter` with that file asks what became of it, and says it again only if it can't stand.
+before it is said. The next `Counter` with that file says it again, and is answered as it was the first time.
 """
 import dataclasses
 import fcntl
@@ -17,7 +17,7 @@ from pathlib import Path
 
 
 class NoOffice(Exception):
-    """No office has the counter, or it ends. What became of a posting is asked by the next `Counter`."""
+    """No office has the counter, or it ends. A posting that was begun is said again by the next `Counter`."""
 
 
 class InUse(Exception):
@@ -25,11 +25,11 @@ class InUse(Exception):
 
 
 class TimeOut(Exception):
-    """The office didn't answer in time. What became of a posting is asked by the next `Counter`."""
+    """The office didn't answer in time. A posting that was begun is said again by the next `Counter`."""
 
 
 class Refused(Exception):
-    """A rule refused what was asked, for this reason: nothing was posted."""
+    """What was asked is refused, for this reason: nothing was posted."""
 
 
 class Unknown(Exception):
@@ -39,26 +39,24 @@ class Unknown(Exception):
 
 @dataclasses.dataclass(frozen=True)
 class State:
-    """What a client remembers: the last reference that it used, a batch behind which its next posting comes, and the
-    posting that it begun and whose answer it doesn't know."""
+    """What a client remembers: the last reference that it used, and the posting that it began and whose answer it
+    doesn't know."""
 
-    reference: int
-    batch: int = -1
+    reference: int = 0
     begun: str = ""
 
     @staticmethod
     def read(path):
         if not path.exists():
-            # so that two clients hardly ever use one reference
-            return State(random.SystemRandom().randrange(1, 1 << 31) << 32)
-        reference, batch, begun = path.read_text(encoding="ascii").split("\n")[:3]
-        return State(int(reference), int(batch), begun)
+            return State()
+        reference, begun = path.read_text(encoding="ascii").split("\n")[:2]
+        return State(int(reference), begun)
 
     def write(self, path):
         """Writes it durably: a crash leaves this state, or the one before."""
         new = path.with_name(path.name + ".new")
         with open(new, "w", encoding="ascii") as file:
-            file.write(f"{self.reference}\n{self.batch}\n{self.begun}\n")
+            file.write(f"{self.reference}\n{self.begun}\n")
             file.flush()
             os.fsync(file.fileno())
         os.replace(new, path)
@@ -109,37 +107,35 @@ class Counter:
             pass
 
     def settle(self):
-        """Finds out what became of the posting that was begun, and says it again if it can't stand."""
-        if not self.state.begun:
-            return
-        reference = self.state.begun.split()[-1]
-        self.say(f"find {reference}")
-        posted = []
-        while (answer := self.hear().split())[0] == "posted":
-            posted.append(int(answer[1]))
-        if answer[0] != "found":
-            raise NoOffice(f"{self.folder}: {' '.join(answer)}; the next office tells whether {self.state.begun!r} stands")
-        if posted:
-            self.remember(batch=posted[-1], begun="")
-        elif int(answer[3]) <= self.state.batch + 1:
+        """Says again the posting that was begun. If there is none, finds out with which reference to go on."""
+        if self.state.begun:
             self.say_posting()
-        else:
-            raise Unknown(int(answer[3]))
+            return
+        last, *_ = self.ask("last").split()[1:]
+        if last == "unknown":
+            # all that it used are below; a new client takes a number that hardly anybody used
+            self.remember(reference=self.state.reference or random.SystemRandom().randrange(1, 1 << 31) << 32)
+            self.ask(f"first {self.state.reference + 1}")
+        elif last != "none":
+            self.remember(reference=max(self.state.reference, int(last)))
 
     def post(self, entry):
         """Posts an entry, as `deposit 1 500`, without a reference. The number of its batch."""
-        self.remember(reference=self.state.reference + 1, begun=f"{entry} {self.state.reference + 1}")
+        reference = self.state.reference + 1
+        self.remember(reference=reference, begun=f"{entry} {reference}")
         return self.say_posting()
 
     def say_posting(self):
         self.say(self.state.begun)
         kind, *words = self.hear().split()
         if kind == "posted":
-            self.remember(batch=int(words[0]), begun="")
+            self.remember(begun="")
             return int(words[0])
-        if kind not in ("refused", "wrong"):
+        if kind == "refused" and words[0] == "Unknown":
+            raise Unknown(int(words[2]))
+        if kind not in ("refused", "wrong") or words[0] in ("Device", "Faulted", "Changed"):
             # its device failed, or it closes
-            raise NoOffice(f"{self.folder}: {kind}; the next office tells whether {self.state.begun!r} stands")
+            raise NoOffice(f"{self.folder}: {kind}; the next office is told {self.state.begun!r} again")
         self.remember(begun="")
         raise Refused(" ".join(words[:1] if kind == "refused" else words))
 

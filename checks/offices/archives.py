@@ -40,9 +40,12 @@ def keeps_each_posting(case):
     case.formatted_ledger(SLOTS)
     counters, told = case.counters(COUNTERS + 1), []
     for number in range(ROUNDS):
-        clients = [Client(at, 1_000_000 * number + 10_000 * at, counter) for at, counter in enumerate(counters[:-1])]
+        clients = [Client(at, 1_000_000 * number + 10_000 * at + 1, counter) for at, counter in enumerate(counters[:-1])]
         with case.office(counters, "--archive", str(books)) as office:
             office.opened(*counters)
+            # those of the last round may be out of sight
+            for client in clients:
+                require_same(client.counter.ask(f"first {client.first}"), [f"first {client.first}"], "where references begin")
             talk_until(clients, moments.randint(1, TOLD))
             before = [row for client in clients for row in client.postings()]
             answer, = counters[-1].ask("archive")
@@ -77,9 +80,9 @@ def without_an_archive(case):
     with case.formatted([one, other], 8) as office:
         office.opened(one, other)
         require_same(one.ask("archive"), ["refused NoArchive"], "without an archive")
-        require_same(other.ask("deposit 1 5"), ["posted 0 1"], "a posting behind it")
+        require_same(other.ask("deposit 1 5"), ["posted 0 0"], "a posting behind it")
         one.say(b"deposit 1 1\narchive\ncopy\nbalance 1\n")
-        told = ["posted 1 2", "refused NoArchive", "refused NoFolder", "balance 1 6"]
+        told = ["posted 1 0", "refused NoArchive", "refused NoFolder", "balance 1 6"]
         require_same(one.hear(4), told, "the answers in order")
         require_same(one.ask("close"), ["closing"], "the answer to close")
         office.closed()
@@ -97,17 +100,17 @@ def makes_copies(case):
     with case.formatted([one, other], 8, "--copies", str(copies)) as office:
         office.opened(one, other)
         for number in range(20):
-            require_same(one.ask(f"deposit {number + 1} 5"), [f"posted {number} {number + 1}"], "a posting")
+            require_same(one.ask(f"deposit {number + 1} 5"), [f"posted {number} 0"], "a posting")
         other.say(b"deposit 1 1\ncopy\nbalance 1\n")
-        require_same(other.hear(3), ["posted 20 1", "copied 21", "balance 1 6"], "the answers in order")
+        require_same(other.hear(3), ["posted 20 0", "copied 21", "balance 1 6"], "the answers in order")
         copied = first.read_bytes()
         require_same(one.ask("copy"), ["refused Occupied"], "where nothing was posted since")
-        require_same(one.ask("deposit 2 1 7"), ["posted 21 7"], "a posting behind the copy")
+        require_same(one.ask("deposit 2 1"), ["posted 21 0"], "a posting behind the copy")
         require_same(one.ask("copy"), ["refused Occupied"], "where something else is")
         require_same((first.read_bytes(), letter.read_bytes()), (copied, b"a letter" * 64), "both files")
         shutil.rmtree(copies)
         require_same(one.ask("copy"), ["refused Unwritten"], "without the folder")
-        require_same(one.ask("deposit 1 1 8"), ["posted 22 8"], "a posting behind all that")
+        require_same(one.ask("deposit 1 1"), ["posted 22 0"], "a posting behind all that")
         require_same(one.ask("close"), ["closing"], "the answer to close")
         office.closed()
     first.parent.mkdir()
@@ -125,7 +128,7 @@ def an_archive_that_fails(case):
     books = folder_of(case)
     with case.formatted([client], SLOTS, "--archive", str(books)) as office:
         office.opened(client)
-        require_same(client.ask("deposit 1 5"), ["posted 0 1"], "a posting")
+        require_same(client.ask("deposit 1 5 1"), ["posted 0 1"], "a posting")
         (books / "unfinished").mkdir()
         require_same(client.ask("archive", 2), ["refused Closed", "closing"], "an archive that can't be written")
         require_same((office.status(), office.told()),
@@ -144,7 +147,7 @@ def an_archive_that_fails(case):
     with case.office([client]) as office:
         office.opened(client)
         for number in range(2 * SLOTS + 1):
-            require_same(client.ask("deposit 1 1"), [f"posted {number + 1} {number + 1}"], "a posting without the archive")
+            require_same(client.ask("deposit 1 1"), [f"posted {number + 1} 0"], "a posting without the archive")
         require_same(client.ask("close"), ["closing"], "the answer to close")
         office.closed()
     client.leave()

@@ -6,14 +6,14 @@ from talking import require_closed
 
 
 def hangs_up_and_comes_back(case):
-    """A counter that hangs up finds its answers when it comes back, and its lines are counted on."""
+    """A counter that hangs up finds its answers when it comes back."""
     one, other = clients = case.counters(2)
     with case.formatted(clients, 64) as office:
         office.opened(*clients)
-        one.say(b"deposit 1 5\ndeposit 1 6\nbalance 1\nbal")
+        one.say(b"deposit 1 5 1\ndeposit 1 6 2\nbalance 1\nbal")
         one.leave()
         for number in range(1, 21):
-            told = other.ask("deposit 2 1")
+            told = other.ask(f"deposit 2 1 {number}")
             require(told[0].split()[::2] == ["posted", str(number)], f"beside one that hung up: {told}")
         # its lines may be read late
         await_until(lambda: other.ask("balance 1") == ["balance 1 11"], lambda: "what one said that hung up isn't posted")
@@ -24,7 +24,7 @@ def hangs_up_and_comes_back(case):
         # the line that was begun goes on
         one.say(b"ance 2\n")
         require_same(one.hear(1), ["balance 2 20"], "a line that was begun before")
-        require_same([line.split()[2] for line in one.ask("withdraw 1 11")], ["5"], "the number of the next line")
+        require_same([line.split()[2] for line in one.ask("withdraw 1 11 5")], ["5"], "the next posting")
         for _ in range(30):
             one.leave()
             one.come()
@@ -41,14 +41,15 @@ def hangs_up_and_comes_back(case):
 def says_and_never_listens(case):
     """A counter that reads nothing and says thousands of requests holds up nobody, nor the closing."""
     mute, other = clients = case.counters(2)
-    said = b"".join(b"deposit 1 1\n" for _ in range(20_000))
+    said = b"".join(b"deposit 1 1 %05d\n" % (number + 1) for number in range(20_000))
+    line = len(said) // 20_000
     with case.formatted(clients, 20_000) as office:
         office.opened(*clients)
         taken = 0
         for number in range(1, 201):
             while count := mute.try_say(said[taken:]):
                 taken += count
-            require_same(other.ask("deposit 2 1")[0].split()[::2], ["posted", str(number)], "the other counter")
+            require_same(other.ask(f"deposit 2 1 {number}")[0].split()[::2], ["posted", str(number)], "the other counter")
 
         # until it rests and nothing of it is taken any more
         def is_stuck():
@@ -59,7 +60,7 @@ def says_and_never_listens(case):
             return count == 0
 
         await_until(is_stuck, lambda: f"{taken} bytes are taken of one that never listens")
-        require(taken > 4_000 * 12, f"only {taken} bytes are taken of one that never listens")
+        require(taken > 4_000 * line, f"only {taken} bytes are taken of one that never listens")
         require_same(other.ask("balance 2"), ["balance 2 200"], "the other counter, when the first one is stuck")
         require_same(other.ask("close"), ["closing"], "the answer to close")
         unanswered = office.closed()
@@ -71,12 +72,12 @@ def says_and_never_listens(case):
     require_same(rows, list(range(1, len(rows) + 1)), "the references of one that never listens")
     wanted = [f"{number}" for number in range(1, len(told) + 1)]
     require_same([line.split()[2] for line in told], wanted, "what it was told")
-    require(len(told) <= len(rows) <= taken // 12, f"it was told {len(told)}, and {len(rows)} of {taken / 12} are posted")
+    require(len(told) <= len(rows) <= taken // line, f"it was told {len(told)}, and {len(rows)} of {taken / line} are posted")
     # each that is posted was told, or is listed; of those that were being written both
     references = [int(line.split()[-1]) for counter, line in untold if counter == 0]
     require_same(references, list(range(len(rows) + 1 - len(untold), len(rows) + 1)), "the references of what it wasn't told")
     require(len(told) + len(untold) >= len(rows), f"it was told {len(told)}, {len(untold)} are listed, {len(rows)} are posted")
-    require_same(len(rows) + len(unanswered), (taken - left) // 12, "posted and unanswered, of what was read")
+    require_same(len(rows) + len(unanswered), (taken - left) // line, "posted and unanswered, of what was read")
     behind = [(0, reference) for reference in range(len(rows) + 1, len(rows) + 1 + len(unanswered))]
     require_same(unanswered, behind, f"what is unanswered behind {len(rows)} that are posted")
 
@@ -91,7 +92,7 @@ def never_ends_a_line(case):
             client.say(b"deposit 1 5 " * 5_461)
         require_same(other.ask("balance 1"), ["balance 1 0"], "the other counter")
         client.say(b"\ndeposit 1 7\n")
-        require_same(client.hear(2), ["wrong line too long", "posted 0 2"], "the answers")
+        require_same(client.hear(2), ["wrong line too long", "posted 0 0"], "the answers")
         most = office.figure("VmHWM")
         require(most < min(100_000, before + 5_000), f"{most} kB of memory were taken, and {before} before")
         require_same(other.ask("close"), ["closing"], "the answer to close")
@@ -103,7 +104,7 @@ def close_at_once(case):
     one, other = clients = case.counters(2)
     with case.formatted(clients, 4) as office:
         office.opened(*clients)
-        one.say(b"close\ndeposit 1 1\ndeposit 1 1 50\nbalance 1\n# none\nseal 2\n")
+        one.say(b"close\ndeposit 1 1\ndeposit 1 1 50\nbalance 1\n# none\nseal 2 51\n")
         with contextlib.suppress(BrokenPipeError):  # where the office has ended by then
             other.say(b"close\ndeposit 1 1\n")
         unanswered = office.closed()
@@ -111,7 +112,7 @@ def close_at_once(case):
         told = one.hear_rest() + other.hear_rest()
         # the question is refused of one that wasn't told of the closing by then
         require(told in (["closing"] * 2, ["refused Closed"] + ["closing"] * 2), f"the two are told {told}")
-        late = [(0, 2), (0, 50), (0, 6), (1, 2)]
+        late = [(0, 0), (0, 50), (0, 51), (1, 0)]
         require(unanswered in (late, late[:3], late[3:]), f"unanswered is {unanswered} and not of {late}")
     require_same(case.rows(), [], "the records in the file")
 
@@ -123,18 +124,18 @@ def closed_from_outside(case):
     require_same(case.close(other), (1, "", none), "closing one that was never opened")
     with case.formatted(clients, 4) as office:
         office.opened(*clients)
-        require_same(one.ask("deposit 1 5"), ["posted 0 1"], "a posting")
-        other.say(b"deposit 1 7\ndeposit 1 50")
+        require_same(one.ask("deposit 1 5 1"), ["posted 0 1"], "a posting")
+        other.say(b"deposit 1 7 2\ndeposit 1 50")
         require_same(case.close(other), (0, "closed\n", ""), "closing")
         require_same(office.closed(), [], "what is unanswered")
         require_closed(office, 2, 2)
         told = other.hear_rest()
-        require_same((told[0], told[1].split()[0], told[2:]), ("posted 1 1", "wrong", ["hello 0", "closing"]), "what its counter is told")
+        require_same((told[0], told[1].split()[0], told[2:]), ("posted 1 2", "wrong", ["hello 0", "closing"]), "what its counter is told")
     require_same(case.close(other), (1, "", none), "closing one that has ended")
     (other.folder / "in").unlink()
     missing = f"{other.folder}/in: it can't be opened\n"
     require_same(case.close(other, "--seconds", "1"), (3, "", missing), "closing at no counter")
-    require_same([row.reference for row in case.rows()], [1, 1], "the references in the file")
+    require_same([row.reference for row in case.rows()], [1, 2], "the references in the file")
 
 
 def close_amid_postings(case):
@@ -143,8 +144,8 @@ def close_amid_postings(case):
     with case.formatted(clients, 1000) as office:
         office.opened(*clients)
         for number, client in enumerate(clients[:2]):
-            client.say(b"".join(b"deposit 1 1 %d\n" % (1000 * number + place) for place in range(300)))
-        require_same(clients[2].ask("deposit 3 3")[0].split()[::2], ["posted", "1"], "a posting amid others")
+            client.say(b"".join(b"deposit 1 1 %d\n" % (1000 * number + place) for place in range(1, 301)))
+        require_same(clients[2].ask("deposit 3 3 9")[0].split()[::2], ["posted", "9"], "a posting amid others")
         require_same(clients[2].ask("close"), ["closing"], "the answer to close")
         unanswered = office.closed()
         rows = case.rows()
@@ -152,7 +153,7 @@ def close_amid_postings(case):
             wanted = [f"posted {row.sequence} {row.reference}" for row in rows if row.station == number]
             require_same(client.hear_rest(), wanted + ["closing"], f"what counter {number} was told, beside the file")
             late = [reference for counter, reference in unanswered if counter == number]
-            first = 1000 * number + len(wanted)
+            first = 1000 * number + len(wanted) + 1
             require_same(late, list(range(first, first + len(late))), f"unanswered of counter {number}")
             require(len(wanted) + len(late) <= 300, f"counter {number} asked 300 and {len(wanted)}, {len(late)} are told")
 
@@ -163,7 +164,7 @@ def many_stations(case):
     with case.formatted(clients[:1], 200, "--stations", "64") as office:
         require_same(office.opened(clients[0])[1], "opened 64 next 0 total 0", "the opening")
         for number in range(5):
-            require_same(clients[0].ask("deposit 1 1"), [f"posted {number} {number + 1}"], "a posting")
+            require_same(clients[0].ask("deposit 1 1"), [f"posted {number} 0"], "a posting")
         require_same(clients[0].ask("close"), ["closing"], "the answer to close")
         office.closed()
         require_closed(office, 64, 5)
@@ -171,7 +172,7 @@ def many_stations(case):
     with case.office(clients) as office:
         require_same(office.opened(*clients), ["opened 64 next 5 total 5"], "the second opening")
         for client in clients:
-            client.say(b"deposit 2 1\ndeposit 2 1\nbalance 5\n")
+            client.say(b"deposit 2 1 1\ndeposit 2 1 2\nbalance 5\n")
         for client in clients:
             told = [line.split()[::2] for line in client.hear(3)]
             require_same(told, [["posted", "1"], ["posted", "2"], ["balance", "0"]], client.folder.name)

@@ -149,6 +149,7 @@ def require_goes_on(case, counters, reference):
             require_same(last.ask(f"find {rows[-1].reference}", 2), wanted, "the last reference before the kill")
             posted = f"posted {rows[0].sequence} {rows[0].reference}"
             require_same(last.ask(f"find {rows[0].reference}", 2)[0], posted, "the first reference in sight")
+        require_same(last.ask(f"first {reference}"), [f"first {reference}"], "where its references go on")
         require_same(last.ask(f"deposit 1 1 {reference}"), [f"posted {batches} {reference}"], "a posting behind the kill")
         require_same(last.ask("balance 1"), [f"balance 1 {held.get(1, 0) + 1}"], "a balance behind the kill")
         require_same(last.ask("close"), ["closing"], "the answer to close")

@@ -54,7 +54,7 @@ def a_ledger_that_is_there(case):
         require_refused(office, f"{case.device}: ")
     with case.formatted([client], 4) as office:
         office.opened(client)
-        require_same(client.ask("deposit 1 5"), ["posted 0 1"], "a posting")
+        require_same(client.ask("deposit 1 5"), ["posted 0 0"], "a posting")
         before = case.device.read_bytes()
         with case.office([beside], kept_as="second") as other:
             require_refused(other, f"{case.device}: ")
@@ -109,7 +109,7 @@ def closed_streams(case):
             if 1 not in streams:
                 client.come()
                 told = client.ask("deposit 1 1")
-                require_same(told, ["posted 0 1"], f"the answer without the streams {streams}")
+                require_same(told, ["posted 0 0"], f"the answer without the streams {streams}")
                 require_same(client.ask("close"), ["closing"], f"the answer to close without the streams {streams}")
             require_same(office.status(), 3 if 1 in streams else 0, f"the end without the streams {streams}")
         client.leave()
@@ -136,7 +136,7 @@ def a_device_that_fails(case):
     one, other = clients = case.counters(2)
     with case.formatted(clients, 8) as office:
         office.opened(*clients)
-        require_same(one.ask("deposit 1 5"), ["posted 0 1"], "a posting")
+        require_same(one.ask("deposit 1 5 1"), ["posted 0 1"], "a posting")
         require_same(one.ask("close"), ["closing"], "the answer to close")
         office.closed()
     # the body of slot 2 is behind the limit
@@ -161,8 +161,9 @@ def a_device_that_fails(case):
             require_same(last, "closing", f"what counter {number} is told last")
             if number == 1 and told:
                 require(told.pop() in ("refused Faulted", "refused Closed"), f"a question behind it is answered by {told}")
+            # the other one may come to look for its references too late
             undecided = [f"undecided {first + place}" for place in range(len(told))]
-            require_same(told, undecided, f"what counter {number} is told")
+            require(told == undecided or number == 1 and told == ["refused Faulted 200"], f"what counter {number} is told: {told}")
             late = [reference for counter, reference in office.unanswered() if counter == number]
             require_same(late, list(range(first + len(told), first + len(told) + len(late))), "what is unanswered")
             # what wasn't read would be asked of the next office
@@ -186,6 +187,10 @@ def an_exhausted_journal(case):
     with case.office(clients) as office:
         require_same(office.opened(), [f"opened 2 next {2 ** 64 - 2} total 0"], "the opening")
         require_same(other.hear(1), ["closing"], "what the other counter was told")
+        unknown = f"unknown since {2 ** 64 - 2}"
+        require_same(one.ask("last"), [f"last {unknown}"], "references that nobody sees")
+        require_same(one.ask("deposit 1 5 7"), [f"refused U{unknown[1:]} 7"], "a posting that may be a repeated one")
+        require_same(one.ask("first 7"), ["first 7"], "where references begin")
         require_same(one.ask("deposit 1 5 7"), [f"posted {2 ** 64 - 2} 7"], "the last posting")
         one.say(b"deposit 1 5 8\nbalance 1\n")
         wanted = 1, ["there are no more sequence numbers or epochs"]

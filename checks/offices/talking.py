@@ -7,38 +7,55 @@ from office import Row, require, require_same
 SPACES = b" " * 247
 
 # What the counter says, a line each, and what it is told, where each answer is awaited before the next request. An
-# entry's reference is the number behind it, or the number of its line, counted from 1.
+# entry without a reference has reference 0. References rise; an entry that is said again is told as it was then.
 TALK = (
-    (b"deposit 1 500", "posted 0 1"),
-    (b"withdraw 1 120", "posted 1 2"),
-    (b"transfer 1 2 80", "posted 2 3"),
+    (b"last", "last none"),
+    (b"deposit 1 500 1", "posted 0 1"),
+    (b"withdraw 1 120 2", "posted 1 2"),
+    (b"transfer 1 2 80", "posted 2 0"),
     (b"balance 1", "balance 1 300"),
     (b"balance 2", "balance 2 80"),
     (b"balance 1024", "balance 1024 0"),
     (b"balance 1025", "refused NoAccount"),
     (b"balance 0", "refused NoAccount"),
+    (b"deposit 1 500 1", "posted 0 1"),
+    (b"withdraw 1 120 2", "posted 1 2"),
+    (b"deposit 1 120 2", "refused Reference 2"),
+    (b"deposit 1 501 1", "refused Reference 1"),
     (b"deposit 7 9 4711", "posted 3 4711"),
-    (b"deposit 7 1 4711", "posted 4 4711"),
-    (b"find 4711", "posted 3 4711", "posted 4 4711", "found 2 since 0"),
+    (b"deposit 7 1 4711", "refused Reference 4711"),
+    (b"deposit 7 9 4710", "refused Reference 4710"),
+    (b"deposit 7 1", "posted 4 0"),
+    (b"find 4711", "posted 3 4711", "found 1 since 0"),
     (b"find 12", "found 0 since 0"),
-    (b"withdraw 7 11", "refused Short 13"),
-    (b"withdraw 7 11 50", "refused Short 50"),
+    (b"withdraw 7 11", "refused Short 0"),
+    (b"withdraw 7 11 5000", "refused Short 5000"),
+    (b"last", "last 4711 3"),
+    (b"deposit 7 1 5000", "posted 5 5000"),
+    (b"withdraw 7 11 5000", "refused Reference 5000"),
     (b"find 50", "found 0 since 0"),
-    (b"deposit 1 0", "refused ZeroAmount 16"),
-    (b"withdraw 1025 5", "refused NoAccount 17"),
-    (b"transfer 2 2 5 77", "refused SameAccount 77"),
-    (b"deposit 2 1000000000000000000", "refused OverLimit 19"),
-    (b"seal 7", "posted 5 20"),
-    (b"deposit 7 1", "refused Sealed 21"),
-    (b"seal 7", "refused Sealed 22"),
-    (b"seal 0", "refused NoAccount 23"),
-    (b"balance 7", "balance 7 10"),
-    (b"deposit 3 18446744073709551615", "refused OverLimit 25"),
-    (b"deposit 3 4 0", "posted 6 0"),
-    (b"deposit 3 4 18446744073709551615", "posted 7 18446744073709551615"),
+    (b"deposit 1 0 5001", "refused ZeroAmount 5001"),
+    (b"withdraw 1025 5", "refused NoAccount 0"),
+    (b"transfer 2 2 5 7777", "refused SameAccount 7777"),
+    (b"deposit 2 1000000000000000000", "refused OverLimit 0"),
+    (b"seal 7 6000", "posted 6 6000"),
+    (b"seal 7 6000", "posted 6 6000"),
+    (b"deposit 7 1", "refused Sealed 0"),
+    (b"seal 7", "refused Sealed 0"),
+    (b"seal 0", "refused NoAccount 0"),
+    (b"balance 7", "balance 7 11"),
+    (b"first 6000", "refused Reference 6000"),
+    (b"first 0", "refused Reference 0"),
+    (b"first 7000", "first 7000"),
+    (b"deposit 3 4 6999", "refused Reference 6999"),
+    (b"last", "last 6000 6"),
+    (b"deposit 3 18446744073709551615", "refused OverLimit 0"),
+    (b"deposit 3 4 0", "posted 7 0"),
+    (b"deposit 3 4 18446744073709551615", "posted 8 18446744073709551615"),
     (b"deposit 3 4 18446744073709551616", "wrong bad number"),
-    (b"find 18446744073709551615", "posted 7 18446744073709551615", "found 1 since 0"),
-    (b"find 0", "posted 6 0", "found 1 since 0"),
+    (b"find 18446744073709551615", "posted 8 18446744073709551615", "found 1 since 0"),
+    (b"deposit 3 4 18446744073709551615", "posted 8 18446744073709551615"),
+    (b"find 0", "posted 2 0", "posted 4 0", "posted 7 0", "found 3 since 0"),
     (b"chart 1", "wrong unknown command"),
     (b"Deposit 1 1", "wrong unknown command"),
     (b"deposit 1", "wrong wrong number of words"),
@@ -52,6 +69,9 @@ TALK = (
     (b"find", "wrong wrong number of words"),
     (b"find x", "wrong bad number"),
     (b"seal 3 x", "wrong bad number"),
+    (b"last 1", "wrong wrong number of words"),
+    (b"first", "wrong wrong number of words"),
+    (b"first x", "wrong bad number"),
     (b"help now", "wrong wrong number of words"),
     (b"close now", "wrong wrong number of words"),
     (b"",),
@@ -59,7 +79,7 @@ TALK = (
     (b"# deposit 1 5",),
     (b"  #",),
     (b"\r",),
-    (b"  deposit   3   1  ", "posted 8 51"),
+    (b"  deposit   3   1  ", "posted 9 0"),
     (b"balance 0003\r", "balance 3 9"),
     (b"balance 3\r\r", "wrong bad number"),
     (b"balance\t3", "wrong unknown command"),
@@ -71,8 +91,8 @@ TALK = (
     (b"balance 3" + SPACES + b" ", "wrong line too long"),
     (b"  #" + b"-" * 70_000,),
     (b"x" * 70_000, "wrong line too long"),
-    (b"deposit 3 1", "posted 9 63"),
-    (b"transfer 3 1 10", "posted 10 64"),
+    (b"deposit 3 1", "posted 10 0"),
+    (b"transfer 3 1 10", "posted 11 0"),
     (b"balance 3", "balance 3 0"),
     (b"balance 1", "balance 1 310"),
 )
@@ -81,18 +101,20 @@ TALK = (
 ROWS = [
     Row(0, 0, "deposit", "", "1", "500", 1),
     Row(1, 0, "withdraw", "1", "", "120", 2),
-    Row(2, 0, "transfer", "1", "2", "80", 3),
+    Row(2, 0, "transfer", "1", "2", "80", 0),
     Row(3, 0, "deposit", "", "7", "9", 4711),
-    Row(4, 0, "deposit", "", "7", "1", 4711),
-    Row(5, 0, "seal", "7", "", "", 20),
-    Row(6, 0, "deposit", "", "3", "4", 0),
-    Row(7, 0, "deposit", "", "3", "4", 18446744073709551615),
-    Row(8, 0, "deposit", "", "3", "1", 51),
-    Row(9, 0, "deposit", "", "3", "1", 63),
-    Row(10, 0, "transfer", "3", "1", "10", 64),
+    Row(4, 0, "deposit", "", "7", "1", 0),
+    Row(5, 0, "deposit", "", "7", "1", 5000),
+    Row(6, 0, "seal", "7", "", "", 6000),
+    Row(7, 0, "deposit", "", "3", "4", 0),
+    Row(8, 0, "deposit", "", "3", "4", 18446744073709551615),
+    Row(9, 0, "deposit", "", "3", "1", 0),
+    Row(10, 0, "deposit", "", "3", "1", 0),
+    Row(11, 0, "transfer", "3", "1", "10", 0),
 ]
 
-HELP = ["deposit", "withdraw", "transfer", "seal", "balance", "find", "hello", "copy", "archive", "help", "close", "Accounts"]
+HELP = ["deposit", "withdraw", "transfer", "seal", "balance", "find", "last", "first", "hello", "copy", "archive", "help", "close",
+        "Accounts", "Said"]
 
 
 def require_closed(office, stations, turns):
@@ -118,15 +140,16 @@ def one_after_another(case):
         require_same(client.hear(2), ["balance 2 80", "balance 1 310"], "the answers to lines in pieces")
         require_same(client.ask("close"), ["closing"], "the answer to close")
         require_same(office.closed(), [], "what is unanswered")
-        require_closed(office, 2, 11)
+        require_closed(office, 2, 12)
         require_same(len(office.printed()), 4, "the number of lines that are printed")
     require_same(case.rows(), ROWS, "the records in the file")
     client.leave()
     with case.office([client]) as office:
-        require_same(office.opened(client), ["opened 2 next 11 total 400"], "the second opening")
+        require_same(office.opened(client), ["opened 2 next 12 total 401"], "the second opening")
         require_same(client.ask("balance 1"), ["balance 1 310"], "a balance of the second opening")
-        require_same(client.ask("find 4711", 3), ["posted 3 4711", "posted 4 4711", "found 2 since 0"], "a reference of the first opening")
-        require_same(client.ask("deposit 2 20"), ["posted 11 3"], "a posting of the second opening")
+        require_same(client.ask("find 4711", 2), ["posted 3 4711", "found 1 since 0"], "a reference of the first opening")
+        require_same(client.ask("deposit 7 9 4711"), ["posted 3 4711"], "a posting of the first opening, said again")
+        require_same(client.ask("deposit 2 20"), ["posted 12 0"], "a posting of the second opening")
         require_same(client.ask("close"), ["closing"], "the answer to close")
         require_same(office.closed(), [], "what is unanswered")
         require_closed(office, 2, 1)
@@ -135,8 +158,8 @@ def one_after_another(case):
 def all_at_once(case):
     """The same requests without waiting: the same answers but for the numbers of batches, which the file bears out."""
     client, = case.counters(1)
-    # that reference may come twice in one batch
-    talk = [(b"# find",) if said == b"find 4711" else (said, *told) for said, *told in TALK]
+    # entries without a reference may stand in one batch
+    talk = [(b"# find",) if said == b"find 0" else (said, *told) for said, *told in TALK]
     with case.formatted([client], 16) as office:
         office.opened(client)
         client.say(b"".join(said + b"\n" for said, *_ in talk))
@@ -145,9 +168,10 @@ def all_at_once(case):
         client.say(b"close\n")
         require_same(client.hear(1), ["closing"], "the answer to close")
         require_same(office.closed(), [], "what is unanswered")
-    unnumbered = re.compile(r"posted \d+ ")
+    # the numbers of batches, which are fewer
+    unnumbered = re.compile(r"(?<=posted )\d+ |(?<=last \d{4} )\d+")
     for line, other in zip(found, wanted):
-        require_same(unnumbered.sub("posted ", line), unnumbered.sub("posted ", other), "an answer")
+        require_same(unnumbered.sub("", line), unnumbered.sub("", other), "an answer")
     rows = case.rows()
     require_same([row.reference for row in rows], [row.reference for row in ROWS], "the references in the file")
     posted = {f"posted {row.sequence} {row.reference}" for row in rows}
@@ -161,7 +185,7 @@ def behind_a_checkpoint(case):
     with case.formatted([client], 2) as office:
         office.opened(client)
         for number in range(5):
-            require_same(client.ask("deposit 1 1"), [f"posted {number} {number + 1}"], "a posting")
+            require_same(client.ask(f"deposit 1 1 {number + 1}"), [f"posted {number} {number + 1}"], "a posting")
         require_same(client.ask("find 5", 2), ["posted 4 5", "found 1 since 2"], "a reference behind the checkpoint")
         require_same(client.ask("find 3", 2), ["posted 2 3", "found 1 since 2"], "a reference of the bank before it")
         require_same(client.ask("find 1"), ["found 0 since 2"], "a reference before both banks")
@@ -183,5 +207,5 @@ def said_before_it_opens(case):
     client.input, client.output = (os.open(client.folder / name, os.O_RDWR | os.O_NONBLOCK) for name in ("in", "out"))
     client.say(b"deposit 1 5\nbalance 1\n")
     with case.formatted([client], 4):
-        require_same(client.hear(2), ["posted 0 1", "balance 1 5"], "the answers")
+        require_same(client.hear(2), ["posted 0 0", "balance 1 5"], "the answers")
 

@@ -17,7 +17,7 @@ def asks_for_nothing(case):
             client.ask("deposit 1 1")
         for number in range(3):
             office.await_idle("with nothing to do")
-            require_same(clients[2].ask("deposit 1 1")[0].split()[::2], ["posted", str(number + 2)], "a request then")
+            require_same(clients[2].ask(f"deposit 1 1 {number + 1}")[0].split()[::2], ["posted", str(number + 1)], "a request then")
         require_same(clients[0].ask("close"), ["closing"], "the answer to close")
         office.closed()
 
@@ -74,7 +74,7 @@ def at_a_terminal(case):
     with typist.office as office:
         typist.await_shown("office> ")
         require("formatted 4\nopened 2 next 0 total 0\n" in typist.shown(), f"the beginning is {typist.shown()!r}")
-        typist.type(b"deposit 1 5\n", "deposit 1 5\nposted 0 1\noffice> ")
+        typist.type(b"deposit 1 5\n", "deposit 1 5\nposted 0 0\noffice> ")
         client.come()
         require_same(client.ask("balance 1"), ["balance 1 5"], "the counter beside the terminal")
         typist.type(b"chart\n", "chart\nwrong unknown command\noffice> ")
@@ -88,13 +88,13 @@ def at_a_terminal(case):
     require(re.search(r"closed after \d+ turns\nbits [01]{2}/[01]{2} privileges \d+\n$", typist.shown()),
             f"the end is {typist.shown()[-200:]!r}")
     os.close(typist.master)
-    require_same([(row.station, row.reference) for row in case.rows()], [(1, 1)], "the records in the file")
+    require_same([(row.station, row.reference) for row in case.rows()], [(1, 0)], "the records in the file")
 
 
 def input_that_ends(case):
     """Lines on standard input without a terminal: the end of input closes the office, once all before it is answered."""
     client, = case.counters(1)
-    said = b"".join(b"deposit 1 1\n" for _ in range(500)) + b"balance 1"
+    said = b"".join(b"deposit 1 1 %d\n" % (number + 1) for number in range(500)) + b"balance 1"
     (case.folder / "said").write_bytes(said)
     with open(case.folder / "said", "rb") as source:
         with case.formatted([client], 500, "--terminal", stdin=source) as office:

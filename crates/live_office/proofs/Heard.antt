@@ -1,7 +1,7 @@
 -- What was said at the counters of an office, from their feeds and from what their stations left.
-use Rattle.std.specs.Prelude.{◌<◌, ◌≡◌, ℕ, List, ◌++◌, length, map}
+use Rattle.std.specs.Prelude.{◌<◌, ◌≡◌, ℕ, List, length, map}
 use Rattle.std.specs.List.{AllZip, slice_index_or}
-use Rattle.std.proofs.Common.{sym, ◌∙◌, ap, subst, arith}
+use Rattle.std.proofs.Common.{sym, ◌∙◌, subst, arith}
 use Rattle.std.proofs.lemmas.List.{get_or-map}
 use Rattle.std.proofs.lemmas.Slice.Zip.{AllZip-long}
 use Rattle.sector_device.specs.Device.{DeviceState}
@@ -17,14 +17,16 @@ use Rattle.office_day.specs.Day.{IsReconciled, AreReconciled}
 use Rattle.office_day.specs.Archive.{Archive}
 use Rattle.office_day.specs.Spans.{Span, adjourned_to, HasLived, WasKeptOpen}
 use Rattle.office_day.proofs.Lists.{first, AllZip-at}
-use Rattle.live_office.specs.Conversation.{ConversationState, IsOver, IsHeard}
+use Rattle.live_office.specs.Conversation.{ConversationState, IsOver, IsHeard, WereTakenUp}
 use Rattle.live_office.specs.Kept.{WasKeptFor, WasLeftOpen}
+use Rattle.live_office.proofs.Rising.{posts-rising}
 
 -- one conversation that is over, whose feed is reconciled
 heard : (feed : FeedState) (conversation : ConversationState) (part : Left) (day : StationDay) → IsOver feed conversation → IsReconciled feed part day → IsHeard conversation feed.collected day
 heard feed conversation part day over done = record {
   told = over.told;
-  said = over.said ∙ ap (λ (asked : List Ask). entries_of asked ++ conversation.unheard) done.asked;
+  said = subst (λ (asked : List Ask). ∥ WereTakenUp conversation.said conversation.told (entries_of asked) conversation.unheard ∥₁) done.asked over.said;
+  rising = posts-rising feed.asked feed.collected day.answers.items day.unanswered.items done.asked over.above;
 }
 
 -- all of them

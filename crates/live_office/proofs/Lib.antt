@@ -1,3 +1,5 @@
 pub mod Feeds
 pub mod Heard
 mod Looks
+mod Rising
+mod TakenUp

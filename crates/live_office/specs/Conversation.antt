@@ -1,5 +1,5 @@
 -- What a counter says and is told, message by message and response by response.
-use Rattle.std.specs.Prelude.{◌≡◌, ◌+◌, ◌-◌, ◌^◌, ◌<◌, ℕ, Bool, true, false, min, List, [], ◌∷◌, ◌++◌, map, filter, Option, Some, None, Result, Ok, Err}
+use Rattle.std.specs.Prelude.{◌≡◌, ◌⊎◌, ◌+◌, ◌-◌, ◌^◌, ◌<◌, ℕ, Bool, true, false, not, min, List, [], ◌∷◌, ◌++◌, map, filter, Option, Some, None, IfSome, Result, Ok, Err}
 use Rattle.std.specs.List.{flat_map}
 use Rattle.turn_ledger.specs.declared.entry.Entry.{Entry}
 use Rattle.turn_ledger.specs.Entry.{reference_of}
@@ -16,6 +16,7 @@ use Rattle.station_desk.specs.declared.messages.Answer.{Answer}
 use Rattle.station_desk.specs.declared.messages.Outcome.{Outcome}
 use Rattle.station_desk.specs.declared.messages.Outcome.TheVariants as outcome
 use Rattle.office_day.specs.declared.reconciled.StationDay.{StationDay}
+use Rattle.live_office.specs.Rising.{AreAbove, PostsRising}
 use Rattle.live_office.specs.declared.messages.Message.{Message}
 use Rattle.live_office.specs.declared.messages.Message.TheVariants.{Asked, Wrong, Ended}
 use Rattle.live_office.specs.declared.responses.Response.{Response}
@@ -41,6 +42,10 @@ is_answer (response.Balance account amount) = false
 is_answer (response.NoBalance refusal) = false
 is_answer (response.FoundInAll count since) = false
 is_answer (response.NotFound refusal) = false
+is_answer (response.Judged entry judgement) = false
+is_answer (response.Last seen) = false
+is_answer (response.First reference) = false
+is_answer (response.NotFirst reference) = false
 is_answer (response.Hello number) = false
 is_answer (response.Archived next) = false
 is_answer response.NoArchive = false
@@ -55,11 +60,45 @@ is_answer response.Closing = false
 abbrev pub answers_among : List Response → List Response
 answers_among responses = filter is_answer responses
 
+-- the entry that a response tells of, if that wasn't submitted for the sake of its reference
+abbrev pub judged_of : Response → List Entry
+judged_of (response.Judged entry judgement) = entry ∷ []
+judged_of (response.Posted number reference) = []
+judged_of (response.Refused refusal reference) = []
+judged_of (response.Undecided reference) = []
+judged_of (response.Found number reference) = []
+judged_of (response.Balance account amount) = []
+judged_of (response.NoBalance refusal) = []
+judged_of (response.FoundInAll count since) = []
+judged_of (response.NotFound refusal) = []
+judged_of (response.Last seen) = []
+judged_of (response.First reference) = []
+judged_of (response.NotFirst reference) = []
+judged_of (response.Hello number) = []
+judged_of (response.Archived next) = []
+judged_of response.NoArchive = []
+judged_of (response.Copied next) = []
+judged_of (response.NoCopy refusal) = []
+judged_of response.Closed = []
+judged_of (response.Wrong wrong) = []
+judged_of response.Help = []
+judged_of response.Closing = []
+
+-- these entries, in order
+abbrev pub judged_among : List Response → List Entry
+judged_among responses = flat_map judged_of responses
+
+-- The response tells of no entry that the counter asked to post.
+abbrev pub IsOther : Response → Type 0
+IsOther told = (is_answer told ≡ false) × (judged_of told ≡ [])
+
 -- the entry that a message asks to post, if it does
 abbrev pub posting_of : Message → List Entry
 posting_of (Asked (request.Post entry)) = entry ∷ []
 posting_of (Asked (request.Balance account)) = []
 posting_of (Asked (request.Find reference)) = []
+posting_of (Asked request.Last) = []
+posting_of (Asked (request.First reference)) = []
 posting_of (Asked (request.Hello number)) = []
 posting_of (Asked request.Copy) = []
 posting_of (Asked request.Archive) = []
@@ -77,8 +116,14 @@ abbrev pub pending : Option Message → List Entry
 pending None = []
 pending (Some message) = posting_of message
 
--- The response is one to that message, which posts nothing.
+-- The response is one to that message, without which nothing is submitted.
 abbrev pub IsResponseTo : Message → Response → Type 0
+IsResponseTo (Asked (request.Post entry)) (response.Judged named judgement) = named ≡ entry
+IsResponseTo (Asked request.Last) (response.Last seen) = Unit {0}
+IsResponseTo (Asked request.Last) (response.NotFound refusal) = Unit {0}
+IsResponseTo (Asked (request.First reference)) (response.First named) = named ≡ reference
+IsResponseTo (Asked (request.First reference)) (response.NotFirst named) = named ≡ reference
+IsResponseTo (Asked (request.First reference)) (response.NotFound refusal) = Unit {0}
 IsResponseTo (Asked (request.Balance account)) (response.Balance named amount) = named ≡ account
 IsResponseTo (Asked (request.Balance account)) (response.NoBalance refusal) = Unit {0}
 IsResponseTo (Asked (request.Find reference)) (response.Found number named) = named ≡ reference
@@ -112,11 +157,23 @@ abbrev pub found_with : ℕ → Result Found FindRefusal → ℕ
 found_with before (Ok (found.Posted number)) = min (before + 1) (2 ^ 64 - 1)
 found_with before _ = before
 
--- The question is the one that the message asks, whose search has come to that record.
-abbrev pub IsQuestionOf : Message → ℕ → Question → Type 0
-IsQuestionOf (Asked (request.Balance account)) from (question.Balance named) = named ≡ account
-IsQuestionOf (Asked (request.Find reference)) from (question.Find named first) = (named ≡ reference) × (first ≡ from)
-IsQuestionOf _ from _ = ⊥
+-- The question is the one that the message asks, whose search, or whose look at the counter's own postings, has come to
+-- that record. An entry asks for its own reference, or for any.
+abbrev pub IsQuestionOf : Message → ℕ → ℕ → Question → Type 0
+IsQuestionOf (Asked (request.Balance account)) from own (question.Balance named) = named ≡ account
+IsQuestionOf (Asked (request.Find reference)) from own (question.Find named first) = (named ≡ reference) × (first ≡ from)
+IsQuestionOf (Asked (request.Post entry)) from own (question.Latest limit first) = ((limit ≡ reference_of entry) ⊎ (limit ≡ 2 ^ 64 - 1)) × (first ≡ own)
+IsQuestionOf (Asked request.Last) from own (question.Latest limit first) = (limit ≡ 2 ^ 64 - 1) × (first ≡ own)
+IsQuestionOf (Asked (request.First reference)) from own (question.Latest limit first) = (limit ≡ 2 ^ 64 - 1) × (first ≡ own)
+IsQuestionOf _ from own _ = ⊥
+
+-- the same of the message that is handled next, if there is one
+abbrev pub IsAskedBy : Option Message → ℕ → ℕ → Question → Type 0
+IsAskedBy next from own asked = IfSome next (λ message. IsQuestionOf message from own asked)
+
+-- Its response may depend on the counter's own postings up to that reference.
+abbrev pub MayLook : Option Message → ℕ → Type 0
+MayLook next limit = (from own : ℕ) → IsAskedBy next from own (question.Latest limit own)
 
 -- Where the next step of a search begins: behind the record that was found, or where this step ended, or where it began
 -- if it looked at none.
@@ -141,15 +198,26 @@ pub record ConversationState : Type 0 where
   pub told : List Response
   pub unheard : List Entry
 
+-- What became of the entries that a counter asked to post, in the order in which it said them: each was submitted, or
+-- it was answered otherwise, for the sake of its reference; but for the last ones, which nobody took up.
+pub record WereTakenUp (said : List Message) (told : List Response) (asked rest : List Entry) : Type 0 where
+  -- the entries that were taken up, each with whether it was submitted
+  pub dealt : List (Entry × Bool)
+  pub all : postings_among said ≡ map (λ one. one.0) dealt ++ rest
+  pub submitted : asked ≡ map (λ one. one.0) (filter (λ one. one.1) dealt)
+  pub judged : judged_among told ≡ map (λ one. one.0) (filter (λ one. not one.1) dealt)
+
 -- The conversation with a counter is over, whose requests went by this feed: of the responses those that tell of
--- entries are the responses to the answers that were collected, in order, each once; and the entries that it asked to
--- post are, in order, those that were submitted and those that weren't.
+-- entries are the responses to the answers that were collected, in order, each once; each entry that it asked to post
+-- was submitted, or answered otherwise, or nobody took it up; and the references of those that were submitted are above.
 pub record IsOver (feed : FeedState) (conversation : ConversationState) : Type 0 where
   pub told : answers_among conversation.told ≡ map response_of feed.collected
-  pub said : postings_among conversation.said ≡ entries_of feed.asked ++ conversation.unheard
+  pub said : ∥ WereTakenUp conversation.said conversation.told (entries_of feed.asked) conversation.unheard ∥₁
+  pub above : AreAbove feed.asked feed.collected
 
 -- The same of what became of its requests: those whose answers were collected, those whose answers weren't, and those
--- without an answer.
+-- without an answer. The references above 0 of those that were posted rise.
 pub record IsHeard (conversation : ConversationState) (collected : List Answer) (day : StationDay) : Type 0 where
   pub told : answers_among conversation.told ≡ map response_of collected
-  pub said : postings_among conversation.said ≡ entries_of (asks_of collected ++ asks_of day.answers.items ++ day.unanswered.items) ++ conversation.unheard
+  pub said : ∥ WereTakenUp conversation.said conversation.told (entries_of (asks_of collected ++ asks_of day.answers.items ++ day.unanswered.items)) conversation.unheard ∥₁
+  pub rising : PostsRising (collected ++ day.answers.items)

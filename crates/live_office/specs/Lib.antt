@@ -1,2 +1,4 @@
 pub mod Conversation
 pub mod Kept
+pub mod Looked
+pub mod Rising

@@ -1,7 +1,7 @@
 //! What was said at a counter, and what it was told.
-ghost use Rattle.std.specs.Prelude.{◌≡◌, false, ◌++◌, OnOk};
+ghost use Rattle.std.specs.Prelude.{◌≡◌, ◌++◌, IfOk, OnOk};
 ghost use Rattle.station_desk.specs.Rings.{FeedState};
-ghost use Rattle.live_office.specs.Conversation.{posting_of, is_answer, IsOver};
+ghost use Rattle.live_office.specs.Conversation.{pending, posting_of, IsOther, IsOver};
 
 use crate::messages::Message;
 use crate::recent::Recent;
@@ -10,7 +10,7 @@ use crate::session::CAPACITY;
 use crate::wakers::Wakers;
 use rtrb::{Consumer, Producer};
 use script_grammar::Request;
-use std::alloc::AllocError;
+use std::alloc::{AllocError, Global};
 use std::collections::vec_deque;
 use std::iter::Skip;
 use std::marker::Model;
@@ -116,7 +116,12 @@ impl Conversation {
     {
         match message {
             Message::Asked(
-                Request::Balance { .. } | Request::Find { .. } | Request::Copy | Request::Archive,
+                Request::Balance { .. }
+                | Request::Find { .. }
+                | Request::Last
+                | Request::First { .. }
+                | Request::Copy
+                | Request::Archive,
             ) => self.tell(Response::Closed),
             Message::Asked(Request::Hello { number }) => {
                 self.tell(Response::Hello { number: *number })
@@ -124,6 +129,15 @@ impl Conversation {
             Message::Asked(Request::Help) => self.tell(Response::Help),
             Message::Wrong(wrong) => self.tell(Response::Wrong(*wrong)),
             Message::Asked(Request::Post(_) | Request::Close) | Message::Ended => {}
+        }
+    }
+
+    /// Answers the question that would have come next.
+    pub(crate) fn refuse_next(&mut self, next: Option<Message>)
+        ensures { (feed : FeedState) → IsOver feed self.old → IsOver feed self.new }
+    {
+        if let Some(message) = next {
+            self.refuse(&message);
         }
     }
 
@@ -137,12 +151,18 @@ impl Conversation {
 
     // Tells the counter something else than an answer, if there is a place for it.
     fn tell(&mut self, response: Response)
-        requires other { is_answer response ≡ false }
+        requires other { IsOther response }
         ensures { (feed : FeedState) → IsOver feed self.old → IsOver feed self.new }
     {
-        if !self.is_told_closing && self.responses.push(response).is_ok() {
-            self.recent.note(response);
-            self.wakers.note_given();
+        if self.is_told_closing {
+            return;
+        }
+        match self.responses.push(response) {
+            Ok(()) => {
+                self.recent.note(response);
+                self.wakers.note_given();
+            }
+            Err(_) => {}
         }
     }
 
@@ -159,8 +179,19 @@ impl Conversation {
     }
 }
 
-/// Lists the entry that a message asks to post, if it does.
-pub(crate) fn list(message: &Message, unheard: &mut Vec<Entry>) -> Result<(), AllocError>
+/// The entry that the next message asks to post, if it does.
+pub(crate) fn listed(alloc: Global, next: Option<Message>) -> Result<Vec<Entry>, AllocError>
+    ensures { IfOk result (λ entries. entries.items ≡ pending next) }
+{
+    let mut entries = Vec::new(alloc);
+    if let Some(message) = next {
+        list(&message, &mut entries)?;
+    }
+    Ok(entries)
+}
+
+// Lists the entry that a message asks to post, if it does.
+fn list(message: &Message, unheard: &mut Vec<Entry>) -> Result<(), AllocError>
     ensures { OnOk result (unheard.new.items ≡ unheard.old.items ++ posting_of message.now) }
 {
     if let Message::Asked(Request::Post(entry)) = message {

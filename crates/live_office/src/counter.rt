@@ -70,7 +70,7 @@ pub(crate) fn begin_session<
 ) -> Result<Session, Unserved>
     requires nothing_asked { feed.asked ≡ [] }
     requires nothing_collected { feed.collected ≡ [] }
-    ensures { IfOk result (λ session. session.feed ≡ feed) }
+    ensures { IfOk result (λ session. session.postings.feed ≡ feed) }
 {
     let Counter {
         input,
@@ -111,7 +111,7 @@ fn new_wakers(alloc: Global) -> Result<Arc<Wakers>, AllocError> {
 pub(crate) fn empty_session(alloc: Global, station: u8, feed: Feed) -> Result<Session, AllocError>
     requires nothing_asked { feed.asked ≡ [] }
     requires nothing_collected { feed.collected ≡ [] }
-    ensures feed { IfOk result (λ session. session.feed ≡ feed) }
+    ensures feed { IfOk result (λ session. session.postings.feed ≡ feed) }
     ensures nobody { IfOk result (λ session. producer_capacity session.responses ≡ 0) }
 {
     let (_, messages) = RingBuffer::new(alloc, 0)?;

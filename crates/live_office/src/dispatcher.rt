@@ -16,7 +16,7 @@ impl Promise<Vec<Session>> for SameFeeds {
     ghost use Rattle.std.specs.Prelude.{map};
     ghost use Rattle.station_desk.specs.PairLaws.{AllStandAt};
 
-    ghost kept_by = { λ promise sessions. AllStandAt (map (λ session. session.feed) promise.0.value.items) (map (λ session. session.feed) sessions.items) };
+    ghost kept_by = { λ promise sessions. AllStandAt (map (λ session. session.postings.feed) promise.0.value.items) (map (λ session. session.postings.feed) sessions.items) };
 }
 
 /// Attends to the counters until the office's life is over.
@@ -25,7 +25,8 @@ pub(crate) fn dispatch<R: Wait>(
     scheduler: &Scheduler,
     sessions: Vec<Session>,
 ) -> Vec<Session>
-    ensures { AllStandAt (map (λ session. session.feed) sessions.items) (map (λ session. session.feed) result.items) }
+    ensures { AllStandAt (map (λ session. session.postings.feed) sessions.items)
+        (map (λ session. session.postings.feed) result.items) }
 {
     let mut sessions = sessions;
     for _ in rt.forever() {
@@ -42,7 +43,8 @@ pub(crate) fn dispatch<R: Wait>(
 
 // Attends to each counter once.
 fn attend_all<R: Wait>(rt: &R, scheduler: &Scheduler, sessions: &mut [Session])
-    ensures { AllStandAt (map (λ session. session.feed) sessions.old) (map (λ session. session.feed) sessions.new) }
+    ensures { AllStandAt (map (λ session. session.postings.feed) sessions.old)
+        (map (λ session. session.postings.feed) sessions.new) }
 {
     for session in sessions.iter_mut() {
         session.attend(rt, scheduler);

@@ -194,9 +194,9 @@ fn all_ended<C: Clock>(
     sessions: Vec<Session>,
 ) -> Result<(Vec<Feed>, Vec<Conversation>), AllocError>
     ensures feeds { IfOk result (λ both.
-        both.0.items ≡ map (λ session. session.feed) sessions.items) }
+        both.0.items ≡ map (λ session. session.postings.feed) sessions.items) }
     ensures over { IfOk result (λ both. AllZip IsOver
-        (map (λ session. session.feed) sessions.items) both.1.items) }
+        (map (λ session. session.postings.feed) sessions.items) both.1.items) }
 {
     let mut feeds = Vec::with_capacity(alloc, sessions.len())?;
     let mut conversations = Vec::with_capacity(alloc, sessions.len())?;

@@ -69,7 +69,7 @@ pub(crate) fn begin<
     O: Write + Send + Drop + 'static,
 >(rt: &R, alloc: Global, stations: u8, counters: Vec<Counter<I, O>>) -> Result<Begun, Unserved>
     ensures together { IfOk result (λ begun. AllZip AreTogether
-        (map (λ session. session.feed) begun.dispatcher.promise.0.value.items) begun.desks.items) }
+        (map (λ session. session.postings.feed) begun.dispatcher.promise.0.value.items) begun.desks.items) }
     ensures fresh { IfOk result (λ begun. All IsFresh begun.desks.items) }
     ensures as_many { IfOk result (λ begun. length begun.desks.items ≡ stations) }
 {
@@ -109,7 +109,7 @@ fn seat_all<
     scheduler: &Arc<Scheduler>,
 ) -> Result<Attended, Unserved>
     ensures together { IfOk result (λ all. AllZip AreTogether
-        (map (λ session. session.feed) all.sessions.items) all.desks.items) }
+        (map (λ session. session.postings.feed) all.sessions.items) all.desks.items) }
     ensures fresh { IfOk result (λ all. All IsFresh all.desks.items) }
     ensures as_many { IfOk result (λ all. length all.desks.items ≡ stations) }
 {
@@ -138,7 +138,7 @@ fn session_at<
 ) -> Result<Session, Unserved>
     requires nothing_asked { feed.asked ≡ [] }
     requires nothing_collected { feed.collected ≡ [] }
-    ensures { IfOk result (λ session. session.feed ≡ feed) }
+    ensures { IfOk result (λ session. session.postings.feed ≡ feed) }
 {
     match counter {
         Some(counter) => begin_session(rt, alloc, station, counter, feed, scheduler),

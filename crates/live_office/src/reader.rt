@@ -114,7 +114,7 @@ impl<I: Read + Drop> Reader<I> {
             let is_comment = self.beginning == Beginning::Comment;
             return (!is_comment).then_some(Message::Wrong(WrongLine::TooLong));
         }
-        match read_request(self.cutter.line(), self.lines) {
+        match read_request(self.cutter.line()) {
             Ok(Some(request)) => Some(self.heard(request)),
             Ok(None) => None,
             Err(fault) => Some(Message::Wrong(WrongLine::Fault(fault))),

@@ -1,15 +1,16 @@
 //! What counters are told.
-ghost use Rattle.std.specs.Prelude.{◌≡◌, false};
+ghost use Rattle.std.specs.Prelude.{◌≡◌};
 ghost use Rattle.script_grammar.specs.declared.requests.Request.TheVariants.{Balance};
 ghost use Rattle.live_office.specs.declared.messages.Message.TheVariants.{Asked};
-ghost use Rattle.live_office.specs.Conversation.{is_answer, told_of_balance, IsResponseTo};
+ghost use Rattle.live_office.specs.Conversation.{is_answer, told_of_balance, IsOther, IsResponseTo};
 
+use crate::look::Seen;
 use crate::messages::WrongLine;
 use crate::recess::CopyRefusal;
 use line_lock::{BalanceRefusal, FindRefusal};
 use station_desk::{Answer, Outcome};
 use std::fmt;
-use turn_ledger::EntryRefusal;
+use turn_ledger::{Entry, EntryRefusal};
 
 /// The requests of counters, as `help` tells them.
 pub const REQUESTS: &str = "\
@@ -19,12 +20,15 @@ transfer A B M [R]    M units from account A to account B
 seal A [R]            account A keeps what it holds for good, and no later entry may name it
 balance A             what account A holds, after all that was asked here before
 find R                in which batches reference R was posted, and how far back one sees
+last                  the greatest reference that was posted at this counter, and its batch
+first R               references of this counter begin with R, if none is in sight that isn't below
 hello X               the same as an answer, so that a client knows which are its own
 copy                  a copy of the ledger in the folder for copies
 archive               all batches by now go to the archive
 help                  these requests
 close                 the office closes
-Accounts have numbers from 1 to 1024. R is the entry's reference, and without it the line's number.";
+Accounts have numbers from 1 to 1024. R is the entry's reference, a number above all that were used at this counter.
+Said again, an entry with a reference is answered as before and not posted twice; without one it is posted again.";
 
 /// What is told of a line.
 #[derive(Clone, Copy, Debug, PartialEq, Eq)]
@@ -62,6 +66,21 @@ pub enum Response {
     },
     /// Why a reference wasn't looked for to the end.
     NotFound(FindRefusal),
+    /// What became of an entry that wasn't submitted, for the sake of its reference.
+    Judged {
+        entry: Entry,
+        judgement: Judgement,
+    },
+    /// The counter's posting with the greatest reference.
+    Last(Seen),
+    /// References of the counter begin with this one.
+    First {
+        reference: u64,
+    },
+    /// They can't: it isn't above those that were posted.
+    NotFirst {
+        reference: u64,
+    },
     /// What a client said to be known by.
     Hello {
         number: u64,
@@ -88,12 +107,26 @@ pub enum Response {
     Closing,
 }
 
+/// What becomes of an entry that isn't submitted, since its reference isn't known to be above all that were posted at
+/// its counter.
+#[derive(Clone, Copy, Debug, PartialEq, Eq)]
+pub enum Judgement {
+    /// The same entry stands under this reference, in the batch of this number.
+    Posted(u64),
+    /// Under its reference another entry stands, or none, and one above it was posted.
+    Reference,
+    /// No reference of the counter is in sight, from the batch of this number on, so the entry may stand before it.
+    Unknown(u64),
+    /// The ledger wasn't looked at to its end.
+    NotSeen(FindRefusal),
+}
+
 impl Response {
     /// What is told of an account.
     pub(crate) fn of_balance(account: u32, answer: Result<u64, BalanceRefusal>) -> Response
         ensures told { result ≡ told_of_balance account answer }
         ensures right { IsResponseTo (Asked (Balance account)) result }
-        ensures other { is_answer result ≡ false }
+        ensures other { IsOther result }
     {
         match answer {
             Ok(amount) => Response::Balance { account, amount },
@@ -142,6 +175,12 @@ impl fmt::Display for Response {
             Response::NoBalance(refusal) => write!(f, "refused {refusal:?}"),
             Response::FoundInAll { count, since } => write!(f, "found {count} since {since}"),
             Response::NotFound(refusal) => write!(f, "refused {refusal:?}"),
+            Response::Judged { entry, judgement } => {
+                write!(f, "{judgement} {}", entry.reference())
+            }
+            Response::Last(seen) => write!(f, "last {seen}"),
+            Response::First { reference } => write!(f, "first {reference}"),
+            Response::NotFirst { reference } => write!(f, "refused Reference {reference}"),
             Response::Hello { number } => write!(f, "hello {number}"),
             Response::Archived { next } => write!(f, "archived {next}"),
             Response::NoArchive => f.write_str("refused NoArchive"),
@@ -151,6 +190,17 @@ impl fmt::Display for Response {
             Response::Wrong(wrong) => write!(f, "wrong {wrong}"),
             Response::Help => f.write_str(REQUESTS),
             Response::Closing => f.write_str("closing"),
+        }
+    }
+}
+
+impl fmt::Display for Judgement {
+    fn fmt<W: fmt::Write>(&self, f: &mut fmt::Formatter<W>) -> fmt::Result {
+        match self {
+            Judgement::Posted(number) => write!(f, "posted {number}"),
+            Judgement::Reference => f.write_str("refused Reference"),
+            Judgement::Unknown(since) => write!(f, "refused Unknown since {since}"),
+            Judgement::NotSeen(refusal) => write!(f, "refused {refusal:?}"),
         }
     }
 }

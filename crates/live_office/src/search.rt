@@ -1,8 +1,8 @@
 //! A search for a reference, step by step.
-ghost use Rattle.std.specs.Prelude.{◌≡◌, ◌↔◌, false, IsTrue, IfOk, IfSome};
+ghost use Rattle.std.specs.Prelude.{◌≡◌, ◌↔◌, IsTrue, IfOk, IfSome};
 ghost use Rattle.script_grammar.specs.declared.requests.Request.TheVariants.{Find};
 ghost use Rattle.live_office.specs.declared.messages.Message.TheVariants.{Asked};
-ghost use Rattle.live_office.specs.Conversation.{is_answer, told_of_step, found_with, IsResponseTo, MeetsAt, IsLast};
+ghost use Rattle.live_office.specs.Conversation.{IsOther, told_of_step, found_with, IsResponseTo, MeetsAt, IsLast};
 
 use crate::responses::Response;
 use line_lock::{FindRefusal, Found};
@@ -50,7 +50,7 @@ impl Search {
 
     /// Goes on by what was found.
     pub(crate) fn go_on(&mut self, reference: u64, found: Result<Found, FindRefusal>) -> Step
-        ensures other { IfSome result.response (λ response. is_answer response ≡ false) }
+        ensures other { IfSome result.response IsOther }
         ensures right { IfSome result.response (IsResponseTo (Asked (Find reference))) }
         ensures meets { IfOk found (λ step. MeetsAt self.old.from step self.new.from) }
         ensures told { result.response ≡ told_of_step self.old.count reference found }

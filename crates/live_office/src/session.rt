@@ -1,14 +1,16 @@
 //! What the dispatcher does for one counter.
-ghost use Rattle.std.specs.Prelude.{◌≡◌, ◌≤◌, ◌<◌, false, [], ◌++◌, map, IsTrue, IfOk, IfSome, Some, None};
+ghost use Rattle.std.specs.Prelude.{◌≡◌, ◌≤◌, ◌<◌, [], ◌++◌, map, IsTrue, IfOk, IfSome, Some, None};
 ghost use Rattle.rtrb.specs.Ring.{known_free, sent, received};
-ghost use Rattle.script_grammar.specs.declared.requests.Request.TheVariants.{Post, Balance, Find, Archive, Copy, Close};
+ghost use Rattle.script_grammar.specs.declared.requests.Request.TheVariants.{Balance, Find, Archive, Copy, Close};
 ghost use Rattle.station_desk.specs.Messages.{entries_of};
 ghost use Rattle.station_desk.specs.Rings.{StandsAt};
 ghost use Rattle.live_office.specs.declared.messages.Message.TheVariants.{Asked};
-ghost use Rattle.live_office.specs.Conversation.{response_of, is_answer, answers_among, postings_among, pending, IsQuestionOf, IsResponseTo, IsOver};
+ghost use Rattle.live_office.specs.Conversation.{response_of, answers_among, pending, IsOther, IsAskedBy, IsResponseTo, IsOver, WereTakenUp};
 
-use crate::conversation::{Conversation, list};
+use crate::conversation::{Conversation, listed};
+use crate::look::Look;
 use crate::messages::Message;
+use crate::postings::Postings;
 use crate::recent::Recent;
 use crate::recess::{Came, Kept, Wish};
 use crate::responses::Response;
@@ -21,21 +23,34 @@ use station_desk::{Feed, Question, Report};
 use std::alloc::{AllocError, Global};
 use std::sync::{Arc, Wait};
 use std::time::Clock;
-use turn_ledger::Entry;
 
 /// How many messages and responses lie at most between the dispatcher and one counter, each way.
 pub(crate) const CAPACITY: usize = 256;
 
+mod posting;
+
+/// What is known of the references that were posted at a counter before it was opened.
+#[derive(Clone, Copy, Debug, PartialEq, Eq)]
+enum Earlier {
+    /// Nobody looked yet.
+    Unlooked,
+    /// None is in sight, from the batch of this number on.
+    OutOfSight(u64),
+    /// None is greater than those that its [`Postings`] know of.
+    Known,
+}
+
 /// A counter as the dispatcher sees it. What was submitted is what the counter's messages asked to post, in order, but
-/// for the message that is handled next; and what its writer was handed of that are the answers that were collected, in
-/// order, each once. For each request that is submitted a place is kept for the response to it, so that a counter that
-/// reads nothing holds up nobody but itself.
+/// for what was answered otherwise for the sake of its reference, and for the message that is handled next; and what
+/// its writer was handed of that are the answers that were collected, in order, each once. For each request that is
+/// submitted a place is kept for the response to it, so that a counter that reads nothing holds up nobody but itself.
 #[derive(Drop)]
 pub(crate) struct Session {
     station: u8,
     messages: Consumer<Message>,
     responses: Producer<Response>,
-    pub(crate) feed: Feed,
+    pub(crate) postings: Postings,
+    earlier: Earlier,
     wakers: Arc<Wakers>,
     // Whether the office closes where nothing comes any more.
     closes_at_end: bool,
@@ -44,14 +59,13 @@ pub(crate) struct Session {
     // Whether the station was asked for it, or a recess was called.
     is_asked: bool,
     search: Search,
-    // How many requests are submitted, and not answered.
-    unanswered: usize,
+    look: Look,
     recent: Recent,
     // Whether the counter was told that the office closes.
     is_told_closing: bool,
-    ghost kept_places: { unanswered ≤ known_free responses },
-    ghost said: { postings_among (received messages) ≡ entries_of feed.asked ++ pending next },
-    ghost told: { answers_among (sent responses) ≡ map response_of feed.collected },
+    ghost kept_places: { postings.unanswered ≤ known_free responses },
+    ghost said: { ∥ WereTakenUp (received messages) (sent responses) (entries_of postings.feed.asked) (pending next) ∥₁ },
+    ghost told: { answers_among (sent responses) ≡ map response_of postings.feed.collected },
 }
 
 impl Session {
@@ -69,20 +83,21 @@ impl Session {
         requires nothing_told { sent responses ≡ [] }
         requires nothing_asked { feed.asked ≡ [] }
         requires nothing_collected { feed.collected ≡ [] }
-        ensures feed { result.feed ≡ feed }
+        ensures feed { result.postings.feed ≡ feed }
         ensures room { result.responses ≡ responses }
     {
         Session {
             station,
             messages,
             responses,
-            feed,
+            postings: Postings::new(feed),
+            earlier: Earlier::Unlooked,
             wakers,
             closes_at_end,
             next: None,
             is_asked: false,
             search: Search::BEGINNING,
-            unanswered: 0,
+            look: Look::BEGINNING,
             recent,
             is_told_closing: false,
         }
@@ -95,7 +110,7 @@ impl Session {
 
     /// Hands on the answers that have come, and takes what the counter has said, as far as there is room.
     pub(crate) fn attend<R: Wait>(&mut self, rt: &R, scheduler: &Scheduler)
-        ensures { StandsAt self.old.feed self.new.feed }
+        ensures { StandsAt self.old.postings.feed self.new.postings.feed }
     {
         self.collect();
         self.take_messages(rt, scheduler);
@@ -103,16 +118,12 @@ impl Session {
 
     // Hands on the answers that have come.
     fn collect(&mut self)
-        ensures { StandsAt self.old.feed self.new.feed }
+        ensures { StandsAt self.old.postings.feed self.new.postings.feed }
     {
         for _ in 0..CAPACITY {
-            if self.unanswered == 0 {
-                return;
-            }
-            let Some(answer) = self.feed.answer() else {
+            let Some(answer) = self.postings.collect() else {
                 return;
             };
-            self.unanswered -= 1;
             let response = Response::from(answer);
             self.responses.push_reserved(response);
             self.recent.note(response);
@@ -122,7 +133,7 @@ impl Session {
 
     // Takes what the counter has said, one message after another.
     fn take_messages<R: Wait>(&mut self, rt: &R, scheduler: &Scheduler)
-        ensures { StandsAt self.old.feed self.new.feed }
+        ensures { StandsAt self.old.postings.feed self.new.postings.feed }
     {
         for _ in 0..CAPACITY {
             if !self.take_next(rt, scheduler) {
@@ -133,9 +144,9 @@ impl Session {
 
     // Takes the next message, if there is one that can be handled now; false if not.
     fn take_next<R: Wait>(&mut self, rt: &R, scheduler: &Scheduler) -> bool
-        ensures { StandsAt self.old.feed self.new.feed }
+        ensures { StandsAt self.old.postings.feed self.new.postings.feed }
     {
-        if self.responses.slots() <= self.unanswered {
+        if self.responses.slots() <= self.postings.unanswered {
             return false;
         }
         let Some(message) = self.next_message(scheduler) else {
@@ -151,33 +162,50 @@ impl Session {
     // What is handled next. Of an office that closes nothing more is taken.
     fn next_message(&mut self, scheduler: &Scheduler) -> Option<Message>
         ensures next { result ≡ self.new.next }
-        ensures feed { self.new.feed ≡ self.old.feed }
+        ensures feed { self.new.postings.feed ≡ self.old.postings.feed }
         ensures room { self.new.responses ≡ self.old.responses }
-        ensures unanswered { self.new.unanswered ≡ self.old.unanswered }
+        ensures unanswered { self.new.postings.unanswered ≡ self.old.postings.unanswered }
     {
         if self.next.is_none() && !scheduler.is_closing() {
-            self.next = self.messages.pop().ok();
+            self.pull();
             self.wakers.reader.unpark();
         }
         self.next
     }
 
+    // The next message that the counter's reader has handed on, if there is one.
+    fn pull(&mut self)
+        requires none { self.old.next ≡ None }
+        ensures feed { self.new.postings.feed ≡ self.old.postings.feed }
+        ensures room { self.new.responses ≡ self.old.responses }
+        ensures unanswered { self.new.postings.unanswered ≡ self.old.postings.unanswered }
+    {
+        match self.messages.pop() {
+            Ok(message) => self.next = Some(message),
+            Err(_) => {}
+        }
+    }
+
     // Handles a message, for whose response there is a place; false if that can't be done yet.
     fn handle<R: Wait>(&mut self, rt: &R, scheduler: &Scheduler, message: Message) -> bool
-        requires place { self.old.unanswered < known_free self.old.responses }
+        requires place { self.old.postings.unanswered < known_free self.old.responses }
         requires next { self.old.next ≡ Some message }
-        ensures feed { StandsAt self.old.feed self.new.feed }
+        ensures feed { StandsAt self.old.postings.feed self.new.postings.feed }
         ensures handled { IsTrue result → pending self.new.next ≡ [] }
     {
         match message {
-            Message::Asked(Request::Post(entry)) => self.submit(scheduler, entry),
+            Message::Asked(Request::Post(entry)) => self.post(rt, scheduler, entry),
             // all else is answered behind what was asked before it
-            _ if self.unanswered > 0 => false,
+            _ if self.postings.unanswered > 0 => false,
             Message::Asked(Request::Balance { account }) => {
                 self.tell_balance(rt, scheduler, account)
             }
             Message::Asked(Request::Find { reference }) => {
                 self.tell_found(rt, scheduler, reference)
+            }
+            Message::Asked(Request::Last) => self.tell_last(rt, scheduler),
+            Message::Asked(Request::First { reference }) => {
+                self.begin_with(rt, scheduler, reference)
             }
             Message::Asked(Request::Hello { number }) => {
                 self.respond(Response::Hello { number })
@@ -198,9 +226,9 @@ impl Session {
 
     // Closes the office, as the counter asks, and tells it so.
     fn close(&mut self, scheduler: &Scheduler) -> bool
-        requires place { self.old.unanswered < known_free self.old.responses }
+        requires place { self.old.postings.unanswered < known_free self.old.responses }
         requires next { self.old.next ≡ Some (Asked Close) }
-        ensures feed { self.new.feed ≡ self.old.feed }
+        ensures feed { self.new.postings.feed ≡ self.old.postings.feed }
         ensures next { self.new.next ≡ self.old.next }
     {
         scheduler.close();
@@ -208,31 +236,15 @@ impl Session {
         self.respond(Response::Closing)
     }
 
-    // Submits the entry that is asked for next, for whose response there is a place.
-    fn submit(&mut self, scheduler: &Scheduler, entry: Entry) -> bool
-        requires place { self.old.unanswered < known_free self.old.responses }
-        requires next { self.old.next ≡ Some (Asked (Post entry)) }
-        ensures feed { StandsAt self.old.feed self.new.feed }
-        ensures handled { IsTrue result → self.new.next ≡ None }
-    {
-        if self.feed.submit(entry).is_err() {
-            return false;
-        }
-        self.next = None;
-        self.unanswered += 1;
-        scheduler.note_submitted();
-        true
-    }
-
     // Tells the counter something else than an answer: a response to the message that is handled, for which there is a
     // place.
     fn respond(&mut self, response: Response) -> bool
-        requires place { self.old.unanswered < known_free self.old.responses }
-        requires other { is_answer response ≡ false }
+        requires place { self.old.postings.unanswered < known_free self.old.responses }
+        requires other { IsOther response }
         requires right { IfSome self.old.next (λ message. IsResponseTo message response) }
-        ensures feed { self.new.feed ≡ self.old.feed }
+        ensures feed { self.new.postings.feed ≡ self.old.postings.feed }
         ensures next { self.new.next ≡ self.old.next }
-        ensures unanswered { self.new.unanswered ≡ self.old.unanswered }
+        ensures unanswered { self.new.postings.unanswered ≡ self.old.postings.unanswered }
     {
         self.responses.push_reserved(response);
         self.recent.note(response);
@@ -247,12 +259,12 @@ impl Session {
         scheduler: &Scheduler,
         question: Question,
     ) -> Option<Report>
-        requires behind { self.old.unanswered ≡ 0 }
-        requires right { IfSome self.old.next (λ message. IsQuestionOf message self.old.search.from question) }
-        ensures feed { self.new.feed ≡ self.old.feed }
+        requires behind { self.old.postings.unanswered ≡ 0 }
+        requires right { IsAskedBy self.old.next self.old.search.from self.old.look.from question }
+        ensures feed { self.new.postings.feed ≡ self.old.postings.feed }
         ensures next { self.new.next ≡ self.old.next }
         ensures room { self.new.responses ≡ self.old.responses }
-        ensures unanswered { self.new.unanswered ≡ self.old.unanswered }
+        ensures unanswered { self.new.postings.unanswered ≡ self.old.postings.unanswered }
     {
         if !self.is_asked {
             self.is_asked = true;
@@ -266,24 +278,24 @@ impl Session {
 
     // Tells what an account holds; false if that isn't known yet.
     fn tell_balance<R: Wait>(&mut self, rt: &R, scheduler: &Scheduler, account: u32) -> bool
-        requires place { self.old.unanswered < known_free self.old.responses }
-        requires behind { self.old.unanswered ≡ 0 }
+        requires place { self.old.postings.unanswered < known_free self.old.responses }
+        requires behind { self.old.postings.unanswered ≡ 0 }
         requires next { self.old.next ≡ Some (Asked (Balance account)) }
-        ensures feed { self.new.feed ≡ self.old.feed }
+        ensures feed { self.new.postings.feed ≡ self.old.postings.feed }
         ensures next { self.new.next ≡ self.old.next }
     {
         match self.report(rt, scheduler, Question::Balance(account)) {
             Some(Report::Balance(answer)) => self.respond(Response::of_balance(account, answer)),
-            Some(Report::Found(_)) | None => false,
+            Some(Report::Found(_) | Report::Latest(_)) | None => false,
         }
     }
 
     // Tells under which numbers a reference was posted, one after another; false until the last is told.
     fn tell_found<R: Wait>(&mut self, rt: &R, scheduler: &Scheduler, reference: u64) -> bool
-        requires place { self.old.unanswered < known_free self.old.responses }
-        requires behind { self.old.unanswered ≡ 0 }
+        requires place { self.old.postings.unanswered < known_free self.old.responses }
+        requires behind { self.old.postings.unanswered ≡ 0 }
         requires next { self.old.next ≡ Some (Asked (Find reference)) }
-        ensures feed { self.new.feed ≡ self.old.feed }
+        ensures feed { self.new.postings.feed ≡ self.old.postings.feed }
         ensures next { self.new.next ≡ self.old.next }
     {
         let question = self.search.question(reference);
@@ -303,11 +315,11 @@ impl Session {
 
     // What came of a wish, for which a recess is called once, behind all that was asked before.
     fn what_came<R: Wait>(&mut self, rt: &R, scheduler: &Scheduler, wish: Wish) -> Option<Came>
-        requires behind { self.old.unanswered ≡ 0 }
-        ensures feed { self.new.feed ≡ self.old.feed }
+        requires behind { self.old.postings.unanswered ≡ 0 }
+        ensures feed { self.new.postings.feed ≡ self.old.postings.feed }
         ensures next { self.new.next ≡ self.old.next }
         ensures room { self.new.responses ≡ self.old.responses }
-        ensures unanswered { self.new.unanswered ≡ self.old.unanswered }
+        ensures unanswered { self.new.postings.unanswered ≡ self.old.postings.unanswered }
     {
         if !self.is_asked {
             self.is_asked = true;
@@ -322,10 +334,10 @@ impl Session {
     // Tells how far the archive is; false if that isn't known yet. Where it can't be kept the office closes, and tells
     // that.
     fn tell_archived<R: Wait>(&mut self, rt: &R, scheduler: &Scheduler) -> bool
-        requires place { self.old.unanswered < known_free self.old.responses }
-        requires behind { self.old.unanswered ≡ 0 }
+        requires place { self.old.postings.unanswered < known_free self.old.responses }
+        requires behind { self.old.postings.unanswered ≡ 0 }
         requires next { self.old.next ≡ Some (Asked Archive) }
-        ensures feed { self.new.feed ≡ self.old.feed }
+        ensures feed { self.new.postings.feed ≡ self.old.postings.feed }
         ensures next { self.new.next ≡ self.old.next }
     {
         match self.what_came(rt, scheduler, Wish::Archive) {
@@ -337,10 +349,10 @@ impl Session {
 
     // Tells of a copy; false if it isn't made yet.
     fn tell_copied<R: Wait>(&mut self, rt: &R, scheduler: &Scheduler) -> bool
-        requires place { self.old.unanswered < known_free self.old.responses }
-        requires behind { self.old.unanswered ≡ 0 }
+        requires place { self.old.postings.unanswered < known_free self.old.responses }
+        requires behind { self.old.postings.unanswered ≡ 0 }
         requires next { self.old.next ≡ Some (Asked Copy) }
-        ensures feed { self.new.feed ≡ self.old.feed }
+        ensures feed { self.new.postings.feed ≡ self.old.postings.feed }
         ensures next { self.new.next ≡ self.old.next }
     {
         match self.what_came(rt, scheduler, Wish::Copy) {
@@ -352,13 +364,13 @@ impl Session {
 
     // Tells what comes of a step of a search, if anything.
     fn tell_step(&mut self, step: Step)
-        requires place { self.old.unanswered < known_free self.old.responses }
-        requires other { IfSome step.response (λ response. is_answer response ≡ false) }
+        requires place { self.old.postings.unanswered < known_free self.old.responses }
+        requires other { IfSome step.response IsOther }
         requires right { IfSome self.old.next (λ message.
             IfSome step.response (IsResponseTo message)) }
-        ensures feed { self.new.feed ≡ self.old.feed }
+        ensures feed { self.new.postings.feed ≡ self.old.postings.feed }
         ensures next { self.new.next ≡ self.old.next }
-        ensures unanswered { self.new.unanswered ≡ self.old.unanswered }
+        ensures unanswered { self.new.postings.unanswered ≡ self.old.postings.unanswered }
     {
         if let Some(response) = step.response {
             self.respond(response);
@@ -375,23 +387,20 @@ impl Session {
         clock: &C,
         alloc: Global,
     ) -> Result<(Feed, Conversation), AllocError>
-        ensures feed { IfOk result (λ both. both.0 ≡ self.feed) }
+        ensures feed { IfOk result (λ both. both.0 ≡ self.postings.feed) }
         ensures over { IfOk result (λ both. IsOver both.0 both.1) }
     {
         let Session {
             next,
             messages,
             responses,
-            feed,
+            postings,
             wakers,
             recent,
             is_told_closing,
             ..
         } = self;
-        let mut unheard = Vec::new(alloc);
-        if let Some(message) = &next {
-            list(message, &mut unheard)?;
-        }
+        let unheard = listed(alloc, next)?;
         let mut conversation = Conversation::new(
             messages,
             responses,
@@ -400,11 +409,9 @@ impl Session {
             wakers,
             is_told_closing,
         );
-        if let Some(message) = &next {
-            conversation.refuse(message);
-        }
+        conversation.refuse_next(next);
         conversation.take_late(clock)?;
         conversation.tell_closing();
-        Ok((feed, conversation))
+        Ok((postings.into_feed(), conversation))
     }
 }

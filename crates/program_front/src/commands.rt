@@ -26,7 +26,8 @@ Keep a ledger open for counters that come and go.
 A counter is a folder PATH with two named pipes, PATH/in and PATH/out, which its owner makes with mkfifo. It says a request
 a line on PATH/in, and reads an answer a line on PATH/out, in the order of its requests. Answers are 'posted N R', where N
 is the number of the batch, 'refused REASON R', 'undecided R', 'balance A M', 'refused NoAccount', 'found K since N',
-'hello X', 'archived N', 'copied N', 'wrong TEXT' and 'closing'. What was answered as posted outlives a power failure.";
+'last R N', 'first R', 'hello X', 'archived N', 'copied N', 'wrong TEXT' and 'closing'. What was answered as posted outlives
+a power failure.";
 
 const CLOSING: &str = "\
 What was asked at the counter before is answered first. The status is 1 if no office has the counter.

@@ -46,6 +46,14 @@ pub find_told : (words : List Word) → request_fault (codes "find" ∷ words) �
 unfolding request_fault
 find_told words = behind (codes "find") ((Number ∷ []) ∷ []) words
 
+pub last_told : (words : List Word) → request_fault (codes "last" ∷ words) ≡ told_of_one [] words
+unfolding request_fault
+last_told words = behind (codes "last") ([] ∷ []) words
+
+pub first_told : (words : List Word) → request_fault (codes "first" ∷ words) ≡ told_of_one (Number ∷ []) words
+unfolding request_fault
+first_told words = behind (codes "first") ((Number ∷ []) ∷ []) words
+
 pub hello_told : (words : List Word) → request_fault (codes "hello" ∷ words) ≡ told_of_one (Number ∷ []) words
 unfolding request_fault
 hello_told words = behind (codes "hello") ((Number ∷ []) ∷ []) words
@@ -85,6 +93,6 @@ seal_told (GivenOr line) words = behind (codes "seal") ((Account ∷ []) ∷ wit
 -- what each of the two grammars knows of its names, and that of entries
 pub ruleset commands = (format_told, open_told, turn_told, bits_told, balances_told, crash_told, day_told, fills_named)
 
-pub ruleset requests = (balance_told, find_told, hello_told, copy_told, archive_told, help_told, close_told, fills_named)
+pub ruleset requests = (balance_told, find_told, last_told, first_told, hello_told, copy_told, archive_told, help_told, close_told, fills_named)
 
 pub ruleset kinds = (deposit_told, withdraw_told, transfer_told, seal_told, entry_named)

@@ -7,7 +7,7 @@ use Rattle.script_grammar.specs.Places.{Account, Name, Number, NumberIs}
 use Rattle.script_grammar.specs.declared.entries.Reference.TheVariants.{GivenOr}
 use Rattle.script_grammar.specs.declared.faults.LineFault.{LineFault}
 use Rattle.script_grammar.specs.declared.requests.Request.{Request}
-use Rattle.script_grammar.specs.declared.requests.Request.TheVariants.{Post, Balance, Find, Hello, Copy, Archive, Help, Close}
+use Rattle.script_grammar.specs.declared.requests.Request.TheVariants.{Post, Balance, Find, Last, First, Hello, Copy, Archive, Help, Close}
 
 -- the form of each request but entries
 abbrev pub balance_request : List Field
@@ -15,6 +15,12 @@ balance_request = Name (codes "balance") ∷ Account ∷ []
 
 abbrev pub find_request : List Field
 find_request = Name (codes "find") ∷ Number ∷ []
+
+abbrev pub last_request : List Field
+last_request = Name (codes "last") ∷ []
+
+abbrev pub first_request : List Field
+first_request = Name (codes "first") ∷ Number ∷ []
 
 abbrev pub hello_request : List Field
 hello_request = Name (codes "hello") ∷ Number ∷ []
@@ -34,23 +40,26 @@ close_request = Name (codes "close") ∷ []
 -- the forms of a counter's lines
 abbrev pub request_forms : List (List Field)
 request_forms =
-    entries_given ++ (balance_request ∷ find_request ∷ hello_request ∷ copy_request ∷ archive_request ∷ help_request ∷ close_request ∷ [])
+    entries_given ++ (balance_request ∷ find_request ∷ last_request ∷ first_request ∷ hello_request ∷ copy_request ∷ archive_request ∷ help_request ∷ close_request
+    ∷ [])
 
 -- what is wrong with a counter's line of these words, the first that holds
 unfoldable pub request_fault : List (List ℕ) → Option LineFault
 request_fault words = fault_by request_forms words
 
--- the words of the line of this number spell the request
-unfoldable pub SpellsRequest : List (List ℕ) → ℕ → Request → Type 0
-SpellsRequest words line (Post entry) = SpellsEntry (GivenOr line) words entry
-SpellsRequest words line (Balance account) = Fills words balance_request (NumberIs account ∷ [])
-SpellsRequest words line (Find reference) = Fills words find_request (NumberIs reference ∷ [])
-SpellsRequest words line (Hello number) = Fills words hello_request (NumberIs number ∷ [])
-SpellsRequest words line Copy = Fills words copy_request []
-SpellsRequest words line Archive = Fills words archive_request []
-SpellsRequest words line Help = Fills words help_request []
-SpellsRequest words line Close = Fills words close_request []
+-- the words spell the request; an entry without a reference has reference 0
+unfoldable pub SpellsRequest : List (List ℕ) → Request → Type 0
+SpellsRequest words (Post entry) = SpellsEntry (GivenOr 0) words entry
+SpellsRequest words (Balance account) = Fills words balance_request (NumberIs account ∷ [])
+SpellsRequest words (Find reference) = Fills words find_request (NumberIs reference ∷ [])
+SpellsRequest words Last = Fills words last_request []
+SpellsRequest words (First reference) = Fills words first_request (NumberIs reference ∷ [])
+SpellsRequest words (Hello number) = Fills words hello_request (NumberIs number ∷ [])
+SpellsRequest words Copy = Fills words copy_request []
+SpellsRequest words Archive = Fills words archive_request []
+SpellsRequest words Help = Fills words help_request []
+SpellsRequest words Close = Fills words close_request []
 
 -- what reading a counter's line of these words answers
-unfoldable pub IsRequestRead : List (List ℕ) → ℕ → Result Request LineFault → Type 0
-IsRequestRead words line answer = IsAnswer (request_fault words) (SpellsRequest words line) answer
+unfoldable pub IsRequestRead : List (List ℕ) → Result Request LineFault → Type 0
+IsRequestRead words answer = IsAnswer (request_fault words) (SpellsRequest words) answer

@@ -14,12 +14,16 @@ use turn_ledger::Entry;
 #[derive(Clone, Copy, Debug, PartialEq, Eq)]
 pub enum Request {
     /// `deposit A M`, `withdraw A M`, `transfer A B M` or `seal A`: post this entry. A number behind it is its
-    /// reference.
+    /// reference; without one it has reference 0.
     Post(Entry),
     /// `balance A`: what account A holds.
     Balance { account: u32 },
     /// `find R`: under which numbers entries of reference R were posted.
     Find { reference: u64 },
+    /// `last`: the greatest reference that was posted at this counter.
+    Last,
+    /// `first R`: references of this counter begin with R.
+    First { reference: u64 },
     /// `hello X`: it is answered by the same, so that a client knows which answers are its own.
     Hello { number: u64 },
     /// `copy`: a copy of the ledger is made.
@@ -33,23 +37,23 @@ pub enum Request {
 }
 
 /// The request of a line, or None if the line has no words or is a comment. An entry's reference is the number behind
-/// it, and where there is none the number of its line.
+/// it, or 0 if there is none.
 ///
 /// # Errors
 /// [`LineFault`], the first thing that is wrong with the line; never `BadBits`.
 #[tactic(auto, using(crate::proofs::GrammarLemmas::skipped), unfolding(crate::specs::Requests::IsRequestRead, crate::specs::Requests::request_fault))]
-pub fn read_request(line: &[u8], number: u64) -> Result<Option<Request>, LineFault>
+pub fn read_request(line: &[u8]) -> Result<Option<Request>, LineFault>
     ensures fault { IfErr result (λ fault. request_fault (words_of line.now) ≡ Some fault) }
     ensures sound { OnOk result (request_fault (words_of line.now) ≡ None) }
     ensures skipped { IfOk result (λ found. is_none found ≡ is_skipped (words_of line.now)) }
     ensures request { IfOk result (λ found.
-        IfSome found (λ request. SpellsRequest (words_of line.now) number request)) }
+        IfSome found (SpellsRequest (words_of line.now))) }
 {
     let mut words = Words::of(line);
     let Some(name) = first_name(&mut words) else {
         return Ok(None);
     };
-    match read_requested(name, words, number) {
+    match read_requested(name, words) {
         Ok(request) => Ok(Some(request)),
         Err(fault) => Err(fault),
     }
@@ -57,9 +61,9 @@ pub fn read_request(line: &[u8], number: u64) -> Result<Option<Request>, LineFau
 
 // The request of this name, which begins no comment.
 #[tactic(auto, using(crate::proofs::NameLemmas::requests), unfolding(crate::specs::Requests::IsRequestRead, crate::specs::Requests::SpellsRequest))]
-fn read_requested(name: &[u8], words: Words<'_>, line: u64) -> Result<Request, LineFault>
+fn read_requested(name: &[u8], words: Words<'_>) -> Result<Request, LineFault>
     requires { (slice_index name.now 0 == 35) ≡ false }
-    ensures { IsRequestRead (name.now ∷ words.entry) line result }
+    ensures { IsRequestRead (name.now ∷ words.entry) result }
 {
     match text_of(name) {
         "balance" => {
@@ -69,6 +73,14 @@ fn read_requested(name: &[u8], words: Words<'_>, line: u64) -> Result<Request, L
         "find" => {
             let One(reference) = exactly(words)?;
             Ok(Request::Find { reference })
+        }
+        "last" => {
+            let Nothing = exactly(words)?;
+            Ok(Request::Last)
+        }
+        "first" => {
+            let One(reference) = exactly(words)?;
+            Ok(Request::First { reference })
         }
         "hello" => {
             let One(number) = exactly(words)?;
@@ -91,7 +103,7 @@ fn read_requested(name: &[u8], words: Words<'_>, line: u64) -> Result<Request, L
             Ok(Request::Close)
         }
         _ => {
-            let entry = read_entry(name, words, Reference::GivenOr(line))?;
+            let entry = read_entry(name, words, Reference::GivenOr(0))?;
             Ok(Request::Post(entry))
         }
     }

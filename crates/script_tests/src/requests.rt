@@ -2,9 +2,9 @@
 use script_grammar::{Request, read_request};
 use turn_ledger::Entry;
 
-// The request of a line, the seventh of its counter.
+// The request of a line.
 fn request(line: &[u8]) -> Option<Request> {
-    read_request(line, 7).ok().flatten()
+    read_request(line).ok().flatten()
 }
 
 fn sealed(reference: u64) -> Option<Request> {
@@ -12,11 +12,11 @@ fn sealed(reference: u64) -> Option<Request> {
     Some(Request::Post(Entry::Seal { account, reference }))
 }
 
-// An entry has the number of its line as its reference, or another one.
+// An entry has the number behind it as its reference, and else 0.
 #[test]
 fn each_request_is_read(rt: HostRuntime) {
     let (account, reference) = (4_294_967_295, 18_446_744_073_709_551_615);
-    assert!(rt; request(b"seal 1024") == sealed(7) && request(b"seal 1024 9") == sealed(9));
+    assert!(rt; request(b"seal 1024") == sealed(0) && request(b"seal 1024 9") == sealed(9));
     assert!(rt;
         request(b"balance 4294967295") == Some(Request::Balance { account })
             && request(b" find  018446744073709551615 ") == Some(Request::Find { reference })

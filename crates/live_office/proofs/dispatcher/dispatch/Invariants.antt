@@ -4,4 +4,4 @@ use Rattle.live_office.proofs.dispatcher.dispatch.Given as goal
 
 -- each feed stands where it stood
 abbrev pub invariant-loop : goal.invariant-loop
-invariant-loop g l = AllStandAt (map (λ session. session.feed) l.initial.sessions.items) (map (λ session. session.feed) l.sessions.items)
+invariant-loop g l = AllStandAt (map (λ session. session.postings.feed) l.initial.sessions.items) (map (λ session. session.postings.feed) l.sessions.items)

@@ -12,7 +12,7 @@ use Rattle.live_office.proofs.open_office.keep_open.Goals as goal
 
 -- the feeds of sessions
 abbrev feeds : List Session → List FeedState
-feeds sessions = map (λ (session : Session). session.feed) sessions
+feeds sessions = map (λ (session : Session). session.postings.feed) sessions
 
 pub settled-requires : goal.settled-requires
 settled-requires g c =

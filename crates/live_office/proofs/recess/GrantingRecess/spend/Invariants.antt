@@ -1,4 +1,3 @@
-use Rattle.std.proofs.Common.{◌≡◌}
 use Rattle.office_day.specs.Spans.{WasLookedAt}
 use Rattle.office_day.specs.Archive.{WasKept}
 use Rattle.live_office.proofs.recess.GrantingRecess.spend.Given as goal

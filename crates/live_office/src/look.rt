@@ -1,0 +1,122 @@
+//! A look at what was posted at a counter, step by step.
+ghost use Rattle.std.specs.Prelude.{◌≡◌, ◌↔◌, ◌⊎◌, ℕ, IfOk, Some};
+ghost use Rattle.station_desk.specs.declared.errand.Question.TheVariants as question;
+ghost use Rattle.live_office.specs.Looked.{seen_with, latest_with, GoesOnAt, StandsAs};
+
+use crate::responses::Judgement;
+use line_lock::{FindRefusal, Latest, Posting, Reached};
+use station_desk::Question;
+use std::fmt;
+use turn_ledger::Entry;
+
+/// How far the look is that is under way.
+#[derive(Clone, Copy, Debug)]
+pub(crate) struct Look {
+    // The number of the record that is looked at next.
+    from: u64,
+    // The posting with the greatest reference so far; of several the last.
+    posting: Option<Posting>,
+}
+
+/// What a look tells.
+#[derive(Clone, Copy, Debug, PartialEq, Eq)]
+pub struct Seen {
+    /// The counter's posting with the greatest reference, of those that were looked at; of several the last.
+    pub posting: Option<Posting>,
+    /// The number of the first record in sight.
+    pub since: u64,
+}
+
+/// The reference and the number of its batch; or that there is none; or from which batch on there is none, if earlier
+/// ones aren't in sight.
+impl fmt::Display for Seen {
+    fn fmt<W: fmt::Write>(&self, f: &mut fmt::Formatter<W>) -> fmt::Result {
+        match (self.posting, self.since) {
+            (Some(last), _) => write!(f, "{} {}", last.entry.reference(), last.number),
+            (None, 0) => f.write_str("none"),
+            (None, since) => write!(f, "unknown since {since}"),
+        }
+    }
+}
+
+impl Look {
+    /// A look that begins with the first record.
+    pub(crate) const BEGINNING: Look = Look {
+        from: 0,
+        posting: None,
+    };
+
+    /// What is asked next: the posting with the greatest reference, up to that one.
+    pub(crate) fn question(&self, limit: u64) -> Question
+        ensures { result ≡ question.Latest limit self.now.from }
+    {
+        Question::Latest {
+            limit,
+            from: self.from,
+        }
+    }
+
+    /// Goes on by what was found. What the whole look tells, if it is over.
+    pub(crate) fn go_on(
+        &mut self,
+        step: Result<Latest, FindRefusal>,
+    ) -> Option<Result<Seen, FindRefusal>>
+        ensures seen { result ≡ seen_with self.old.posting step }
+        ensures latest { IfOk step (λ latest.
+            self.new.posting ≡ latest_with self.old.posting latest.posting) }
+        ensures meets { IfOk step (λ latest. GoesOnAt self.old.from latest.reached self.new.from) }
+    {
+        let latest = match step {
+            Ok(latest) => latest,
+            Err(refusal) => return Some(Err(refusal)),
+        };
+        self.posting = later_of(self.posting, latest.posting);
+        match latest.reached {
+            Reached::Further(number) => {
+                self.from = number;
+                None
+            }
+            Reached::LookingBack => None,
+            Reached::All(since) => Some(Ok(Seen {
+                posting: self.posting,
+                since,
+            })),
+        }
+    }
+}
+
+// Which of two postings has the greater reference; the second one if they have the same.
+fn later_of(before: Option<Posting>, next: Option<Posting>) -> Option<Posting>
+    ensures { result ≡ latest_with before next }
+{
+    match (before, next) {
+        (Some(first), Some(second)) => {
+            if second.entry.reference() < first.entry.reference() {
+                before
+            } else {
+                next
+            }
+        }
+        (Some(_), None) => before,
+        (None, _) => next,
+    }
+}
+
+/// What becomes of an entry whose reference isn't above those that were posted, by the look at the postings up to it:
+/// it is answered as it was then, if it stands.
+pub(crate) fn judge(entry: &Entry, posting: Option<Posting>) -> Judgement
+    ensures stands { (number : ℕ) → (result ≡ Judgement.Posted number)
+        ↔ (posting ≡ Some (record { number = number; entry = entry.now })) }
+    ensures other { (result ≡ Judgement.Reference) ⊎ StandsAs entry.now posting }
+{
+    match posting {
+        Some(found) => {
+            if found.entry == *entry {
+                Judgement::Posted(found.number)
+            } else {
+                Judgement::Reference
+            }
+        }
+        None => Judgement::Reference,
+    }
+}
