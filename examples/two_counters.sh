@@ -2,10 +2,8 @@
 mkdir north south && mkfifo north/in north/out south/in south/out
 derbyfig serve office.ledger --format 100 --counter north --counter south > office.log &
 ask() { echo "$2" > "$1/in" && read -r answer < "$1/out" && echo "$1: $2: $answer"; }
-ask north 'deposit 1 500 71'
-ask north 'deposit 1 500 71' # said again: it is answered as before, and not posted twice
+ask north 'deposit 1 500 71'  # 500 units to account 1, with reference 71
+ask north 'deposit 1 500 71'  # said again: it is answered as before, and not posted twice
 ask south 'transfer 1 2 200 1'
-ask south 'transfer 2 1 900 2'
-ask north 'balance 2'
-ask south 'find 71' && read -r answer < south/out && echo "south: $answer"
+ask south 'transfer 2 1 900 2' # more than account 2 holds
 ask north 'close' && wait

@@ -6,6 +6,7 @@ from pathlib import Path
 
 from commands import Copy
 from documents import beside_fault, blocks, link_faults, links, places
+from sentences import sentence_faults
 
 NOT_RUN = "not run by checks/documents.sh"
 
@@ -30,6 +31,7 @@ def text_faults(document, text):
             yield f"no file {place}"
     for mark, _, body in blocks(text):
         yield from block_faults(mark, body)
+    yield from sentence_faults(document, text)
 
 
 def command_faults(text, copy):
