@@ -47,6 +47,7 @@ CASES = (
     archives.an_archive_that_fails,
     retries.never_twice,
     retries.unknown_at_most,
+    retries.out_of_sight,
 )
 
 

@@ -149,5 +149,34 @@ def unknown_at_most(case):
     require_same(found[-1], sorted(set(found[-1])), "what the client in the shell posted")
 
 
+def out_of_sight(case):
+    """What others have pushed out of both banks isn't posted again, and references go on where the client says."""
+    idle, busy = case.counters(2)
+    with case.formatted([idle, busy], 2) as office:
+        office.opened(idle, busy)
+        require_same(idle.ask("deposit 1 5 7"), ["posted 0 7"], "a posting")
+        for number in range(5):
+            require_same(busy.ask("deposit 2 1"), [f"posted {number + 1} 0"], "a posting of the other one")
+        require_same(idle.ask("deposit 1 5 7"), ["refused Unknown since 2 7"], "the posting, said again")
+        require_same(idle.ask("deposit 1 5 8"), ["posted 6 8"], "the next one")
+        for number in range(5):
+            require_same(busy.ask("deposit 2 1"), [f"posted {number + 7} 0"], "a posting of the other one")
+        require_same(idle.ask("close"), ["closing"], "the answer to close")
+        office.closed()
+    with case.office([idle, busy]) as office:
+        require_same(office.opened(), ["opened 2 next 12 total 20"], "the second opening")
+        require_same(busy.hear(1), ["closing"], "what the other one was told")
+        for reference in (7, 8, 9):
+            require_same(idle.ask(f"deposit 1 5 {reference}"), [f"refused Unknown since 8 {reference}"], "any reference")
+        require_same(idle.ask("last"), ["last unknown since 8"], "the last one")
+        require_same(idle.ask("first 9"), ["first 9"], "where they go on")
+        require_same(idle.ask("deposit 1 5 8"), ["refused Unknown since 8 8"], "one below")
+        require_same(idle.ask("deposit 1 5 9"), ["posted 12 9"], "that one")
+        require_same(idle.ask("deposit 1 5 9"), ["posted 12 9"], "that one, said again")
+        require_same(idle.ask("balance 1"), ["balance 1 15"], "what was posted in all")
+        require_same(idle.ask("close"), ["closing"], "the answer to close")
+        office.closed()
+
+
 if __name__ == "__main__":
     post_all(*sys.argv[1:])

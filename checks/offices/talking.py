@@ -189,6 +189,8 @@ def behind_a_checkpoint(case):
         require_same(client.ask("find 5", 2), ["posted 4 5", "found 1 since 2"], "a reference behind the checkpoint")
         require_same(client.ask("find 3", 2), ["posted 2 3", "found 1 since 2"], "a reference of the bank before it")
         require_same(client.ask("find 1"), ["found 0 since 2"], "a reference before both banks")
+        require_same(client.ask("deposit 1 1 3"), ["posted 2 3"], "a posting of the bank before it, said again")
+        require_same(client.ask("deposit 1 1 1"), ["refused Unknown since 2 1"], "one before both banks, said again")
         require_same(client.ask("balance 1"), ["balance 1 5"], "a balance")
         require_same(client.ask("close"), ["closing"], "the answer to close")
         office.closed()

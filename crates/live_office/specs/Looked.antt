@@ -1,6 +1,5 @@
 -- What a look at a counter's postings tells, from what each of its steps told.
 use Rattle.std.specs.Prelude.{◌≡◌, ℕ, zero, suc, nat_lt, if◌then◌else◌, Option, None, Some, Result, Ok, Err, IsSomeAnd}
-use Rattle.turn_ledger.specs.declared.entry.Entry.{Entry}
 use Rattle.turn_ledger.specs.Entry.{reference_of}
 use Rattle.turn_clerk.specs.declared.postings.Posting.{Posting}
 use Rattle.turn_clerk.specs.declared.postings.Latest.{Latest}
@@ -34,9 +33,9 @@ GoesOnAt from (reached.Further number) next = next ≡ number
 GoesOnAt from (reached.All since) next = next ≡ from
 GoesOnAt from reached.LookingBack next = next ≡ from
 
--- the posting is of that entry
-abbrev pub StandsAs : Entry → Option Posting → Type 0
-StandsAs entry posting = IsSomeAnd posting (λ found. found.entry ≡ entry)
+-- there is a posting, with that reference
+abbrev pub IsUnder : ℕ → Option Posting → Type 0
+IsUnder reference posting = IsSomeAnd posting (λ found. reference_of found.entry ≡ reference)
 
 -- All are known if one is in sight, or all batches are.
 abbrev pub earlier_of : Option Posting → ℕ → Earlier

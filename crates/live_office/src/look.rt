@@ -1,7 +1,9 @@
 //! A look at what was posted at a counter, step by step.
-ghost use Rattle.std.specs.Prelude.{◌≡◌, ◌↔◌, ◌⊎◌, ℕ, IfOk, Some};
+ghost use Rattle.std.specs.Prelude.{◌≡◌, ◌≢◌, ◌↔◌, ◌<◌, ℕ, IfOk, Some};
+ghost use Rattle.turn_clerk.specs.declared.refusals.FindRefusal.{FindRefusal};
+ghost use Rattle.turn_ledger.specs.Entry.{reference_of};
 ghost use Rattle.station_desk.specs.declared.errand.Question.TheVariants as question;
-ghost use Rattle.live_office.specs.Looked.{seen_with, latest_with, GoesOnAt, StandsAs};
+ghost use Rattle.live_office.specs.Looked.{seen_with, latest_with, GoesOnAt, IsUnder};
 
 use crate::responses::Judgement;
 use line_lock::{FindRefusal, Latest, Posting, Reached};
@@ -103,20 +105,25 @@ fn later_of(before: Option<Posting>, next: Option<Posting>) -> Option<Posting>
 }
 
 /// What becomes of an entry whose reference isn't above those that were posted, by the look at the postings up to it:
-/// it is answered as it was then, if it stands.
-pub(crate) fn judge(entry: &Entry, posting: Option<Posting>) -> Judgement
+/// it is answered as it was then, if it stands. If nothing in sight has its reference, and not all batches are in sight,
+/// nobody knows.
+pub(crate) fn judge(entry: &Entry, seen: &Seen) -> Judgement
     ensures stands { (number : ℕ) → (result ≡ Judgement.Posted number)
-        ↔ (posting ≡ Some (record { number = number; entry = entry.now })) }
-    ensures other { (result ≡ Judgement.Reference) ⊎ StandsAs entry.now posting }
+        ↔ (seen.now.posting ≡ Some (record { number = number; entry = entry.now })) }
+    ensures unknown { (since : ℕ) → (result ≡ Judgement.Unknown since)
+        ↔ (0 < since) × (since ≡ seen.now.since)
+        × (IsUnder (reference_of entry.now) seen.now.posting → ⊥) }
+    ensures seen { (refusal : FindRefusal) → result ≢ Judgement.NotSeen refusal }
 {
-    match posting {
-        Some(found) => {
-            if found.entry == *entry {
-                Judgement::Posted(found.number)
+    match seen.posting {
+        Some(found) if found.entry == *entry => Judgement::Posted(found.number),
+        Some(found) if found.entry.reference() == entry.reference() => Judgement::Reference,
+        Some(_) | None => {
+            if seen.since > 0 {
+                Judgement::Unknown(seen.since)
             } else {
                 Judgement::Reference
             }
         }
-        None => Judgement::Reference,
     }
 }

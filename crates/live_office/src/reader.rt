@@ -37,8 +37,6 @@ pub(crate) struct Reader<I: Read> {
     input: I,
     cutter: LineCutter,
     beginning: Beginning,
-    // How many lines have ended.
-    lines: u64,
     // Whether requests are dropped until the client says hello.
     awaits_hello: bool,
     messages: Producer<Message>,
@@ -56,7 +54,6 @@ impl<I: Read + Drop> Reader<I> {
             input,
             cutter,
             beginning: Beginning::Blank,
-            lines: 0,
             awaits_hello,
             messages,
         }
@@ -109,7 +106,6 @@ impl<I: Read + Drop> Reader<I> {
         if cut == Cut::Nothing {
             return None;
         }
-        self.lines = self.lines.saturating_add(1);
         if cut == Cut::TooLong {
             let is_comment = self.beginning == Beginning::Comment;
             return (!is_comment).then_some(Message::Wrong(WrongLine::TooLong));

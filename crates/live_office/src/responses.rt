@@ -115,7 +115,7 @@ pub enum Judgement {
     Posted(u64),
     /// Under its reference another entry stands, or none, and one above it was posted.
     Reference,
-    /// No reference of the counter is in sight, from the batch of this number on, so the entry may stand before it.
+    /// What stands under its reference isn't in sight, from the batch of this number on: the entry may stand before it.
     Unknown(u64),
     /// The ledger wasn't looked at to its end.
     NotSeen(FindRefusal),

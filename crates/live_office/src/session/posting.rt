@@ -105,7 +105,7 @@ impl Session {
     {
         let judgement = match self.look(rt, scheduler, entry.reference()) {
             None => return false,
-            Some(Ok(seen)) => judge(&entry, seen.posting),
+            Some(Ok(seen)) => judge(&entry, &seen),
             Some(Err(refusal)) => Judgement::NotSeen(refusal),
         };
         self.tell_judgement(entry, judgement)
