@@ -43,9 +43,6 @@ def keeps_each_posting(case):
         clients = [Client(at, 1_000_000 * number + 10_000 * at + 1, counter) for at, counter in enumerate(counters[:-1])]
         with case.office(counters, "--archive", str(books)) as office:
             office.opened(*counters)
-            # those of the last round may be out of sight
-            for client in clients:
-                require_same(client.counter.ask(f"first {client.first}"), [f"first {client.first}"], "where references begin")
             talk_until(clients, moments.randint(1, TOLD))
             before = [row for client in clients for row in client.postings()]
             answer, = counters[-1].ask("archive")

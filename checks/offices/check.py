@@ -48,6 +48,7 @@ CASES = (
     retries.never_twice,
     retries.unknown_at_most,
     retries.out_of_sight,
+    retries.in_the_archive,
 )
 
 

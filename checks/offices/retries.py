@@ -178,5 +178,30 @@ def out_of_sight(case):
         office.closed()
 
 
+def in_the_archive(case):
+    """An office with an archive knows the references that are in neither bank: no client has to say where they go on."""
+    idle, busy = case.counters(2)
+    books = case.folder / "books"
+    books.mkdir()
+    with case.formatted([idle, busy], 2, "--archive", str(books)) as office:
+        office.opened(idle, busy)
+        require_same(idle.ask("deposit 1 5 7"), ["posted 0 7"], "a posting")
+        for number in range(8):
+            require_same(busy.ask("deposit 2 1"), [f"posted {number + 1} 0"], "a posting of the other one")
+        require_same(idle.ask("last"), ["last 7 0"], "the last one")
+        require_same(idle.ask("close"), ["closing"], "the answer to close")
+        office.closed()
+    with case.office([idle, busy], "--archive", str(books)) as office:
+        office.opened()
+        require_same(busy.hear(1), ["closing"], "what the other one was told")
+        require_same(idle.ask("deposit 1 5 8"), ["posted 9 8"], "the next one")
+        require_same(idle.ask("deposit 1 5 7"), ["refused Unknown since 6 7"], "the first one, said again")
+        require_same(idle.ask("first 8"), ["refused Reference 8"], "where they can't go on")
+        require_same(busy.ask("deposit 2 1 1"), ["posted 10 1"], "the first reference of the other one")
+        require_same(idle.ask("balance 1"), ["balance 1 10"], "what was posted in all")
+        require_same(idle.ask("close"), ["closing"], "the answer to close")
+        office.closed()
+
+
 if __name__ == "__main__":
     post_all(*sys.argv[1:])

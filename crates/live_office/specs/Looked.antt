@@ -1,5 +1,5 @@
 -- What a look at a counter's postings tells, from what each of its steps told.
-use Rattle.std.specs.Prelude.{◌≡◌, ℕ, zero, suc, nat_lt, if◌then◌else◌, Option, None, Some, Result, Ok, Err, IsSomeAnd}
+use Rattle.std.specs.Prelude.{◌≡◌, ℕ, zero, suc, min, nat_lt, if◌then◌else◌, Option, None, Some, Result, Ok, Err, IsSomeAnd}
 use Rattle.turn_ledger.specs.Entry.{reference_of}
 use Rattle.turn_clerk.specs.declared.postings.Posting.{Posting}
 use Rattle.turn_clerk.specs.declared.postings.Latest.{Latest}
@@ -32,6 +32,11 @@ abbrev pub GoesOnAt : ℕ → Reached → ℕ → Type 0
 GoesOnAt from (reached.Further number) next = next ≡ number
 GoesOnAt from (reached.All since) next = next ≡ from
 GoesOnAt from reached.LookingBack next = next ≡ from
+
+-- what a look tells that goes on in an archive, if that could be read
+abbrev pub seen_farther : ℕ → Option Seen → Seen
+seen_farther since None = record { posting = None; since = since }
+seen_farther since (Some seen) = record { posting = seen.posting; since = min seen.since since }
 
 -- there is a posting, with that reference
 abbrev pub IsUnder : ℕ → Option Posting → Type 0

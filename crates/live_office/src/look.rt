@@ -3,13 +3,17 @@ ghost use Rattle.std.specs.Prelude.{◌≡◌, ◌≢◌, ◌↔◌, ◌<◌, �
 ghost use Rattle.turn_clerk.specs.declared.refusals.FindRefusal.{FindRefusal};
 ghost use Rattle.turn_ledger.specs.Entry.{reference_of};
 ghost use Rattle.station_desk.specs.declared.errand.Question.TheVariants as question;
-ghost use Rattle.live_office.specs.Looked.{seen_with, latest_with, GoesOnAt, IsUnder};
+ghost use Rattle.live_office.specs.Looked.{seen_with, latest_with, seen_farther, GoesOnAt, IsUnder};
 
 use crate::responses::Judgement;
-use line_lock::{FindRefusal, Latest, Posting, Reached};
+use line_lock::{Clerk, FindRefusal, Latest, Posting, Reached};
+use office_day::Device;
 use station_desk::Question;
 use std::fmt;
 use turn_ledger::Entry;
+
+/// More steps than any ledger needs: of 2,000,000 records, and as many slots of a bank that is looked back to.
+const MOST_STEPS: u64 = 20_000;
 
 /// How far the look is that is under way.
 #[derive(Clone, Copy, Debug)]
@@ -87,6 +91,34 @@ impl Look {
     }
 }
 
+/// The posting of a station with the greatest reference in the records in sight of a clerk; None if they can't be read.
+pub fn last_posting<D: Device>(clerk: &mut Clerk<D>, station: u8) -> Option<Seen> {
+    let mut look = Look::BEGINNING;
+    for _ in 0..MOST_STEPS {
+        let step = clerk.latest(station, u64::MAX, look.from);
+        if let Some(seen) = look.go_on(step) {
+            return seen.ok();
+        }
+    }
+    None
+}
+
+/// What a look tells that goes on in the archive, behind one that saw nothing from that number on.
+pub(crate) fn farther(since: u64, in_archive: Option<Seen>) -> Seen
+    ensures { result ≡ seen_farther since in_archive }
+{
+    match in_archive {
+        Some(seen) => Seen {
+            posting: seen.posting,
+            since: seen.since.min(since),
+        },
+        None => Seen {
+            posting: None,
+            since,
+        },
+    }
+}
+
 // Which of two postings has the greater reference; the second one if they have the same.
 fn later_of(before: Option<Posting>, next: Option<Posting>) -> Option<Posting>
     ensures { result ≡ latest_with before next }
@@ -104,9 +136,9 @@ fn later_of(before: Option<Posting>, next: Option<Posting>) -> Option<Posting>
     }
 }
 
-/// What becomes of an entry whose reference isn't above those that were posted, by the look at the postings up to it:
-/// it is answered as it was then, if it stands. If nothing in sight has its reference, and not all batches are in sight,
-/// nobody knows.
+/// What becomes of an entry whose reference isn't above those that were posted, by the look at the postings up to it.
+/// It is answered as it was then, if it stands. If nothing in sight has its reference, and there are batches out of
+/// sight, nobody knows.
 pub(crate) fn judge(entry: &Entry, seen: &Seen) -> Judgement
     ensures stands { (number : ℕ) → (result ≡ Judgement.Posted number)
         ↔ (seen.now.posting ≡ Some (record { number = number; entry = entry.now })) }

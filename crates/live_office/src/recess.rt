@@ -3,6 +3,7 @@ ghost use Rattle.std.specs.Prelude.{◌≡◌, ◌⊎◌, ◌↔◌, ℕ, true, 
 ghost use Rattle.office_day.specs.Archive.{Archive, WasKept, next_of};
 ghost use Rattle.office_day.specs.Spans.{WasLookedAt};
 
+use crate::look::Seen;
 use crate::scheduler::Scheduler;
 use office_day::{Device, Recess};
 use std::sync::Wait;
@@ -33,7 +34,7 @@ pub enum Kept {
     Failed,
 }
 
-/// Who keeps the archive of an office, and makes copies of its ledger.
+/// Who keeps the archive of an office, looks into it, and makes copies of its ledger.
 pub trait Keeper<D: Device> {
     ghost use Rattle.office_day.specs.Archive.{no_archive};
 
@@ -58,6 +59,11 @@ pub trait Keeper<D: Device> {
     fn copy(&mut self, device: D) -> (D, Result<u64, CopyRefusal>)
         ensures looked { WasLookedAt (D.state device) (D.state result.0) }
         ensures archive { archive self.new ≡ archive self.old };
+
+    /// The posting of a station with the greatest reference in the archive, and the number of the first batch that is
+    /// in it. None without an archive, or if it can't be read.
+    fn last(&mut self, station: u8) -> Option<Seen>
+        ensures archive { archive self.new ≡ archive self.old };
 }
 
 /// What a counter wants of a recess.
@@ -65,6 +71,8 @@ pub trait Keeper<D: Device> {
 pub(crate) enum Wish {
     Archive,
     Copy,
+    /// The station's last posting in the archive.
+    Last,
 }
 
 /// What came of it.
@@ -72,6 +80,7 @@ pub(crate) enum Wish {
 pub(crate) enum Came {
     Archive(Kept),
     Copy(Result<u64, CopyRefusal>),
+    Last(Option<Seen>),
 }
 
 /// A live office between two spans: its archive is kept, and copies are made that were asked for. If the archive can't
@@ -115,6 +124,7 @@ impl<R: Wait, K> Granting<'_, R, K> {
                 let (device, copied) = self.keeper.copy(device);
                 (device, Came::Copy(copied))
             }
+            Wish::Last => (device, Came::Last(self.keeper.last(station))),
         };
         self.scheduler.tell(self.rt, station, came);
         device

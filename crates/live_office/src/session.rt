@@ -60,6 +60,8 @@ pub(crate) struct Session {
     is_asked: bool,
     search: Search,
     look: Look,
+    // Where the records in sight begin, in which a look saw nothing, and which goes on in the archive.
+    out_of_sight: Option<u64>,
     recent: Recent,
     // Whether the counter was told that the office closes.
     is_told_closing: bool,
@@ -98,6 +100,7 @@ impl Session {
             is_asked: false,
             search: Search::BEGINNING,
             look: Look::BEGINNING,
+            out_of_sight: None,
             recent,
             is_told_closing: false,
         }
@@ -343,7 +346,7 @@ impl Session {
         match self.what_came(rt, scheduler, Wish::Archive) {
             Some(Came::Archive(Kept::UpTo(next))) => self.respond(Response::Archived { next }),
             Some(Came::Archive(Kept::NoArchive)) => self.respond(Response::NoArchive),
-            Some(Came::Archive(Kept::Failed) | Came::Copy(_)) | None => false,
+            Some(Came::Archive(Kept::Failed) | Came::Copy(_) | Came::Last(_)) | None => false,
         }
     }
 
@@ -358,7 +361,7 @@ impl Session {
         match self.what_came(rt, scheduler, Wish::Copy) {
             Some(Came::Copy(Ok(next))) => self.respond(Response::Copied { next }),
             Some(Came::Copy(Err(refusal))) => self.respond(Response::NoCopy(refusal)),
-            Some(Came::Archive(_)) | None => false,
+            Some(Came::Archive(_) | Came::Last(_)) | None => false,
         }
     }
 

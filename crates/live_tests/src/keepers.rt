@@ -1,5 +1,5 @@
 //! Who keeps an archive, and copies, of an office in memory.
-use live_office::{CopyRefusal, Keeper, Kept};
+use live_office::{CopyRefusal, Keeper, Kept, Seen};
 use office_day::{Clerk, MemoryArchive};
 use sector_device::Device;
 use std::test::Fail;
@@ -22,6 +22,10 @@ impl<D: Device> Keeper<D> for Sample {
             return (device, Ok(7));
         }
         (device, Err(CopyRefusal::Occupied))
+    }
+
+    fn last(&mut self, _station: u8) -> Option<Seen> {
+        None
     }
 }
 

@@ -4,12 +4,13 @@ ghost use Rattle.office_engine.specs.Copies.{copy_refusal_of};
 ghost use Rattle.office_engine.specs.FolderArchive.{folder_archive};
 
 use crate::faults::OfficeFault;
+use crate::looking_back::last_in_archive;
 use crate::serving::Serving;
 use archive_engine::{ArchiveFault, Folder, archive_device};
 use file_device::{DeviceRefusal, FileFault};
 use journal_recovery::{MigrateRefusal, OpenRefusal, Recovered, recover};
 use ledger_file::{CopyRefusal as CopyFault, Formatting, LedgerRefusal, copy_ledger};
-use live_office::{CopyRefusal, Keeper, Kept};
+use live_office::{CopyRefusal, Keeper, Kept, Seen};
 use sector_device::Device;
 use std::alloc::{Alloc, Global};
 use std::fs::{File, Files};
@@ -23,6 +24,8 @@ pub(crate) struct Archivist<'a, 'r, R> {
     // The path of the ledger.
     path: &'a str,
     folder: Option<Folder<'a>>,
+    // The path of the archive.
+    books: Option<&'a str>,
     // The folder of the copies.
     copies: Option<&'a str>,
     fault: Option<ArchiveFault<'a>>,
@@ -44,6 +47,7 @@ impl<'a, 'r, R: Files<File = File> + Alloc<A = Global> + Clone + Drop> Archivist
             alloc,
             path: serving.path,
             folder,
+            books: serving.archive,
             copies: serving.copies,
             fault: None,
         })
@@ -110,6 +114,10 @@ impl<D: Device, R: Files<File = File> + Alloc<A = Global> + Clone + Drop> Keeper
             Ok(_) => (device, Ok(next)),
             Err(refusal) => (device, Err(refusal_of(refusal))),
         }
+    }
+
+    fn last(&mut self, station: u8) -> Option<Seen> {
+        last_in_archive(self.rt, self.alloc, self.books?, station)
     }
 }
 

@@ -8,6 +8,7 @@ mod archivist;
 mod closing;
 mod faults;
 mod keeping;
+mod looking_back;
 mod pipes;
 mod serving;
 mod source;

@@ -8,8 +8,9 @@ ghost use Rattle.live_office.specs.Conversation.{MayLook};
 ghost use Rattle.live_office.specs.Looked.{earlier_by};
 ghost use Rattle.turn_ledger.specs.Entry.{reference_of};
 
-use crate::look::{Look, Seen, judge};
+use crate::look::{Look, Seen, farther, judge};
 use crate::postings::Submission;
+use crate::recess::{Came, Wish};
 use crate::responses::{Judgement, Response};
 use crate::scheduler::Scheduler;
 use crate::session::{Earlier, Session};
@@ -171,13 +172,44 @@ impl Session {
         if self.earlier != Earlier::Unlooked {
             return Some(Ok(()));
         }
-        match self.look(rt, scheduler, u64::MAX)? {
+        match self.look_far(rt, scheduler)? {
             Ok(seen) => {
                 self.learn(seen);
                 Some(Ok(()))
             }
             Err(refusal) => Some(Err(refusal)),
         }
+    }
+
+    // Looks at all of the counter's own postings: in the records in sight, and if none is there, in the archive, for
+    // which a recess is called; None until that is done.
+    fn look_far<R: Wait>(
+        &mut self,
+        rt: &R,
+        scheduler: &Scheduler,
+    ) -> Option<Result<Seen, FindRefusal>>
+        requires behind { self.old.postings.unanswered ≡ 0 }
+        requires right { MayLook self.old.next u64.MAX }
+        ensures feed { self.new.postings.feed ≡ self.old.postings.feed }
+        ensures next { self.new.next ≡ self.old.next }
+        ensures room { self.new.responses ≡ self.old.responses }
+        ensures unanswered { self.new.postings.unanswered ≡ self.old.postings.unanswered }
+    {
+        let since = match self.out_of_sight {
+            Some(since) => since,
+            None => match self.look(rt, scheduler, u64::MAX)? {
+                Ok(seen) if seen.posting.is_none() && seen.since > 0 => seen.since,
+                seen => return Some(seen),
+            },
+        };
+        self.out_of_sight = Some(since);
+        let came = self.what_came(rt, scheduler, Wish::Last)?;
+        self.out_of_sight = None;
+        let in_archive = match came {
+            Came::Last(seen) => seen,
+            Came::Archive(_) | Came::Copy(_) => None,
+        };
+        Some(Ok(farther(since, in_archive)))
     }
 
     // Learns which reference was posted last.
@@ -211,7 +243,7 @@ impl Session {
         ensures feed { self.new.postings.feed ≡ self.old.postings.feed }
         ensures next { self.new.next ≡ self.old.next }
     {
-        match self.look(rt, scheduler, u64::MAX) {
+        match self.look_far(rt, scheduler) {
             None => false,
             Some(Ok(seen)) => {
                 self.learn(seen);
