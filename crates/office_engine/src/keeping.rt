@@ -1,5 +1,5 @@
 //! An office that is kept open, from its pipes and its device to what is told of its end.
-ghost use Rattle.std.specs.Prelude.{◌≡◌, ◌≢◌, ◌≤◌, ◌↔◌, min, false, Err, IsTrue, IfErr, OnOk};
+ghost use Rattle.std.specs.Prelude.{◌≡◌, ◌≢◌, ◌≤◌, ◌↔◌, if◌then◌else◌, min, false, Err, IsTrue, IfErr, OnOk};
 ghost use Rattle.turn_clerk.specs.declared.refusals.TurnRefusal.{TurnRefusal};
 ghost use Rattle.office_engine.specs.Ends.{NoneFailed, NoneWasRefused, TellsRefusal, reason_of};
 
@@ -34,13 +34,13 @@ pub fn span_in_numbers()
     ensures { SPAN ≡ 5000 }
 {}
 
-// How many turns a span has, where each bank has so many slots: no more than slots, so that what isn't archived is in
-// the two banks.
-fn turns_of_span(slots: u64) -> u64
-    ensures fits { result ≤ slots }
-    ensures value { result ≡ min slots 5000 }
+// How many turns a span has. If the office has an archive, they are no more than a bank has slots, so that what isn't
+// archived is in the two banks.
+fn turns_of_span(slots: u64, has_archive: bool) -> u64
+    ensures fits { IsTrue has_archive → result ≤ slots }
+    ensures value { result ≡ if has_archive then min slots 5000 else 5000 }
 {
-    slots.min(SPAN)
+    if has_archive { slots.min(SPAN) } else { SPAN }
 }
 
 /// The streams of the terminal.
@@ -96,7 +96,7 @@ pub fn serve<
         line,
         slots,
     } = opened;
-    let moves = turns_of_span(slots);
+    let moves = turns_of_span(slots, serving.archive.is_some());
     let kept = keep_open(rt, alloc, device, line, counters, moves, archivist);
     let (closed, mut archivist) = match kept {
         Ok(both) => both,
