@@ -33,7 +33,7 @@ def sectors(slots):
 class Office:
     """An office of so many counters on a file that it formats."""
 
-    def __init__(self, folder, counters, slots):
+    def __init__(self, folder, counters, slots, *more):
         self.file = folder / "ledger"
         self.file.unlink(missing_ok=True)
         self.counters = [folder / f"counter_{number}" for number in range(counters)]
@@ -44,7 +44,7 @@ class Office:
                     os.mkfifo(counter / name)
         said = [word for counter in self.counters for word in ("--counter", counter)]
         words = ["serve", self.file, "--format", str(slots), "--sectors", str(sectors(slots))]
-        self.run = subprocess.Popen([folder / "office", *words, *said], stdout=subprocess.PIPE, stdin=subprocess.DEVNULL)
+        self.run = subprocess.Popen([folder / "office", *words, *said, *more], stdout=subprocess.PIPE, stdin=subprocess.DEVNULL)
 
     def __enter__(self):
         while not (line := self.run.stdout.readline()).startswith(b"opened "):
@@ -195,4 +195,5 @@ def main():
     long_run(folder, postings)
 
 
-main()
+if __name__ == "__main__":
+    main()
