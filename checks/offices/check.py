@@ -83,6 +83,11 @@ def main():
     parser.add_argument("program", help="the derbyfig that was built")
     parser.add_argument("folder", type=pathlib.Path, help="an empty folder")
     parser.add_argument("--kills", type=int, default=5, help="how often it is killed, without checkpoints and with them")
+    for name, number, told in (("clients", 4, "how many clients repeat what they weren't told"),
+                               ("postings", 60, "how much each of them posts"),
+                               ("retries", 12, "how often they or their office are killed"),
+                               ("few", 3, "slots of banks that don't hold all of it")):
+        parser.add_argument(f"--{name}", type=int, default=number, help=told)
     parser.add_argument("--seed", type=int, default=random.SystemRandom().randrange(1_000_000))
     parser.add_argument("--only", default="", help="the cases whose names have this")
     words = parser.parse_args()

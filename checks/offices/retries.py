@@ -12,24 +12,18 @@ from office import PATIENCE, require, require_same
 
 CLIENTS = pathlib.Path(__file__).parents[2] / "clients"
 
-# How many clients there are, how much each posts, and how often something is killed.
-COUNTERS = 4
-POSTINGS = 60
-KILLS = 12
-
-# Slots of banks that hold all, and of banks that don't.
+# Slots of banks that hold all, at least.
 ENOUGH = 1_000
-FEW = 3
 
 
-def post_all(folder, state, account, told):
+def post_all(folder, state, account, told, postings):
     """A client in Python: posts 1, 2, .. to its account, whatever happens, and notes what nobody knows."""
     from derbyfig import Counter, InUse, NoOffice, TimeOut, Unknown
     while True:
         counter = Counter(folder, state, patience=5)
         try:
             with counter:
-                while (done := counter.state.reference % 2**32) < POSTINGS:
+                while (done := counter.state.reference % 2**32) < int(postings):
                     counter.post(f"deposit {account} {done + 1}")
                 return
         except Unknown:
@@ -57,7 +51,8 @@ class Clients:
 
     def __init__(self, case, counters):
         words = [[sys.executable, __file__, str(counter.folder), str(self.state(case, number)), str(number + 1),
-                  str(self.unknown(case, number))] for number, counter in enumerate(counters[:-1])]
+                  str(self.unknown(case, number)), str(case.words.postings)]
+                 for number, counter in enumerate(counters[:-1])]
         last = len(counters) - 1
         self.words = [*words, shell_client(counters[last].folder, self.state(case, last), last + 1)]
         self.runs = [None] * len(counters)
@@ -87,7 +82,7 @@ class Clients:
         """Waits until all have posted what they are to post."""
         for number, run in enumerate(self.runs):
             try:
-                require_same(run.wait(PATIENCE), 0, f"the end of client {number}")
+                require_same(run.wait(PATIENCE * 10), 0, f"the end of client {number}")
             except subprocess.TimeoutExpired as late:
                 require(False, f"client {number} never ends: {late}")
 
@@ -101,7 +96,7 @@ class Clients:
 
 def retried(case, slots, moments):
     """The amounts that each account was sent, in order, behind all kills."""
-    counters = case.counters(COUNTERS)
+    counters = case.counters(case.words.clients)
     books = case.folder / "books"
     books.mkdir()
     case.formatted_ledger(slots)
@@ -112,17 +107,17 @@ def retried(case, slots, moments):
         clients.stop()
     rows = archived(case, books)
     require_whole(rows)
-    return [[int(row.amount) for row in rows if row.target == str(number + 1)] for number in range(COUNTERS)]
+    return [[int(row.amount) for row in rows if row.target == str(number + 1)] for number in range(case.words.clients)]
 
 
 def retry(case, counters, books, clients, moments):
     """Kills the office and clients again and again, and lets all of them end."""
-    for _ in range(KILLS):
+    for _ in range(case.words.retries):
         with case.office(counters, "--hello", "--archive", str(books)) as office:
             office.opened()
             time.sleep(moments.uniform(0.02, 0.2))
             if moments.random() < 0.5:
-                clients.kill(moments.randrange(COUNTERS))
+                clients.kill(moments.randrange(case.words.clients))
                 time.sleep(moments.uniform(0.02, 0.1))
     with case.office(counters, "--hello", "--archive", str(books)) as office:
         office.opened()
@@ -133,18 +128,20 @@ def retry(case, counters, books, clients, moments):
 
 def never_twice(case):
     """On banks that hold all that was posted, each posting stands once, in order."""
-    wanted = [list(range(1, POSTINGS + 1))] * (COUNTERS - 1) + [list(range(1, 10))]
-    require_same(retried(case, ENOUGH, random.Random(case.words.seed)), wanted, "what stands")
+    clients, postings = case.words.clients, case.words.postings
+    wanted = [list(range(1, postings + 1))] * (clients - 1) + [list(range(1, 10))]
+    slots = max(ENOUGH, clients * postings)
+    require_same(retried(case, slots, random.Random(case.words.seed)), wanted, "what stands")
 
 
 def unknown_at_most(case):
-    """On banks of three slots none stands twice, and what doesn't stand was told as unknown."""
-    found = retried(case, FEW, random.Random(case.words.seed + 1))
+    """On banks of a few slots none stands twice, and what doesn't stand was told as unknown."""
+    found = retried(case, case.words.few, random.Random(case.words.seed + 1))
     for number, amounts in enumerate(found[:-1]):
         require_same(amounts, sorted(set(amounts)), f"what client {number} posted, once and in order")
         told = Clients.unknown(case, number)
         unknown = {int(line.split()[2]) for line in told.read_text().splitlines()} if told.exists() else set()
-        missing = set(range(1, POSTINGS + 1)) - set(amounts)
+        missing = set(range(1, case.words.postings + 1)) - set(amounts)
         require(missing <= unknown, f"client {number}: {missing - unknown} are missing, and weren't told as unknown")
     require_same(found[-1], sorted(set(found[-1])), "what the client in the shell posted")
 

@@ -98,6 +98,7 @@ class Image:
         if not self.layout.system:
             return self.disk
         target = self.folder / name
+        target.parent.mkdir(exist_ok=True)
         target.unlink(missing_ok=True)
         if self.layout.system == "xfs":
             self.take_by_mount(name, target)

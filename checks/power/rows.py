@@ -3,6 +3,7 @@ import dataclasses
 
 import crashes
 import disks
+from archiving import Archiving
 from copying import Copying
 from counters import Counters
 from disks import EXT4, JOURNALED, RAW, UNFLUSHED, XFS
@@ -44,6 +45,7 @@ ROWS = (
     Row("ext4", EXT4, Turns, crashes.SECTORS, 1200),
     Row("ext4", EXT4, Counters, crashes.SECTORS, 1200),
     Row("ext4", EXT4, Copying, crashes.SECTORS, 600),
+    Row("ext4", EXT4, Archiving, crashes.SECTORS, 600),
     Row("ext4, `data=journal`", JOURNALED, Turns, crashes.SECTORS, 400),
     Row("ext4, `data=journal`", JOURNALED, Turns, crashes.TORN, 300),
     Row("ext4, `data=journal`", JOURNALED, Counters, crashes.TORN, 300),
@@ -60,6 +62,7 @@ CONTROLS = (
     Row("ext4, no syncs", EXT4, Turns, crashes.SECTORS, 200, ALL, True),
     Row("ext4, no syncs", EXT4, Counters, crashes.SECTORS, 200, ALL, True),
     Row("ext4, no syncs", EXT4, Copying, crashes.SECTORS, 200, ALL, True),
+    Row("ext4, no syncs", EXT4, Archiving, crashes.SECTORS, 200, ALL, True),
     Row("ext4, every second sync, from the first, skipped", EXT4, Turns, crashes.SECTORS, 300, EVEN, True),
     Row("ext4, every second sync, from the second, skipped", EXT4, Turns, crashes.SECTORS, 300, ODD, True),
     Row("ext4, `barrier=0`", UNFLUSHED, Turns, crashes.SECTORS, 200, "", True),
