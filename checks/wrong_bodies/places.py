@@ -43,6 +43,11 @@ def joined(type_name):
     return "".join(word[:1].upper() + word[1:] for word in re.findall(r"\w+", plain))
 
 
+def without_bounds(parameters):
+    """The parameters of an `impl`, each by its name alone: `<D: Device<E>, F>` is `<D, F>`."""
+    return re.sub(r":[^,>]*", "", "<" + without_parameters(parameters.strip()[1:-1]) + ">") if parameters.strip() else ""
+
+
 def owner_of(header):
     """The owner that the head of an `impl` or a `trait` gives to its functions, for the prover and for a reader."""
     whole = " ".join(header.split())
@@ -60,7 +65,9 @@ def owner_of(header):
     if " for " not in plain:
         return joined(head), plain.strip()
     trait_name, _, type_name = head.partition(" for ")
-    parameters = "".join(joined(word) for word in re.findall(r"<(.*)>$", trait_name))
+    own = re.findall(r"(?:^<|, )(\w+)", without_bounds(rest[:at]))
+    given = (word for words in re.findall(r"<(.*)>$", trait_name) for word in words.split(", "))
+    parameters = "".join(joined(word) for word in given if word not in own)
     shown = re.sub(r"'\w+ ", "", without_parameters(type_name))
     last = without_parameters(trait_name).rpartition("::")[2]
     return joined(type_name) + last + parameters, f"<{shown} as {re.sub(r'<$', '', trait_name)}>"
