@@ -1,5 +1,7 @@
 //! A look at what was posted at a counter, step by step.
-ghost use Rattle.std.specs.Prelude.{◌≡◌, ◌≢◌, ◌↔◌, ◌<◌, ℕ, IfOk, Some};
+ghost use Rattle.std.specs.Prelude.{◌≡◌, ◌≢◌, ◌↔◌, ◌<◌, ℕ, IfOk, IfSome, Some};
+ghost use Rattle.sector_device.specs.Crash.{LooksOnly};
+ghost use Rattle.turn_clerk.specs.Found.{after_looks};
 ghost use Rattle.turn_clerk.specs.declared.refusals.FindRefusal.{FindRefusal};
 ghost use Rattle.turn_ledger.specs.Entry.{reference_of};
 ghost use Rattle.station_desk.specs.declared.errand.Question.TheVariants as question;
@@ -92,7 +94,11 @@ impl Look {
 }
 
 /// The posting of a station with the greatest reference in the records in sight of a clerk; None if they can't be read.
-pub fn last_posting<D: Device>(clerk: &mut Clerk<D>, station: u8) -> Option<Seen> {
+pub fn last_posting<D: Device>(clerk: &mut Clerk<D>, station: u8) -> Option<Seen>
+    ensures kept { clerk.new ≡ after_looks clerk.old clerk.new.journal.device }
+    ensures looks { LooksOnly (D.state clerk.old.journal.device) (D.state clerk.new.journal.device) }
+    ensures above { IfSome result (λ seen. IfSome seen.posting (λ last. 0 < reference_of last.entry)) }
+{
     let mut look = Look::BEGINNING;
     for _ in 0..MOST_STEPS {
         let step = clerk.latest(station, u64::MAX, look.from);

@@ -2,7 +2,7 @@
 //!
 //! The references of a counter rise: an entry with a reference above 0 is submitted only if that is above each one that
 //! was posted there, and above each one that is under way. So an entry that a client repeats is never posted twice.
-ghost use Rattle.std.specs.Prelude.{◌≡◌, ◌≢◌, ◌+◌, ◌<◌, ◌≤◌, [], ◌∷◌, ◌++◌, length, max, IsTrue, IfSome, IsSome, None};
+ghost use Rattle.std.specs.Prelude.{◌≡◌, ◌≢◌, ◌⊎◌, ◌+◌, ◌<◌, ◌≤◌, [], ◌∷◌, ◌++◌, length, max, false, IsTrue, IfSome, IsSome, None};
 ghost use Rattle.turn_ledger.specs.Entry.{reference_of};
 ghost use Rattle.station_desk.specs.Messages.{entries_of};
 ghost use Rattle.station_desk.specs.Rings.{StandsAt};
@@ -108,6 +108,13 @@ impl Postings {
         ensures collected { self.new.feed.collected ≡ self.old.feed.collected }
         ensures not_submitted { result ≢ Submission.Submitted → (self.new.feed ≡ self.old.feed)
             × (self.new.unanswered ≡ self.old.unanswered) }
+        ensures is_above { result ≢ Submission.NotAbove → 0 < reference_of entry
+            → self.old.posted < reference_of entry }
+        ensures not_above { result ≡ Submission.NotAbove → (0 < reference_of entry)
+            × ((reference_of entry ≤ self.old.posted) ⊎ (0 < self.old.unanswered)) }
+        ensures no_place { result ≡ Submission.NoPlace
+            → (self.old.feed.free ≡ 0) ⊎ (length self.old.feed.asked ≡ u64.MAX) }
+        ensures posted { self.new.posted ≡ self.old.posted }
     {
         self.free_refused();
         if !self.is_above(entry.reference()) {
@@ -127,6 +134,8 @@ impl Postings {
     fn free_refused(&mut self)
         ensures feed { self.new.feed ≡ self.old.feed }
         ensures unanswered { self.new.unanswered ≡ self.old.unanswered }
+        ensures posted { self.new.posted ≡ self.old.posted }
+        ensures freed { self.old.unanswered ≡ 0 → self.new.under_way ≡ 0 }
     {
         if self.unanswered == 0 {
             self.under_way = 0;
@@ -135,8 +144,10 @@ impl Postings {
 
     // Whether the reference is 0, or above each one that is posted or under way.
     fn is_above(&self, reference: u64) -> bool
-        ensures { IsTrue result → 0 < reference
+        ensures above { IsTrue result → 0 < reference
             → (self.now.posted < reference) × (self.now.under_way < reference) }
+        ensures not_above { result ≡ false → (0 < reference)
+            × ((reference ≤ self.now.posted) ⊎ (reference ≤ self.now.under_way)) }
     {
         reference == 0 || reference > self.posted && reference > self.under_way
     }

@@ -1,0 +1,10 @@
+use Rattle.std.proofs.Common.{◌∙◌}
+use Rattle.sector_device.specs.Crash.{looks_joined}
+use Rattle.turn_clerk.specs.Found.{after_looks}
+use Rattle.live_office.proofs.look.last_posting.Goals as goal
+
+pub returns-in-Some-clause-kept : goal.returns-in-Some-clause-kept
+returns-in-Some-clause-kept g c = c.latest-step.ensures.kept ∙ (λ i. after_looks (c.loop.invariant.kept i) c.latest-step.new.self.journal.device)
+
+pub returns-in-Some-clause-looks : goal.returns-in-Some-clause-looks
+returns-in-Some-clause-looks g c = λ honest. looks_joined _ _ _ (c.loop.invariant.looks honest) (c.latest-step.ensures.looks (c.loop.invariant.honest honest))
