@@ -54,22 +54,22 @@ searched seat (Err find.Changed) = seat
 searched seat (Err find.Device) = seat
 
 -- An office that was opened on that device with that line was asked by a seat for a reference, from the record of a
--- number on, and a clerk of it answered, whose turns are a legal history. After it the device is another one at most by
--- looks.
+-- number on and before that of another, and a clerk of it answered, whose turns are a legal history. After it the device
+-- is another one at most by looks.
 pub record WasSearched {D : Type 0} (state : D
-    → DeviceState) (device : DeviceState) (from : Configuration) (old new : SeatState) (reference first : ℕ) (answer : Result Found FindRefusal) : Type 0 where
+    → DeviceState) (device : DeviceState) (from : Configuration) (old new : SeatState) (reference first end : ℕ) (answer : Result Found FindRefusal) : Type 0 where
   pub clerk : ClerkState D
   pub opened : WasOpenedOn state device from clerk
   pub legal : KeepsHistory clerk
   pub after : D
   pub call : AreCalls (state clerk.journal.device) (state after) (answer ≡ Err find.Device)
   pub faulted : (answer ≡ Err find.Faulted) ↔ IsTrue clerk.journal.faulted
-  pub numbered : IfOk answer (λ found. found ≢ LookingBack → IsNumberedFromSome clerk.journal first found)
+  pub numbered : IfOk answer (λ found. found ≢ LookingBack → IsNumberedFromSome clerk.journal first end found)
   pub note : new ≡ searched old answer
   -- on an honest device
   pub looks : LooksOnly (state clerk.journal.device) (state after)
-  pub found : device.honest → IfOk answer (λ found. found ≢ LookingBack → HasFound state clerk reference first found)
-  pub batches : device.honest → IfOk answer (TellsOfBatches clerk reference first)
+  pub found : device.honest → IfOk answer (λ found. found ≢ LookingBack → HasFound state clerk reference first end found)
+  pub batches : device.honest → IfOk answer (TellsOfBatches clerk reference first end)
 
 -- The same of a seat that asked for its station's posting with the greatest reference within a limit.
 pub record WasToldLatest {D : Type 0} (state : D

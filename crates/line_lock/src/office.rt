@@ -187,12 +187,13 @@ impl<D: Device, L: Count + OpenedOn> Office<D, L> {
         seat: &mut Seat<L>,
         reference: u64,
         from: u64,
+        end: u64,
     ) -> Result<Found, FindRefusal>
         ensures told { WasSearched D.state L.device L.line seat.old seat.new
-            reference from result }
+            reference from end result }
         ensures never_changed { L.device.honest → result ≢ Err FindRefusal.Changed }
     {
-        self.locked.lock(rt).find(seat, reference, from)
+        self.locked.lock(rt).find(seat, reference, from, end)
     }
 
     /// Looks for the posting of the seat's own station with the greatest reference above 0 and at most the limit, as

@@ -19,6 +19,7 @@ use Rattle.office_day.specs.declared.reconciled.StationDay.{StationDay}
 use Rattle.live_office.specs.Rising.{AreAbove, PostsRising}
 use Rattle.live_office.specs.declared.messages.Message.{Message}
 use Rattle.live_office.specs.declared.messages.Message.TheVariants.{Asked, Wrong, Ended}
+use Rattle.live_office.specs.declared.search.Search.{Search}
 use Rattle.live_office.specs.declared.responses.Response.{Response}
 use Rattle.live_office.specs.declared.responses.Response.TheVariants as response
 
@@ -146,47 +147,55 @@ told_of_balance account (Err refusal) = response.NoBalance refusal
 
 -- what it is told of a step of its search, which found that many records before
 abbrev pub told_of_step : ℕ → ℕ → Result Found FindRefusal → Option Response
-told_of_step before reference (Ok (found.Posted number)) = Some (response.Found number reference)
-told_of_step before reference (Ok (found.Further number)) = None
+told_of_step before reference (Ok (found.Posted number end)) = Some (response.Found number reference)
+told_of_step before reference (Ok (found.Further number end)) = None
 told_of_step before reference (Ok (found.Nowhere since)) = Some (response.FoundInAll before since)
 told_of_step before reference (Ok found.LookingBack) = None
 told_of_step before reference (Err refusal) = Some (response.NotFound refusal)
 
 -- how many it found with that step
 abbrev pub found_with : ℕ → Result Found FindRefusal → ℕ
-found_with before (Ok (found.Posted number)) = min (before + 1) (2 ^ 64 - 1)
+found_with before (Ok (found.Posted number end)) = min (before + 1) (2 ^ 64 - 1)
 found_with before _ = before
 
--- The question is the one that the message asks, whose search, or whose look at the counter's own postings, has come to
--- that record. An entry asks for its own reference, or for any.
-abbrev pub IsQuestionOf : Message → ℕ → ℕ → Question → Type 0
-IsQuestionOf (Asked (request.Balance account)) from own (question.Balance named) = named ≡ account
-IsQuestionOf (Asked (request.Find reference)) from own (question.Find named first) = (named ≡ reference) × (first ≡ from)
-IsQuestionOf (Asked (request.Post entry)) from own (question.Latest limit first) = ((limit ≡ reference_of entry) ⊎ (limit ≡ 2 ^ 64 - 1)) × (first ≡ own)
-IsQuestionOf (Asked request.Last) from own (question.Latest limit first) = (limit ≡ 2 ^ 64 - 1) × (first ≡ own)
-IsQuestionOf (Asked (request.First reference)) from own (question.Latest limit first) = (limit ≡ 2 ^ 64 - 1) × (first ≡ own)
-IsQuestionOf _ from own _ = ⊥
+-- The question is the one that the message asks, whose search has come so far, or whose look at the counter's own
+-- postings has come to that record. An entry asks for its own reference, or for any.
+abbrev pub IsQuestionOf : Message → Search → ℕ → Question → Type 0
+IsQuestionOf (Asked (request.Balance account)) search own (question.Balance named) = named ≡ account
+IsQuestionOf (Asked (request.Find reference)) search own (question.Find named first end) = (named ≡ reference) × (first ≡ search.from) × (end ≡ search.end)
+IsQuestionOf (Asked (request.Post entry)) search own (question.Latest limit first) = ((limit ≡ reference_of entry) ⊎ (limit ≡ 2 ^ 64 - 1)) × (first ≡ own)
+IsQuestionOf (Asked request.Last) search own (question.Latest limit first) = (limit ≡ 2 ^ 64 - 1) × (first ≡ own)
+IsQuestionOf (Asked (request.First reference)) search own (question.Latest limit first) = (limit ≡ 2 ^ 64 - 1) × (first ≡ own)
+IsQuestionOf _ search own _ = ⊥
 
 -- the same of the message that is handled next, if there is one
-abbrev pub IsAskedBy : Option Message → ℕ → ℕ → Question → Type 0
-IsAskedBy next from own asked = IfSome next (λ message. IsQuestionOf message from own asked)
+abbrev pub IsAskedBy : Option Message → Search → ℕ → Question → Type 0
+IsAskedBy next search own asked = IfSome next (λ message. IsQuestionOf message search own asked)
 
 -- Its response may depend on the counter's own postings up to that reference.
 abbrev pub MayLook : Option Message → ℕ → Type 0
-MayLook next limit = (from own : ℕ) → IsAskedBy next from own (question.Latest limit own)
+MayLook next limit = (search : Search) (own : ℕ) → IsAskedBy next search own (question.Latest limit own)
 
 -- Where the next step of a search begins: behind the record that was found, or where this step ended, or where it began
 -- if it looked at none.
 abbrev pub MeetsAt : ℕ → Found → ℕ → Type 0
-MeetsAt from (found.Posted number) next = number + 1 < 2 ^ 64 → next ≡ number + 1
-MeetsAt from (found.Further number) next = next ≡ number
+MeetsAt from (found.Posted number end) next = number + 1 < 2 ^ 64 → next ≡ number + 1
+MeetsAt from (found.Further number end) next = next ≡ number
 MeetsAt from (found.Nowhere since) next = Unit {0}
 MeetsAt from found.LookingBack next = next ≡ from
 
--- A search ends where nothing more is found, and where it failed.
+-- Where a search ends: before the record of the number that this step told, or where it ended before if the step looked
+-- at no records.
+abbrev pub EndsAt : ℕ → Found → ℕ → Type 0
+EndsAt before (found.Posted number told) end = end ≡ told
+EndsAt before (found.Further number told) end = end ≡ told
+EndsAt before (found.Nowhere since) end = Unit {0}
+EndsAt before found.LookingBack end = end ≡ before
+
+-- A search is over where nothing more is found, and where it failed.
 abbrev pub IsLast : Result Found FindRefusal → Type 0
-IsLast (Ok (found.Posted number)) = ⊥
-IsLast (Ok (found.Further number)) = ⊥
+IsLast (Ok (found.Posted number end)) = ⊥
+IsLast (Ok (found.Further number end)) = ⊥
 IsLast (Ok (found.Nowhere since)) = Unit {0}
 IsLast (Ok found.LookingBack) = ⊥
 IsLast (Err refusal) = Unit {0}

@@ -263,7 +263,7 @@ impl Session {
         question: Question,
     ) -> Option<Report>
         requires behind { self.old.postings.unanswered ≡ 0 }
-        requires right { IsAskedBy self.old.next self.old.search.from self.old.look.from question }
+        requires right { IsAskedBy self.old.next self.old.search self.old.look.from question }
         ensures feed { self.new.postings.feed ≡ self.old.postings.feed }
         ensures next { self.new.next ≡ self.old.next }
         ensures room { self.new.responses ≡ self.old.responses }

@@ -2,43 +2,62 @@
 use crate::counters::are_told;
 use crate::keepers::Sample;
 use live_office::{Counter, Kind, keep_open};
-use std::alloc::Global;
+use office_day::Clerk;
+use sector_device::MemoryDevice;
+use std::alloc::{AllocError, Global};
 use std::io;
-use std::io::{PipeReader, PipeWriter, Read, Write};
+use std::io::{PipeWriter, Read, Write};
 use std::sync::Arc;
 use std::sync::atomic::{AtomicU64, Ordering};
 use std::test::Fail;
 use std::thread::yield_now;
-use test_scenes::{formatted, line};
+use test_scenes::{deposit, formatted, line};
 
-/// How often each counter asks.
-const QUESTIONS: u64 = 300;
+/// How many batches have the reference that is looked for, each of which ends a step of the search: more than a counter
+/// may be told that reads nothing.
+const BATCHES: u64 = 300;
 
-/// Says one question again and again, and then `close`, once the other counter was told as many answers.
+/// How often the other counter asks for a balance meanwhile.
+const QUESTIONS: u64 = 100;
+
+// Waits until so many lines were told.
+fn wait_for(told: &AtomicU64, lines: u64) {
+    for _ in 0..u64::MAX {
+        if told.load(Ordering::SeqCst) >= lines {
+            break;
+        }
+        yield_now();
+    }
+}
+
+/// A line that is said so often, once the other counter was told so many.
+struct Line {
+    said: &'static [u8],
+    times: u64,
+    after: u64,
+}
+
+/// Says lines one after another, and notes how often it said the first one that is left.
 #[derive(Drop)]
 struct Asking {
-    question: &'static [u8],
-    left: u64,
-    other_told: Option<Arc<AtomicU64>>,
+    lines: &'static [Line],
+    times: u64,
+    other_told: Arc<AtomicU64>,
 }
 
 impl Asking {
     // What is said next, if anything.
     fn next(&mut self) -> &'static [u8] {
-        if self.left > 0 {
-            self.left -= 1;
-            return self.question;
-        }
-        let Some(told) = self.other_told.take() else {
+        let Some(line) = self.lines.first() else {
             return b"";
         };
-        for _ in 0..u64::MAX {
-            if told.load(Ordering::SeqCst) >= QUESTIONS {
-                break;
-            }
-            yield_now();
+        wait_for(&self.other_told, line.after);
+        self.times = self.times.saturating_add(1);
+        if self.times >= line.times {
+            self.times = 0;
+            self.lines = &self.lines[1..];
         }
-        b"close\n"
+        line.said
     }
 }
 
@@ -51,11 +70,14 @@ impl Read for Asking {
     }
 }
 
-/// A pipe, and how many lines were written to it.
+/// A pipe, and how many lines were written to it. What was written first lies there until the other counter was told so
+/// many lines.
 #[derive(Drop)]
 struct Told {
     pipe: PipeWriter,
     lines: Arc<AtomicU64>,
+    awaited: u64,
+    other_told: Arc<AtomicU64>,
 }
 
 impl Write for Told {
@@ -67,6 +89,7 @@ impl Write for Told {
             .filter(|byte| **byte == b'\n')
             .count();
         self.lines.fetch_add(lines as u64, Ordering::SeqCst);
+        wait_for(&self.other_told, self.awaited);
         Ok(count)
     }
 
@@ -75,63 +98,98 @@ impl Write for Told {
     }
 }
 
-// Whether each of the questions was answered so, and nothing else was told before.
-fn is_answered_so(answers: &mut PipeReader, answer: &[u8]) -> io::Result<bool> {
-    for _ in 0..QUESTIONS {
-        if !are_told(answers, answer)? {
-            return Ok(false);
-        }
+// A device with so many batches, each a deposit with the reference 1 at the bottom station.
+fn with_deposits(alloc: Global) -> Result<MemoryDevice, Fail> {
+    let (device, line) = (formatted(alloc, BATCHES + 4)?, line([0, 0], [1, 0])?);
+    let mut clerk = Clerk::open(alloc, device, line).map_err(|(_, refusal)| refusal)?;
+    for _ in 0..BATCHES {
+        clerk.turn(0, &[deposit(1, 1)])?;
+        clerk.turn(1, &[])?;
     }
-    Ok(true)
+    Ok(clerk.into_device())
 }
 
-// A counter whose client asks so, and closes the office once the other one was told as many answers, if that is given.
+// A counter that says these lines, and is told by a pipe; what it is told first lies there until the other one was told
+// so many lines.
 fn counter_of(
-    question: &'static [u8],
-    other_told: Option<Arc<AtomicU64>>,
+    lines: &'static [Line],
     pipe: PipeWriter,
-    lines: Arc<AtomicU64>,
-) -> Counter<Asking, Told> {
+    awaited: u64,
+    told: &Arc<AtomicU64>,
+    other_told: &Arc<AtomicU64>,
+) -> Result<Counter<Asking, Told>, AllocError> {
     let input = Asking {
-        question,
-        left: QUESTIONS,
-        other_told,
+        lines,
+        times: 0,
+        other_told: Arc::try_clone(other_told)?,
     };
-    Counter {
+    let output = Told {
+        pipe,
+        lines: Arc::try_clone(told)?,
+        awaited,
+        other_told: Arc::try_clone(other_told)?,
+    };
+    Ok(Counter {
         input,
-        output: Told { pipe, lines },
+        output,
         kind: Kind::Pipes,
         awaits_hello: false,
-    }
+    })
 }
 
-// Each counter is told what it asks, as often as it asks, and no turn is taken for that.
+const SEARCHING: &[Line] = &[Line {
+    said: b"find 1\n",
+    times: 1,
+    after: 0,
+}];
+
+const POSTING: &[Line] = &[
+    Line {
+        said: b"balance 1\n",
+        times: QUESTIONS,
+        after: 0,
+    },
+    Line {
+        said: b"deposit 1 1 1\n",
+        times: 1,
+        after: 1,
+    },
+    Line {
+        said: b"close\n",
+        times: 1,
+        after: BATCHES + 1,
+    },
+];
+
+// Each counter is told what it asked, without a turn for each question. A search tells of what was posted when it began
+// to look: what the other counter posts with that reference while it looks isn't among its answers.
 #[test]
-fn each_counter_is_told_what_it_asked(rt: HostRuntime) -> Result<(), Fail> {
+fn a_search_tells_of_one_moment(rt: HostRuntime) -> Result<(), Fail> {
     let alloc = rt.alloc();
-    let (mut balances, first_pipe) = io::pipe(&rt)?;
-    let (mut searches, second_pipe) = io::pipe(&rt)?;
-    let first_lines = Arc::new(alloc, AtomicU64::new(0))?;
-    let second_lines = Arc::new(alloc, AtomicU64::new(0))?;
-    let second_told = Some(Arc::try_clone(&second_lines)?);
+    let (mut found, searching) = io::pipe(&rt)?;
+    let (mut answers, posting) = io::pipe(&rt)?;
+    let told = Arc::new(alloc, AtomicU64::new(0))?;
+    let other_told = Arc::new(alloc, AtomicU64::new(0))?;
     let counters = vec![in alloc;
-        counter_of(b"balance 1\n", second_told, first_pipe, first_lines),
-        counter_of(b"find 7\n", None, second_pipe, second_lines),
+        counter_of(SEARCHING, searching, QUESTIONS + 1, &told, &other_told)?,
+        counter_of(POSTING, posting, 0, &other_told, &told)?,
     ]?;
-    let (device, line) = (formatted(alloc, 4)?, line([0, 0], [1, 0])?);
-    match keep_open(
-        &rt,
-        alloc,
-        device,
-        line,
-        counters,
-        1_000,
-        Sample { copies: 0 },
-    ) {
-        Ok((closed, _)) => assert!(rt; closed.turns == 0),
+    let (device, line) = (with_deposits(alloc)?, line([0, 0], [1, 0])?);
+    let keeper = Sample { copies: 0 };
+    match keep_open(&rt, alloc, device, line, counters, 1_000, keeper) {
+        Ok((closed, _)) => {
+            assert!(rt; closed.clerk.next() == BATCHES + 1 && closed.turns < QUESTIONS)
+        }
         Err((_, refusal)) => panic!(rt; "{refusal}"),
     }
-    assert!(rt; is_answered_so(&mut balances, b"balance 1 0\n")?);
-    assert!(rt; is_answered_so(&mut searches, b"found 0 since 0\n")?);
+    for number in 0..BATCHES {
+        let wanted = format!(in alloc; "posted {number} 1\n")?;
+        assert!(rt; are_told(&mut found, wanted.as_bytes())?);
+    }
+    assert!(rt; are_told(&mut found, b"found 300 since 0\nclosing\n")?);
+    for _ in 0..QUESTIONS {
+        assert!(rt; are_told(&mut answers, b"balance 1 300\n")?);
+    }
+    assert!(rt; are_told(&mut answers, b"posted 300 1\nclosing\n")?);
     Ok(())
 }

@@ -12,6 +12,6 @@ use Rattle.station_desk.specs.declared.errand.Report.TheVariants as report
 -- as the seat notes it.
 abbrev pub IsReportOn : {D : Type 0} → (D → DeviceState) → DeviceState → Configuration → SeatState → SeatState → Question → Report → Type 0
 IsReportOn state device from old new (question.Balance account) (report.Balance answer) = WasToldBalance state device from old new account answer
-IsReportOn state device from old new (question.Find reference first) (report.Found answer) = WasSearched state device from old new reference first answer
+IsReportOn state device from old new (question.Find reference first end) (report.Found answer) = WasSearched state device from old new reference first end answer
 IsReportOn state device from old new (question.Latest limit first) (report.Latest answer) = WasToldLatest state device from old new limit first answer
 IsReportOn state device from old new _ _ = ⊥

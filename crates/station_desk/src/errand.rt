@@ -22,12 +22,14 @@ pub enum Errand {
 pub enum Question {
     /// What the account of this number holds.
     Balance(u32),
-    /// Which is the first record with an entry of this reference, from the record of a number on.
+    /// Which is the first record with an entry of this reference, from the record of a number on, and before another.
     Find {
         /// The entry's reference.
         reference: u64,
         /// The number of the first record that is looked at.
         from: u64,
+        /// The number behind the last one.
+        end: u64,
     },
     /// Which is the station's own posting with the greatest reference above 0 and at most a limit, from the record of a
     /// number on.
@@ -62,7 +64,11 @@ pub(crate) fn put_question<D: Device, L: Count + OpenedOn, R: Wait>(
 {
     match question {
         Question::Balance(account) => Report::Balance(office.balance(rt, seat, account)),
-        Question::Find { reference, from } => Report::Found(office.find(rt, seat, reference, from)),
+        Question::Find {
+            reference,
+            from,
+            end,
+        } => Report::Found(office.find(rt, seat, reference, from, end)),
         Question::Latest { limit, from } => Report::Latest(office.latest(rt, seat, limit, from)),
     }
 }

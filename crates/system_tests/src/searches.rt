@@ -18,6 +18,16 @@ fn with_reference(reference: u64) -> Entry {
     }
 }
 
+// What a search up to the record before `end` tells of the record that it found.
+fn at(number: u64, end: u64) -> Found {
+    Found::Posted { number, end }
+}
+
+// And where it goes on.
+fn further(number: u64, end: u64) -> Found {
+    Found::Further { number, end }
+}
+
 // A clerk on the device takes so many turns, the bottom station those with an even number and the top one the others;
 // each posts a deposit whose reference is the number.
 fn posted(
@@ -69,19 +79,25 @@ fn expect_reads(rt: &impl Abort, calls: &[Call], from: usize, slots: u64, steps:
     assert!(rt; rest.next().is_none());
 }
 
-// A search looks at 256 records, or up to the one that it finds, and reads the body of each once and nothing else, once
-// it has seen that no other bank is open.
+// A search looks at 256 records, or up to the one that it finds, or to its end. It reads the body of each once and
+// nothing else, once it has seen that no other bank is open.
 #[test]
 fn a_search_reads_the_records_of_its_step_alone(rt: HostRuntime) -> Result<(), Fail> {
     let alloc = rt.alloc();
     let device = posted(&rt, alloc, formatted(alloc, 258)?, 258)?;
     let (mut clerk, from) = noted(&rt, alloc, device)?;
-    assert!(rt; clerk.find(256, 0)? == Found::Further(256));
-    assert!(rt; clerk.find(256, 256)? == Found::Posted(256));
-    assert!(rt; clerk.find(300, 2)? == Found::Nowhere(0));
-    assert!(rt; clerk.find(5, 0)? == Found::Posted(5));
+    let searches = [
+        (256, 0, u64::MAX, further(256, 258)),
+        (256, 256, 257, at(256, 257)),
+        (256, 250, 256, Found::Nowhere(0)),
+        (300, 2, 258, Found::Nowhere(0)),
+        (5, 0, u64::MAX, at(5, 258)),
+    ];
+    for (reference, first, end, found) in searches {
+        assert!(rt; clerk.find(reference, first, end)? == found);
+    }
     let device = clerk.into_device();
-    let steps = [(0, 256), (256, 257), (2, 258), (0, 6)];
+    let steps = [(0, 256), (256, 257), (250, 256), (2, 258), (0, 6)];
     expect_reads(&rt, device.calls(), from, 258, &steps);
     Ok(())
 }
@@ -100,7 +116,7 @@ fn calls_of(
         clerk.turn(0, &[with_reference(2)])?;
     }
     for (reference, first, found) in searches {
-        assert!(rt; clerk.find(*reference, *first)? == *found);
+        assert!(rt; clerk.find(*reference, *first, u64::MAX)? == *found);
     }
     Ok(clerk.into_device().calls().len().saturating_sub(from))
 }
@@ -111,8 +127,8 @@ fn calls_of(
 fn a_search_behind_a_checkpoint_reads_both_banks(rt: HostRuntime) -> Result<(), Fail> {
     let alloc = rt.alloc();
     let searches = [
-        (0, 0, Found::Posted(0)),
-        (2, 1, Found::Posted(2)),
+        (0, 0, at(0, 3)),
+        (2, 1, at(2, 3)),
         (2, 3, Found::Nowhere(0)),
     ];
     let turn = calls_of(
@@ -139,8 +155,8 @@ fn a_search_looks_back_in_steps(rt: HostRuntime) -> Result<(), Fail> {
     let device = posted(&rt, alloc, formatted(alloc, 258)?, 259)?;
     let searches = [
         (257, 0, Found::LookingBack),
-        (257, 0, Found::Further(256)),
-        (257, 256, Found::Posted(257)),
+        (257, 0, further(256, 259)),
+        (257, 256, at(257, 259)),
         (300, 256, Found::Nowhere(0)),
     ];
     let looking_back = 2 + 17 + 2 * 258 + 17;
@@ -205,7 +221,7 @@ fn told(
 ) -> Result<([Result<Found, FindRefusal>; 2], Option<ReadRefusal>), Fail> {
     let device = with_another_byte(rt, alloc, place, byte)?;
     let mut clerk = opened(rt, alloc, device, line([0, 0], [1, 0])?);
-    let found = [clerk.find(7, 0), clerk.find(8, 0)];
+    let found = [clerk.find(7, 0, u64::MAX), clerk.find(8, 0, u64::MAX)];
     let Ok(mut journal) = Journal::open(with_another_byte(rt, alloc, place, byte)?) else {
         panic!(rt; "not opened");
     };
@@ -219,7 +235,7 @@ fn told(
 #[test]
 fn a_record_that_was_changed_is_told(rt: HostRuntime) -> Result<(), Fail> {
     let changed = Err(FindRefusal::Changed);
-    let posted = Ok(Found::Posted(2));
+    let posted = Ok(at(2, 3));
     let no_record = Some(ReadRefusal::Changed);
     let table = [
         (0, 0, [changed, changed], no_record),

@@ -38,7 +38,7 @@ impl<'a, R: Abort + Wait> OfficeWork<Failing> for TheDeviceFails<'a, R> {
         assert!(rt; office.turn(rt, bottom, &entries) == Err(TurnRefusal::Device));
         assert!(rt; !bottom.was_faulted() && !top.was_faulted());
         assert!(rt; office.balance(rt, bottom, 1) == Err(BalanceRefusal::Faulted));
-        assert!(rt; office.find(rt, top, 5, 0) == Err(FindRefusal::Faulted));
+        assert!(rt; office.find(rt, top, 5, 0, u64::MAX) == Err(FindRefusal::Faulted));
         assert!(rt; bottom.was_faulted() && top.was_faulted() && bottom.told() == None);
         assert!(rt; office.turn(rt, top, &[]) == Err(TurnRefusal::Faulted));
         Ok((seats, ()))

@@ -109,7 +109,7 @@ fn top_turn<L: Count + OpenedOn, R: Abort + Wait>(
     assert!(rt; (second.index, second.rule, second.posted) == (1, Rule::Top, None));
     is_denied_within_three(rt, office, top);
     is_told(rt, office, top, 5, 2);
-    assert!(rt; office.find(rt, top, 9, 0) == Ok(Found::Nowhere(0)));
+    assert!(rt; office.find(rt, top, 9, 0, u64::MAX) == Ok(Found::Nowhere(0)));
     Ok(second)
 }
 

@@ -40,15 +40,15 @@ returns-in_err-found-clause-never_changed g c honest changed =
     let was = c.in_err-found.was ∙ ap Err (is_changed c.in_err-found.field-0.0 told) in
     let works = ap (λ (k : ClerkState g.row.D.Denot). k.journal.faulted) c.self.view_is ∙ sym c.is_faulted.ensures ∙ c.if-is_faulted.false in
     never_changed state (view_of c.self.inside) c.self.invariant.0 (subst (λ (k : ClerkState g.row.D.Denot). (state k.journal.device).honest) (sym c.self.view_is) honest) works
-    c.args.reference c.args.from (λ contents is spare. c.find_in_sight.ensures.changed contents is spare c.self.invariant.3 was)
+    c.args.reference c.args.from c.args.end (λ contents is spare. c.find_in_sight.ensures.changed contents is spare c.self.invariant.3 was)
 
 pub returns-clause-found : goal.returns-clause-found
 returns-clause-found g c =
     let state = g.D.Device.state in
     let works = ap (λ (k : ClerkState g.row.D.Denot). k.journal.faulted) c.self.view_is ∙ sym c.is_faulted.ensures ∙ c.if-is_faulted.false in
     let found = c.in_ok-found.found in
-    subst (λ (k : ClerkState g.row.D.Denot). (state k.journal.device).honest → found ≢ LookingBack → HasFound state k c.args.reference c.args.from found) c.self.view_is
-    (λ honest searched. has_found state (view_of c.self.inside) c.self.invariant.0 honest works c.args.reference c.args.from found searched
+    subst (λ (k : ClerkState g.row.D.Denot). (state k.journal.device).honest → found ≢ LookingBack → HasFound state k c.args.reference c.args.from c.args.end found) c.self.view_is
+    (λ honest searched. has_found state (view_of c.self.inside) c.self.invariant.0 honest works c.args.reference c.args.from c.args.end found searched
     (λ contents is spare. c.in_ok-found.ensures.found contents is spare c.self.invariant.3))
 
 pub returns-clause-batches : goal.returns-clause-batches
@@ -60,8 +60,8 @@ returns-clause-batches g c =
     let works = ap (λ (k : ClerkState g.row.D.Denot). k.journal.faulted) c.self.view_is ∙ sym c.is_faulted.ensures ∙ c.if-is_faulted.false in
     let found = c.in_ok-found.found in
     let first = (state clerk.opening.journal.device).reads in
-    subst (λ (k : ClerkState g.row.D.Denot). (state k.journal.device).honest → TellsOfBatches k c.args.reference c.args.from found) c.self.view_is
+    subst (λ (k : ClerkState g.row.D.Denot). (state k.journal.device).honest → TellsOfBatches k c.args.reference c.args.from c.args.end found) c.self.view_is
     (λ honest. tells state clerk first (kept_now state g.met.D.Device.sound clerk is works honest c.self.invariant.4)
-    c.args.reference c.args.from found
-    (λ searched. has_found state clerk is honest works c.args.reference c.args.from found searched
+    c.args.reference c.args.from c.args.end found
+    (λ searched. has_found state clerk is honest works c.args.reference c.args.from c.args.end found searched
     (λ contents is spare. c.in_ok-found.ensures.found contents is spare c.self.invariant.3)))
