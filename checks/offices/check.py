@@ -27,6 +27,7 @@ CASES = (
     coming.never_ends_a_line,
     coming.close_at_once,
     coming.closed_from_outside,
+    coming.tells_how_it_stands,
     coming.close_amid_postings,
     coming.many_stations,
     refusals.counters_that_are_none,

@@ -120,7 +120,7 @@ def close_at_once(case):
 def closed_from_outside(case):
     """derbyfig close ends an office at one of its counters, and no request comes of the part of a line that stood there."""
     one, other = clients = case.counters(2)
-    none = f"{other.folder}: no office has it\n"
+    none = f"{other.folder}: not open\n"
     require_same(case.close(other), (1, "", none), "closing one that was never opened")
     with case.formatted(clients, 4) as office:
         office.opened(*clients)
@@ -136,6 +136,56 @@ def closed_from_outside(case):
     missing = f"{other.folder}/in: it can't be opened\n"
     require_same(case.close(other, "--seconds", "1"), (3, "", missing), "closing at no counter")
     require_same([row.reference for row in case.rows()], [1, 2], "the references in the file")
+
+
+def tells_how_it_stands(case):
+    """derbyfig status tells how an office stands, behind what an earlier client left there, and to one at a time."""
+    one, other, control = case.counters(3)
+    books = case.folder / "books"
+    books.mkdir()
+
+    def require_told(least, following, free, clients, archived):
+        """That it tells these, and so many turns at least; how many there were."""
+        status, told, errors = case.standing(control)
+        turns = int(told.split()[5])
+        wanted = f"next {following}\nfree {free}\nturns {turns}\nclients {clients}\narchived {archived}\n"
+        require_same((status, told, errors), (0, wanted, ""), "how the office stands")
+        require(turns >= least, f"{turns} turns are told, and {least} were taken")
+        return turns
+
+    none = (1, "", f"{control.folder}: not open\n")
+    require_same(case.standing(control), none, "one that was never opened")
+    with case.formatted([one, other], 4, "--control", str(control.folder)) as office:
+        require_same(office.opened(one, other)[1], "opened 3 next 0 total 0", "the opening")
+        require_told(0, 0, 4, 0, "none")
+        for number in range(5):
+            require_same(one.ask(f"deposit 1 5 {number + 1}"), [f"posted {number} {number + 1}"], "a posting")
+        control.come()
+        control.say(b"balance 1\nhelp\ndeposit 1 50")
+        control.leave()
+        with one.held():
+            turns = require_told(5, 5, 3, 1, "none")
+            with other.held():
+                require_told(turns, 5, 3, 2, "none")
+            with control.held():
+                taken = (1, "", f"{control.folder}: another client has it\n")
+                require_same([case.standing(control), case.close(control)], [taken] * 2, "beside another client")
+        told = one.ask("status")[0].split()
+        require_same(told[:6] + told[7:], "office next 5 free 3 turns clients 0 archived none".split(), "the line")
+        require_same(other.ask("balance 1"), ["balance 1 25"], "a balance behind it")
+        require_same(case.close(control), (0, "closed\n", ""), "closing")
+        office.closed()
+    one.leave()
+    other.leave()
+    require_same(case.standing(control), none, "one that has ended")
+    with case.office([one, other], "--archive", str(books), "--control", str(control.folder)) as office:
+        office.opened(one, other)
+        require_told(0, 5, 3, 0, 5)
+        require_same(other.ask("deposit 1 5"), ["posted 5 0"], "a posting")
+        require_told(1, 6, 2, 0, 6)
+        require_same(case.close(control), (0, "closed\n", ""), "closing")
+        office.closed()
+    require_same([row.reference for row in case.rows()], [1, 2, 3, 4, 5, 0], "the references in the file")
 
 
 def close_amid_postings(case):

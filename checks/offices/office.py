@@ -1,6 +1,8 @@
 """The program that is looked at, the clients at its counters, and what its file holds."""
+import contextlib
 import csv
 import dataclasses
+import fcntl
 import io
 import os
 import select
@@ -63,6 +65,13 @@ class Counter:
             self.input = os.open(self.folder / "in", os.O_WRONLY | os.O_NONBLOCK)
         except OSError as told:
             raise Mismatch(f"nobody reads at {self.folder.name}: {told}") from told
+
+    @contextlib.contextmanager
+    def held(self):
+        """Holds the folder's lock, as a client does."""
+        with open(self.folder / "lock", "ab") as lock:
+            fcntl.flock(lock, fcntl.LOCK_EX)
+            yield
 
     def leave(self):
         """Hangs up. What it has heard in part is forgotten."""
@@ -277,7 +286,14 @@ class Case:
 
     def close(self, counter, *words):
         """How a run of the program ends that closes the office at a counter: its status, its output, and its errors."""
-        words = [self.program, "close", counter.folder, *words]
+        return self.speak("close", counter, *words)
+
+    def standing(self, counter):
+        """The same of one that asks there how the office stands."""
+        return self.speak("status", counter)
+
+    def speak(self, command, counter, *words):
+        words = [self.program, command, counter.folder, *words]
         run = subprocess.run(words, capture_output=True, check=False, text=True, timeout=PATIENCE)
         return run.returncode, run.stdout, run.stderr
 

@@ -39,6 +39,7 @@ fn a_script_and_an_office_have_their_words(rt: HostRuntime) {
         "--overwrite",
         "--sectors=1",
         "--terminal",
+        "--control=c",
         "--archive=books",
         "--hello",
         "--copies=backups",
@@ -46,7 +47,7 @@ fn a_script_and_an_office_have_their_words(rt: HostRuntime) {
     let asked = read_request(alloc, &words);
     assert!(rt;
         matches!(&asked, Ok(Request::Serve(office)) if office.path == "book"
-        && office.counters.as_slice() == ["a", "b"].as_slice()
+        && office.counters.as_slice() == ["a", "b", "c"].as_slice()
         && office.stations == Some(64)
         && office.format.map(|slots| slots.get()) == Some(1_000_000)
         && office.sectors == Some(1)
@@ -94,6 +95,9 @@ fn each_command_has_its_words(rt: HostRuntime) {
         matches!(&asked, Ok(Request::Close { counter, seconds }) if *counter == "counter"
         && *seconds == 60)
     );
+    let words = ["derbyfig", "status", "counter"];
+    let asked = read_request(alloc, &words);
+    assert!(rt; matches!(&asked, Ok(Request::Status { counter }) if *counter == "counter"));
     let words = ["derbyfig", "migrate", "old", "new", "--slots", "1"];
     let asked = read_request(alloc, &words);
     assert!(rt;

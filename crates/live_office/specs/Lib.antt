@@ -2,3 +2,4 @@ pub mod Conversation
 pub mod Kept
 pub mod Looked
 pub mod Rising
+pub mod Standing

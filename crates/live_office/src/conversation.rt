@@ -121,7 +121,8 @@ impl Conversation {
                 | Request::Last
                 | Request::First { .. }
                 | Request::Copy
-                | Request::Archive,
+                | Request::Archive
+                | Request::Status,
             ) => self.tell(Response::Closed),
             Message::Asked(Request::Hello { number }) => {
                 self.tell(Response::Hello { number: *number })

@@ -27,6 +27,7 @@ mod responses;
 mod scheduler;
 mod search;
 mod session;
+mod standing;
 mod wakers;
 mod writer;
 
@@ -39,4 +40,5 @@ pub use messages::{Message, WrongLine};
 pub use open_office::{Closed, LiveRefusal, keep_open};
 pub use recess::{CopyRefusal, Keeper, Kept};
 pub use responses::{Judgement, REQUESTS, Response};
+pub use standing::{Standing, StandingRefusal};
 pub use turn_ledger::Entry;

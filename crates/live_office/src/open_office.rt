@@ -125,6 +125,7 @@ pub fn keep_open<
     };
     let mut recess = Granting {
         rt,
+        alloc,
         scheduler: &*scheduler,
         keeper,
     };

@@ -7,6 +7,7 @@ ghost use Rattle.live_office.specs.Conversation.{is_answer, told_of_balance, IsO
 use crate::look::Seen;
 use crate::messages::WrongLine;
 use crate::recess::CopyRefusal;
+use crate::standing::{Standing, StandingRefusal};
 use line_lock::{BalanceRefusal, FindRefusal};
 use station_desk::{Answer, Outcome};
 use std::fmt;
@@ -25,6 +26,7 @@ first R               references of this counter begin with R, if none is in sig
 hello X               the same as an answer, so that a client knows which are its own
 copy                  a copy of the ledger in the folder for copies
 archive               all batches by now go to the archive
+status                how the office stands: its next batch, free slots, turns, clients, how far its archive is
 help                  these requests
 close                 the office closes
 Accounts have numbers from 1 to 1024. R is the entry's reference, a number above all that were used at this counter.
@@ -97,6 +99,10 @@ pub enum Response {
     },
     /// Why there is no copy.
     NoCopy(CopyRefusal),
+    /// How the office stands.
+    Standing(Standing),
+    /// Why that isn't told.
+    NoStanding(StandingRefusal),
     /// The office closed before the question was answered.
     Closed,
     /// The line is no request.
@@ -186,6 +192,8 @@ impl fmt::Display for Response {
             Response::NoArchive => f.write_str("refused NoArchive"),
             Response::Copied { next } => write!(f, "copied {next}"),
             Response::NoCopy(refusal) => write!(f, "refused {refusal:?}"),
+            Response::Standing(standing) => write!(f, "{standing}"),
+            Response::NoStanding(refusal) => write!(f, "refused {refusal:?}"),
             Response::Closed => f.write_str("refused Closed"),
             Response::Wrong(wrong) => write!(f, "wrong {wrong}"),
             Response::Help => f.write_str(REQUESTS),

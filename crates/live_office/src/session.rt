@@ -1,7 +1,7 @@
 //! What the dispatcher does for one counter.
 ghost use Rattle.std.specs.Prelude.{◌≡◌, ◌≤◌, ◌<◌, [], ◌++◌, map, IsTrue, IfOk, IfSome, Some, None};
 ghost use Rattle.rtrb.specs.Ring.{known_free, sent, received};
-ghost use Rattle.script_grammar.specs.declared.requests.Request.TheVariants.{Balance, Find, Archive, Copy, Close};
+ghost use Rattle.script_grammar.specs.declared.requests.Request.TheVariants.{Balance, Find, Archive, Copy, Status, Close};
 ghost use Rattle.station_desk.specs.Messages.{entries_of};
 ghost use Rattle.station_desk.specs.Rings.{StandsAt};
 ghost use Rattle.live_office.specs.declared.messages.Message.TheVariants.{Asked};
@@ -215,6 +215,7 @@ impl Session {
             }
             Message::Asked(Request::Copy) => self.tell_copied(rt, scheduler),
             Message::Asked(Request::Archive) => self.tell_archived(rt, scheduler),
+            Message::Asked(Request::Status) => self.tell_standing(rt, scheduler),
             Message::Asked(Request::Help) => self.respond(Response::Help),
             Message::Asked(Request::Close) => self.close(scheduler),
             Message::Wrong(wrong) => self.respond(Response::Wrong(wrong)),
@@ -346,7 +347,8 @@ impl Session {
         match self.what_came(rt, scheduler, Wish::Archive) {
             Some(Came::Archive(Kept::UpTo(next))) => self.respond(Response::Archived { next }),
             Some(Came::Archive(Kept::NoArchive)) => self.respond(Response::NoArchive),
-            Some(Came::Archive(Kept::Failed) | Came::Copy(_) | Came::Last(_)) | None => false,
+            Some(Came::Archive(Kept::Failed) | Came::Copy(_) | Came::Last(_) | Came::Standing(_))
+            | None => false,
         }
     }
 
@@ -361,7 +363,23 @@ impl Session {
         match self.what_came(rt, scheduler, Wish::Copy) {
             Some(Came::Copy(Ok(next))) => self.respond(Response::Copied { next }),
             Some(Came::Copy(Err(refusal))) => self.respond(Response::NoCopy(refusal)),
-            Some(Came::Archive(_) | Came::Last(_)) | None => false,
+            Some(Came::Archive(_) | Came::Last(_) | Came::Standing(_)) | None => false,
+        }
+    }
+
+    // Tells how the office stands; false if that isn't known yet, and where its archive can't be kept, so that it
+    // closes.
+    fn tell_standing<R: Wait>(&mut self, rt: &R, scheduler: &Scheduler) -> bool
+        requires place { self.old.postings.unanswered < known_free self.old.responses }
+        requires behind { self.old.postings.unanswered ≡ 0 }
+        requires next { self.old.next ≡ Some (Asked Status) }
+        ensures feed { self.new.postings.feed ≡ self.old.postings.feed }
+        ensures next { self.new.next ≡ self.old.next }
+    {
+        match self.what_came(rt, scheduler, Wish::Standing) {
+            Some(Came::Standing(Ok(standing))) => self.respond(Response::Standing(standing)),
+            Some(Came::Standing(Err(refusal))) => self.respond(Response::NoStanding(refusal)),
+            Some(Came::Archive(_) | Came::Copy(_) | Came::Last(_)) | None => false,
         }
     }
 

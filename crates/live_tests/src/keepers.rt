@@ -5,7 +5,7 @@ use sector_device::Device;
 use std::test::Fail;
 use test_scenes::{deposit, formatted, line};
 
-/// No archive; and a copy now and then.
+/// No archive; a copy now and then; and a client at each other counter of three.
 #[derive(Drop)]
 pub struct Sample {
     pub copies: u64,
@@ -26,6 +26,10 @@ impl<D: Device> Keeper<D> for Sample {
 
     fn last(&mut self, _station: u8) -> Option<Seen> {
         None
+    }
+
+    fn clients(&mut self, _station: u8) -> u64 {
+        2
     }
 }
 

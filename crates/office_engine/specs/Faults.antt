@@ -1,4 +1,4 @@
--- By which status a fault of an office ends the program, and one of closing it from outside.
+-- By which status a fault of an office ends the program, and one of speaking at it from outside.
 use Rattle.journal_recovery.specs.declared.refusals.OpenRefusal.{OpenRefusal}
 use Rattle.line_lock.specs.declared.lent.OfficeRefusal.TheVariants as office
 use Rattle.live_office.specs.declared.open_office.LiveRefusal.TheVariants as live
@@ -6,10 +6,10 @@ use Rattle.archive_engine.specs.Faults as archive
 use Rattle.program_ends.specs.Status.{of_ledger, of_opening, of_turn}
 use Rattle.program_ends.specs.declared.status.Status.{Status}
 use Rattle.program_ends.specs.declared.status.Status.TheVariants.{Refused, Failed}
-use Rattle.office_engine.specs.declared.closing.CloseFault.{CloseFault}
-use Rattle.office_engine.specs.declared.closing.CloseFault.TheVariants as closing
 use Rattle.office_engine.specs.declared.faults.OfficeFault.{OfficeFault}
 use Rattle.office_engine.specs.declared.faults.OfficeFault.TheVariants as fault
+use Rattle.office_engine.specs.declared.speaking.ControlFault.{ControlFault}
+use Rattle.office_engine.specs.declared.speaking.ControlFault.TheVariants as control
 
 -- that of what refused it, and else something failed
 abbrev pub status_of : OfficeFault → Status
@@ -20,7 +20,8 @@ status_of (fault.Refused refusal) = of_turn refusal
 status_of (fault.Archive inner) = archive.status_of inner
 status_of _ = Failed
 
--- that no office is open is a rule's matter, and else something failed
-abbrev pub status_of_closing : CloseFault → Status
-status_of_closing (closing.NotOpen folder) = Refused
-status_of_closing _ = Failed
+-- that no office is open, or that a client speaks there, is a rule's matter, and else something failed
+abbrev pub status_of_control : ControlFault → Status
+status_of_control (control.NotOpen folder) = Refused
+status_of_control (control.Taken folder) = Refused
+status_of_control _ = Failed

@@ -1,9 +1,10 @@
-//! Who keeps the archive of an office, and makes copies of its ledger.
+//! Who keeps the archive of an office, makes copies of its ledger, and sees which counters have clients.
 ghost use Rattle.std.specs.Prelude.{◌≡◌};
 ghost use Rattle.office_engine.specs.Copies.{copy_refusal_of};
 ghost use Rattle.office_engine.specs.FolderArchive.{folder_archive};
 
 use crate::faults::OfficeFault;
+use crate::locks::has_client;
 use crate::looking_back::last_in_archive;
 use crate::serving::Serving;
 use archive_engine::{ArchiveFault, Folder, archive_device};
@@ -28,6 +29,8 @@ pub(crate) struct Archivist<'a, 'r, R> {
     books: Option<&'a str>,
     // The folder of the copies.
     copies: Option<&'a str>,
+    // The folders of the counters, that of station 0 first.
+    counters: &'r [&'a str],
     fault: Option<ArchiveFault<'a>>,
 }
 
@@ -36,7 +39,7 @@ impl<'a, 'r, R: Files<File = File> + Alloc<A = Global> + Clone + Drop> Archivist
     pub(crate) fn open(
         rt: &'r R,
         alloc: Global,
-        serving: &Serving<'a>,
+        serving: &'r Serving<'a>,
     ) -> Result<Archivist<'a, 'r, R>, OfficeFault<'a>> {
         let folder = match serving.archive {
             Some(folder) => Some(Folder::open(rt, folder)?),
@@ -49,6 +52,7 @@ impl<'a, 'r, R: Files<File = File> + Alloc<A = Global> + Clone + Drop> Archivist
             folder,
             books: serving.archive,
             copies: serving.copies,
+            counters: serving.counters.as_slice(),
             fault: None,
         })
     }
@@ -118,6 +122,16 @@ impl<D: Device, R: Files<File = File> + Alloc<A = Global> + Clone + Drop> Keeper
 
     fn last(&mut self, station: u8) -> Option<Seen> {
         last_in_archive(self.rt, self.alloc, self.books?, station)
+    }
+
+    fn clients(&mut self, station: u8) -> u64 {
+        let mut count: u64 = 0;
+        for (place, folder) in self.counters.iter().enumerate() {
+            if place != station as usize && has_client(self.rt, self.alloc, folder) {
+                count = count.saturating_add(1);
+            }
+        }
+        count
     }
 }
 

@@ -78,11 +78,7 @@ pub(crate) fn find_pipe<R: Files<File = File>>(
     folder: &str,
     side: Side,
 ) -> Result<(File, FileNumber), PipeRefusal> {
-    let name = side.name();
-    let path = match format!(in alloc; "{folder}/{name}") {
-        Ok(path) => path,
-        Err(AllocError) => return Err(PipeRefusal::Memory),
-    };
+    let path = path_of(alloc, folder, side)?;
     let mut how = OpenOptions::new();
     how.read(true).write(true);
     let Ok(file) = how.open(rt, path.as_str()) else {
@@ -91,6 +87,31 @@ pub(crate) fn find_pipe<R: Files<File = File>>(
     match file.metadata() {
         Ok(found) if found.file_type().is_fifo() => Ok((file, FileNumber::of(&found))),
         _ => Err(PipeRefusal::NoPipe),
+    }
+}
+
+/// What a counter is told, open for reading alone: a read ends as nothing once no office has the pipe.
+pub(crate) fn listen<R: Files<File = File>>(
+    rt: &R,
+    alloc: Global,
+    folder: &str,
+) -> Result<File, PipeRefusal> {
+    // so opened first, the second opening doesn't wait, should the office end meanwhile
+    let _both_ends = find_pipe(rt, alloc, folder, Side::Out)?;
+    let path = path_of(alloc, folder, Side::Out)?;
+    let mut how = OpenOptions::new();
+    how.read(true);
+    match how.open(rt, path.as_str()) {
+        Ok(file) => Ok(file),
+        Err(_) => Err(PipeRefusal::Unopened),
+    }
+}
+
+fn path_of(alloc: Global, folder: &str, side: Side) -> Result<String, PipeRefusal> {
+    let name = side.name();
+    match format!(in alloc; "{folder}/{name}") {
+        Ok(path) => Ok(path),
+        Err(AllocError) => Err(PipeRefusal::Memory),
     }
 }
 

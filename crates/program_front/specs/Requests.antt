@@ -2,7 +2,7 @@
 use Rattle.std.specs.Prelude.{◌≤◌, ℕ, Option, IfSome}
 use Rattle.std.specs.Int.NonZero.{non_zero_u64_get}
 use Rattle.program_front.specs.declared.request.Request.{Request}
-use Rattle.program_front.specs.declared.request.Request.TheVariants.{Run, Serve, Close, Inspect, Book, Format, Migrate, Copy, Archive, Restore}
+use Rattle.program_front.specs.declared.request.Request.TheVariants.{Run, Serve, Close, Status, Inspect, Book, Format, Migrate, Copy, Archive, Restore}
 
 -- as many sectors as a ledger of the most slots has, and one at least
 abbrev pub AreSectors : Option ℕ → Type 0
@@ -14,6 +14,7 @@ IsWithin (Run running) = AreSectors running.sectors
 IsWithin (Serve serving) = AreSectors serving.sectors × IfSome serving.format (λ slots. non_zero_u64_get slots ≤ 1000000)
     × IfSome serving.stations (λ count. (2 ≤ count) × (count ≤ 64))
 IsWithin (Close counter seconds) = seconds ≤ 86400
+IsWithin (Status counter) = Unit {0}
 IsWithin (Inspect inspection) = Unit {0}
 IsWithin (Book inspection) = Unit {0}
 IsWithin (Format path formatting) = non_zero_u64_get formatting.slots ≤ 1000000

@@ -20,7 +20,7 @@ status_of (fault.NoLedger path refusal) = of_opening refusal
 status_of (fault.Migration (migration.Refused refusal)) = of_migration refusal
 status_of (fault.Migration migration.NotEmpty) = Refused
 status_of (fault.Office inner) = office.status_of inner
-status_of (fault.Closing inner) = office.status_of_closing inner
+status_of (fault.Control inner) = office.status_of_control inner
 status_of (fault.Archive inner) = archive.status_of inner
 
 -- and of a ledger that wasn't copied, that of its path or of the copying

@@ -26,12 +26,22 @@ Keep a ledger open for counters that come and go.
 A counter is a folder PATH with two named pipes, PATH/in and PATH/out, which its owner makes with mkfifo. It says a request
 a line on PATH/in, and reads an answer a line on PATH/out, in the order of its requests. Answers are 'posted N R', where N
 is the number of the batch, 'refused REASON R', 'undecided R', 'balance A M', 'refused NoAccount', 'found K since N',
-'last R N', 'first R', 'hello X', 'archived N', 'copied N', 'wrong TEXT' and 'closing'. What was answered as posted outlives
-a power failure.";
+'last R N', 'first R', 'hello X', 'archived N', 'copied N', 'office ..', 'wrong TEXT' and 'closing'. What was answered as
+posted outlives a power failure.";
 
 const CLOSING: &str = "\
-What was asked at the counter before is answered first. The status is 1 if no office has the counter.
+What was asked at the counter before is answered first. The status is 1 if no office has the counter, or a client speaks
+there.
 ";
+
+const STANDING: &str = "\
+Prints 'next N', the number of the next batch; 'free F', the free slots of the live bank; 'turns T', those taken since the
+office opened; 'clients C', how many other counters have a client; and 'archived A', below which all batches are in the
+archive, or 'archived none'. It waits until the office answers. The status is 1 if no office has the counter, or a client
+speaks there.
+";
+
+const COUNTER: &str = "The folder of a counter, as serve was given it";
 
 const ARCHIVING: &str = "\
 FOLDER has a ledger for each time that something was added, whose name is the number of its first batch in twenty digits.
@@ -66,6 +76,7 @@ pub(crate) fn derbyfig_command<'a>(alloc: Global) -> Result<Command<'a>, Error>
         .subcommand(run(alloc)?)?
         .subcommand(serve(alloc)?)?
         .subcommand(close(alloc)?)?
+        .subcommand(status(alloc)?)?
         .subcommand(check(alloc)?)?
         .subcommand(journal(alloc)?)?
         .subcommand(balances(alloc)?)?
@@ -105,6 +116,12 @@ fn serve<'a>(alloc: Global) -> Result<Command<'a>, Error>
         .after_help(REQUESTS)
         .arg(positional(alloc, "FILE", FILE))?
         .arg(counter(alloc))?
+        .arg(option(
+            alloc,
+            "control",
+            "PATH",
+            "The folder of one more counter, behind the others, for whoever runs the office: see 'close' and 'status'",
+        ))?
         .arg(option(
             alloc,
             "archive",
@@ -153,15 +170,21 @@ fn close<'a>(alloc: Global) -> Result<Command<'a>, Error>
     let command = Command::new(alloc, "close")
         .about("Close the office that has a counter, and wait until it has ended")
         .after_help(CLOSING)
-        .arg(positional(
-            alloc,
-            "COUNTER",
-            "The folder of a counter, as serve was given it",
-        ))?
+        .arg(positional(alloc, "COUNTER", COUNTER))?
         .arg(SECONDS.arg(
             alloc,
             "How many seconds the office may take, 0 to 86400; 60 without it",
         ))?;
+    Ok(command)
+}
+
+fn status<'a>(alloc: Global) -> Result<Command<'a>, Error>
+    ensures memory { IfErr result (λ error. kind_of error ≡ OutOfMemory) }
+{
+    let command = Command::new(alloc, "status")
+        .about("Tell how the office stands that has a counter")
+        .after_help(STANDING)
+        .arg(positional(alloc, "COUNTER", COUNTER))?;
     Ok(command)
 }
 

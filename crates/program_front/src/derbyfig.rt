@@ -17,7 +17,7 @@ use ledger_file::{
     Formatting, LedgerRefusal, copy_ledger, format_ledger, migrate_ledger, open_for_script,
 };
 use ledger_inspection::{BookInspection, BookTask, Inspection, inspect_book, inspect_file};
-use office_engine::{Serving, Terminal, close_office, serve};
+use office_engine::{Serving, Terminal, ask_standing, close_office, serve};
 use program_ends::{OUT_OF_MEMORY, Status, Watched, fail, tell_words, tell_wrong, unwritten};
 use script_streams::write_all;
 use sector_device::MemoryDevice;
@@ -78,6 +78,9 @@ pub fn run_derbyfig<
         Request::Serve(serving) => serve_counters(rt, alloc, &serving, terminal, writer, errors),
         Request::Close { counter, seconds } => {
             ended(alloc, close(rt, alloc, counter, seconds, writer), errors)
+        }
+        Request::Status { counter } => {
+            ended(alloc, tell_standing(rt, alloc, counter, writer), errors)
         }
         Request::Inspect(wish) => inspect(rt, alloc, &wish, writer, errors, shows_progress),
         Request::Book(wish) => inspect_book(rt, alloc, &wish, writer, errors, shows_progress),
@@ -197,7 +200,20 @@ fn close<'a, R: Files<File = File> + Clock, W: Write>(
 ) -> Result<(), Fault<'a>> {
     match close_office(rt, alloc, counter, seconds) {
         Ok(()) => say(alloc, "closed", writer),
-        Err(fault) => Err(Fault::Closing(fault)),
+        Err(fault) => Err(Fault::Control(fault)),
+    }
+}
+
+// Tells how the office stands that has a counter.
+fn tell_standing<'a, R: Files<File = File> + Clock, W: Write>(
+    rt: &R,
+    alloc: Global,
+    counter: &'a str,
+    writer: &mut W,
+) -> Result<(), Fault<'a>> {
+    match ask_standing(rt, alloc, counter) {
+        Ok(told) => say(alloc, told, writer),
+        Err(fault) => Err(Fault::Control(fault)),
     }
 }
 

@@ -8,7 +8,7 @@ use console_engine::ScriptFault;
 use file_device::FileFault;
 use journal_recovery::{MigrateRefusal, OpenName, OpenRefusal};
 use ledger_file::{CopyRefusal, FormatRefusal, LedgerRefusal, PartFault};
-use office_engine::{CloseFault, OfficeFault};
+use office_engine::{ControlFault, OfficeFault};
 use program_ends::Status;
 use std::fmt;
 use thiserror::Error;
@@ -66,9 +66,9 @@ pub enum Fault<'a> {
     /// An office wasn't kept open, or ended early.
     #[error("{0}")]
     Office(OfficeFault<'a>),
-    /// An office wasn't closed.
+    /// An office wasn't closed, or doesn't tell how it stands.
     #[error("{0}")]
-    Closing(CloseFault<'a>),
+    Control(ControlFault<'a>),
     /// An archive doesn't have all of a ledger.
     #[error("{0}")]
     Archive(ArchiveFault<'a>),
@@ -88,7 +88,7 @@ impl<'a> Fault<'a> {
             Fault::Migration(MigrationFault::Refused(refusal)) => Status::from(refusal),
             Fault::Migration(MigrationFault::NotEmpty) => Status::Refused,
             Fault::Office(fault) => fault.status(),
-            Fault::Closing(fault) => fault.status(),
+            Fault::Control(fault) => fault.status(),
             Fault::Archive(fault) => fault.status(),
             Fault::NoLedger { refusal, .. } => Status::from(refusal),
             Fault::Unread { .. } => Status::Failed,

@@ -26,6 +26,10 @@ pub enum Request<'a> {
         /// How long the office may take, 0 to 86,400.
         seconds: u64,
     },
+    /// To tell how the office stands that has the counter with this folder.
+    Status {
+        counter: &'a str,
+    },
     /// To copy a ledger of an older layout.
     Migrate(Copying<'a>),
     /// To copy a ledger of the present one.

@@ -81,6 +81,10 @@ fn requested<'a>(alloc: Global, matches: &ArgMatches<'a>) -> Result<Request<'a>,
         "run" => running(options),
         "serve" => serving(alloc, options),
         "close" => closing(options),
+        "status" => {
+            let counter = path(options, "COUNTER")?;
+            Ok(Request::Status { counter })
+        }
         "format" => making(options),
         "migrate" => {
             let copying = copying(options, "OLD", WrongWord::NewIsOld)?;
@@ -126,6 +130,9 @@ fn serving<'a>(alloc: Global, options: &ArgMatches<'a>) -> Result<Request<'a>, W
         for folder in folders {
             counters.push(*folder)?;
         }
+    }
+    if let Some(folder) = options.get_str("control") {
+        counters.push(folder)?;
     }
     Ok(Request::Serve(Serving {
         path,

@@ -1,14 +1,14 @@
 -- What is told of a line that begins with this name.
-use Rattle.std.proofs.Common.{◌≡◌, List, [], ◌∷◌, codes}
+use Rattle.std.proofs.Common.{◌≡◌, true, None, List, [], ◌∷◌, codes}
 use Rattle.script_grammar.specs.Entries.{entry_forms, told_of_entry, with_reference}
 use Rattle.script_grammar.specs.Grammar.{line_fault}
-use Rattle.script_grammar.specs.Places.{told_by, told_of_one}
+use Rattle.script_grammar.specs.Places.{is_skipped, told_by, told_of_one}
 use Rattle.script_grammar.specs.Places.{Account, BitText, Moves, Number, Slots}
-use Rattle.script_grammar.specs.Requests.{request_fault}
+use Rattle.script_grammar.specs.Requests.{request_fault, request_forms}
 use Rattle.script_grammar.specs.declared.entries.Reference.{Reference}
 use Rattle.script_grammar.specs.declared.entries.Reference.TheVariants.{Fixed, GivenOr}
 use Rattle.script_grammar.proofs.EntryLemmas.{entry_named}
-use Rattle.script_grammar.proofs.GrammarLemmas.{Word, behind, fills_named}
+use Rattle.script_grammar.proofs.GrammarLemmas.{Word, behind, fills_named, skipped}
 
 pub format_told : (words : List Word) → line_fault (codes "format" ∷ words) ≡ told_of_one (Slots ∷ []) words
 unfolding line_fault
@@ -66,6 +66,10 @@ pub archive_told : (words : List Word) → request_fault (codes "archive" ∷ wo
 unfolding request_fault
 archive_told words = behind (codes "archive") ([] ∷ []) words
 
+pub status_told : (words : List Word) → request_fault (codes "status" ∷ words) ≡ told_of_one [] words
+unfolding request_fault
+status_told words = behind (codes "status") ([] ∷ []) words
+
 pub help_told : (words : List Word) → request_fault (codes "help" ∷ words) ≡ told_of_one [] words
 unfolding request_fault
 help_told words = behind (codes "help") ([] ∷ []) words
@@ -73,6 +77,11 @@ help_told words = behind (codes "help") ([] ∷ []) words
 pub close_told : (words : List Word) → request_fault (codes "close" ∷ words) ≡ told_of_one [] words
 unfolding request_fault
 close_told words = behind (codes "close") ([] ∷ []) words
+
+-- nothing is wrong with a counter's line that says nothing
+pub skipped_request : (words : List Word) → is_skipped words ≡ true → request_fault words ≡ None
+unfolding request_fault
+skipped_request words e = skipped request_forms words e
 
 pub deposit_told : (by : Reference) (words : List Word) → told_by (entry_forms by) (codes "deposit" ∷ words) ≡ told_of_entry by (Account ∷ Number ∷ []) words
 deposit_told (Fixed line) words = behind (codes "deposit") ((Account ∷ Number ∷ []) ∷ []) words
@@ -93,6 +102,6 @@ seal_told (GivenOr line) words = behind (codes "seal") ((Account ∷ []) ∷ wit
 -- what each of the two grammars knows of its names, and that of entries
 pub ruleset commands = (format_told, open_told, turn_told, bits_told, balances_told, crash_told, day_told, fills_named)
 
-pub ruleset requests = (balance_told, find_told, last_told, first_told, hello_told, copy_told, archive_told, help_told, close_told, fills_named)
+pub ruleset requests = (balance_told, find_told, last_told, first_told, hello_told, copy_told, archive_told, status_told, help_told, close_told, fills_named)
 
 pub ruleset kinds = (deposit_told, withdraw_told, transfer_told, seal_told, entry_named)

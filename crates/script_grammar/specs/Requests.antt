@@ -7,7 +7,7 @@ use Rattle.script_grammar.specs.Places.{Account, Name, Number, NumberIs}
 use Rattle.script_grammar.specs.declared.entries.Reference.TheVariants.{GivenOr}
 use Rattle.script_grammar.specs.declared.faults.LineFault.{LineFault}
 use Rattle.script_grammar.specs.declared.requests.Request.{Request}
-use Rattle.script_grammar.specs.declared.requests.Request.TheVariants.{Post, Balance, Find, Last, First, Hello, Copy, Archive, Help, Close}
+use Rattle.script_grammar.specs.declared.requests.Request.TheVariants.{Post, Balance, Find, Last, First, Hello, Copy, Archive, Status, Help, Close}
 
 -- the form of each request but entries
 abbrev pub balance_request : List Field
@@ -31,6 +31,9 @@ copy_request = Name (codes "copy") ∷ []
 abbrev pub archive_request : List Field
 archive_request = Name (codes "archive") ∷ []
 
+abbrev pub status_request : List Field
+status_request = Name (codes "status") ∷ []
+
 abbrev pub help_request : List Field
 help_request = Name (codes "help") ∷ []
 
@@ -40,8 +43,8 @@ close_request = Name (codes "close") ∷ []
 -- the forms of a counter's lines
 abbrev pub request_forms : List (List Field)
 request_forms =
-    entries_given ++ (balance_request ∷ find_request ∷ last_request ∷ first_request ∷ hello_request ∷ copy_request ∷ archive_request ∷ help_request ∷ close_request
-    ∷ [])
+    entries_given ++ (balance_request ∷ find_request ∷ last_request ∷ first_request ∷ hello_request ∷ copy_request ∷ archive_request ∷ status_request ∷ help_request
+    ∷ close_request ∷ [])
 
 -- what is wrong with a counter's line of these words, the first that holds
 unfoldable pub request_fault : List (List ℕ) → Option LineFault
@@ -57,6 +60,7 @@ SpellsRequest words (First reference) = Fills words first_request (NumberIs refe
 SpellsRequest words (Hello number) = Fills words hello_request (NumberIs number ∷ [])
 SpellsRequest words Copy = Fills words copy_request []
 SpellsRequest words Archive = Fills words archive_request []
+SpellsRequest words Status = Fills words status_request []
 SpellsRequest words Help = Fills words help_request []
 SpellsRequest words Close = Fills words close_request []
 

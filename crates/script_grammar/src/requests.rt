@@ -30,6 +30,8 @@ pub enum Request {
     Copy,
     /// `archive`: all batches by now go to the archive.
     Archive,
+    /// `status`: how the office stands.
+    Status,
     /// `help`: which requests there are.
     Help,
     /// `close`: the office closes.
@@ -41,7 +43,7 @@ pub enum Request {
 ///
 /// # Errors
 /// [`LineFault`], the first thing that is wrong with the line; never `BadBits`.
-#[tactic(auto, using(crate::proofs::GrammarLemmas::skipped), unfolding(crate::specs::Requests::IsRequestRead, crate::specs::Requests::request_fault))]
+#[tactic(auto, using(crate::proofs::NameLemmas::skipped_request), unfolding(crate::specs::Requests::IsRequestRead))]
 pub fn read_request(line: &[u8]) -> Result<Option<Request>, LineFault>
     ensures fault { IfErr result (λ fault. request_fault (words_of line.now) ≡ Some fault) }
     ensures sound { OnOk result (request_fault (words_of line.now) ≡ None) }
@@ -93,6 +95,10 @@ fn read_requested(name: &[u8], words: Words<'_>) -> Result<Request, LineFault>
         "archive" => {
             let Nothing = exactly(words)?;
             Ok(Request::Archive)
+        }
+        "status" => {
+            let Nothing = exactly(words)?;
+            Ok(Request::Status)
         }
         "help" => {
             let Nothing = exactly(words)?;

@@ -22,6 +22,8 @@ fn each_request_is_read(rt: HostRuntime) {
             && request(b" find  018446744073709551615 ") == Some(Request::Find { reference })
     );
     assert!(rt;
-        request(b"help") == Some(Request::Help) && request(b"close") == Some(Request::Close)
+        request(b"help") == Some(Request::Help)
+            && request(b"status") == Some(Request::Status)
+            && request(b"close") == Some(Request::Close)
     );
 }

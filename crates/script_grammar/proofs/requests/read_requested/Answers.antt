@@ -9,10 +9,10 @@ use Rattle.script_grammar.proofs.requests.read_requested.Goals as goal
 -- what is told of a line of another name is told of it as an entry
 as_entry : (text word : Word) (words : List Word) → (slice_index word 0 == 35) ≡ false → IsText text word → (text ≡ codes "balance" → ⊥) → (text ≡ codes "find" → ⊥)
     → (text ≡ codes "last" → ⊥) → (text ≡ codes "first" → ⊥)
-    → (text ≡ codes "hello" → ⊥) → (text ≡ codes "copy" → ⊥) → (text ≡ codes "archive" → ⊥) → (text ≡ codes "help" → ⊥) → (text ≡ codes "close" → ⊥)
+    → (text ≡ codes "hello" → ⊥) → (text ≡ codes "copy" → ⊥) → (text ≡ codes "archive" → ⊥) → (text ≡ codes "status" → ⊥) → (text ≡ codes "help" → ⊥) → (text ≡ codes "close" → ⊥)
     → request_fault (word ∷ words) ≡ told_by entries_given (word ∷ words)
 unfolding request_fault
-as_entry text word words no_comment same balance find last first hello copy archive help close = rw (
+as_entry text word words no_comment same balance find last first hello copy archive status help close = rw (
   no_comment,
   no_name text word (codes "balance") same refl balance,
   no_name text word (codes "find") same refl find,
@@ -21,6 +21,7 @@ as_entry text word words no_comment same balance find last first hello copy arch
   no_name text word (codes "hello") same refl hello,
   no_name text word (codes "copy") same refl copy,
   no_name text word (codes "archive") same refl archive,
+  no_name text word (codes "status") same refl status,
   no_name text word (codes "help") same refl help,
   no_name text word (codes "close") same refl close,
 ) refl
@@ -31,7 +32,7 @@ returns-in_err-entry-in_default c =
     let other = c.in_default in
     let told =
     as_entry _ _ c.args.words c.requires c.text_of.ensures.names other.not-balance other.not-find other.not-last other.not-first other.not-hello other.not-copy
-    other.not-archive other.not-help other.not-close in
+    other.not-archive other.not-status other.not-help other.not-close in
     search (rules, told ∙ c.in_err-entry-in_default.ensures)
 
 pub returns-in_ok-entry-in_default : goal.returns-in_ok-entry-in_default
@@ -40,6 +41,6 @@ returns-in_ok-entry-in_default c =
     let other = c.in_default in
     let h = c.in_ok-entry-in_default.ensures in (
       as_entry _ _ c.args.words c.requires c.text_of.ensures.names other.not-balance other.not-find other.not-last other.not-first other.not-hello other.not-copy
-          other.not-archive other.not-help other.not-close ∙ h.0,
+          other.not-archive other.not-status other.not-help other.not-close ∙ h.0,
       h.1,
     )

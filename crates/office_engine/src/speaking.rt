@@ -1,0 +1,123 @@
+//! Speaking at an office from outside, at one of its counters.
+ghost use Rattle.std.specs.Prelude.{◌≡◌};
+ghost use Rattle.office_engine.specs.Faults.{status_of_control};
+
+use crate::faults::PipeFault;
+use crate::locks::{LockRefusal, lock_folder};
+use crate::pipes::{PipeRefusal, Side, find_pipe};
+use program_ends::Status;
+use script_streams::write_all;
+use std::alloc::Global;
+use std::fs::{File, Files, TryLockError};
+use thiserror::Error;
+
+/// Why an office isn't spoken at, or doesn't do what it is asked.
+#[derive(Clone, Copy, Debug, PartialEq, Eq, Error)]
+pub enum ControlFault<'a> {
+    /// The counter's pipe can't be used.
+    #[error("{0}")]
+    Pipe(PipeFault<'a>),
+    /// No office has the counter.
+    #[error("{0}: not open")]
+    NotOpen(&'a str),
+    /// A client speaks there.
+    #[error("{0}: another client has it")]
+    Taken(&'a str),
+    /// The folder's lock can't be had.
+    #[error("{0}/lock: it can't be opened or locked")]
+    NoLock(&'a str),
+    /// The pipe can't be written.
+    #[error("{0}/in: it can't be written")]
+    Unwritten(&'a str),
+    /// The office was asked to close, and goes on.
+    #[error("{0}: its office is still open")]
+    StillOpen(&'a str),
+    /// The office was asked how it stands, and closes, or can't read its ledger.
+    #[error("{0}: its office doesn't tell")]
+    Untold(&'a str),
+}
+
+impl ControlFault<'_> {
+    /// The status that the program ends with.
+    pub fn status(self) -> Status
+        ensures { result ≡ status_of_control self.entry }
+    {
+        match self {
+            ControlFault::NotOpen(_) | ControlFault::Taken(_) => Status::Refused,
+            ControlFault::Pipe(_)
+            | ControlFault::NoLock(_)
+            | ControlFault::Unwritten(_)
+            | ControlFault::StillOpen(_)
+            | ControlFault::Untold(_) => Status::Failed,
+        }
+    }
+}
+
+/// Who speaks at the counter of a folder, whose lock it holds.
+#[derive(Drop)]
+pub(crate) struct Speaker<'a> {
+    folder: &'a str,
+    pipe: File,
+    // held until it is dropped
+    _lock: File,
+}
+
+impl<'a> Speaker<'a> {
+    /// At a counter that an office has, and no other client.
+    pub(crate) fn at<R: Files<File = File>>(
+        rt: &R,
+        alloc: Global,
+        folder: &'a str,
+    ) -> Result<Speaker<'a>, ControlFault<'a>> {
+        let pipe = match find_pipe(rt, alloc, folder, Side::In) {
+            Ok((pipe, _)) => pipe,
+            Err(refusal) => return Err(at_pipe(folder, Side::In, refusal)),
+        };
+        if !is_held(&pipe, folder)? {
+            return Err(ControlFault::NotOpen(folder));
+        }
+        match lock_folder(rt, alloc, folder) {
+            Ok(lock) => Ok(Speaker {
+                folder,
+                pipe,
+                _lock: lock,
+            }),
+            Err(LockRefusal::Taken) => Err(ControlFault::Taken(folder)),
+            Err(LockRefusal::Unlocked) => Err(ControlFault::NoLock(folder)),
+        }
+    }
+
+    /// Says these lines.
+    pub(crate) fn say(&mut self, lines: &[u8]) -> Result<(), ControlFault<'a>> {
+        match write_all(&mut self.pipe, lines) {
+            Ok(()) => Ok(()),
+            Err(_) => Err(ControlFault::Unwritten(self.folder)),
+        }
+    }
+
+    /// Whether the office still has the counter.
+    pub(crate) fn is_heard(&self) -> Result<bool, ControlFault<'a>> {
+        is_held(&self.pipe, self.folder)
+    }
+}
+
+// Whether an office has the pipe, which it has locked.
+fn is_held<'a>(pipe: &File, folder: &'a str) -> Result<bool, ControlFault<'a>> {
+    match pipe.try_lock() {
+        Ok(()) => match pipe.unlock() {
+            Ok(()) => Ok(false),
+            Err(_) => Err(at_pipe(folder, Side::In, PipeRefusal::Unlocked)),
+        },
+        Err(TryLockError::WouldBlock) => Ok(true),
+        Err(TryLockError::Error(_)) => Err(at_pipe(folder, Side::In, PipeRefusal::Unlocked)),
+    }
+}
+
+/// What is wrong with a pipe.
+pub(crate) fn at_pipe(folder: &str, side: Side, refusal: PipeRefusal) -> ControlFault<'_> {
+    ControlFault::Pipe(PipeFault {
+        folder,
+        side,
+        refusal,
+    })
+}
