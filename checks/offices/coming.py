@@ -169,7 +169,8 @@ def tells_how_it_stands(case):
                 require_told(turns, 5, 3, 2, "none")
             with control.held():
                 taken = (1, "", f"{control.folder}: another client has it\n")
-                require_same([case.standing(control), case.close(control)], [taken] * 2, "beside another client")
+                closing = case.close(control, "--seconds", "0")
+                require_same([case.standing(control), closing], [taken] * 2, "beside another client")
         told = one.ask("status")[0].split()
         require_same(told[:6] + told[7:], "office next 5 free 3 turns clients 0 archived none".split(), "the line")
         require_same(other.ask("balance 1"), ["balance 1 25"], "a balance behind it")

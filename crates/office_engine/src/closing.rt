@@ -12,8 +12,9 @@ const SAID: &[u8] = b" ?\nhello 0\nclose\n";
 /// How often in a second it is looked whether the office has ended.
 const LOOKS: u64 = 50;
 
-/// Asks the office that has a counter to close, and waits until it has ended, for so many seconds at most. The folder
-/// is the counter's. What was asked at it before is answered first. No answer is read.
+/// Asks the office that has a counter to close, and waits until it has ended, for so many seconds at most. If another
+/// client speaks at the counter, it waits as long for that one's end first. The folder is the counter's. What was asked
+/// at it before is answered first. No answer is read.
 ///
 /// # Errors
 /// [`ControlFault`].
@@ -23,7 +24,7 @@ pub fn close_office<'a, R: Files<File = File> + Clock>(
     folder: &'a str,
     seconds: u64,
 ) -> Result<(), ControlFault<'a>> {
-    let mut speaker = Speaker::at(rt, alloc, folder)?;
+    let mut speaker = speaker_within(rt, alloc, folder, seconds)?;
     speaker.say(SAID)?;
     for _ in 0..seconds.saturating_mul(LOOKS) {
         if !speaker.is_heard()? {
@@ -32,4 +33,20 @@ pub fn close_office<'a, R: Files<File = File> + Clock>(
         sleep(rt, Duration::from_millis(1_000 / LOOKS));
     }
     Err(ControlFault::StillOpen(folder))
+}
+
+// Who speaks at the counter, once no other client does.
+fn speaker_within<'a, R: Files<File = File> + Clock>(
+    rt: &R,
+    alloc: Global,
+    folder: &'a str,
+    seconds: u64,
+) -> Result<Speaker<'a>, ControlFault<'a>> {
+    for _ in 0..seconds.saturating_mul(LOOKS) {
+        match Speaker::at(rt, alloc, folder) {
+            Err(ControlFault::Taken(_)) => sleep(rt, Duration::from_millis(1_000 / LOOKS)),
+            speaker => return speaker,
+        }
+    }
+    Speaker::at(rt, alloc, folder)
 }

@@ -30,8 +30,8 @@ is the number of the batch, 'refused REASON R', 'undecided R', 'balance A M', 'r
 posted outlives a power failure.";
 
 const CLOSING: &str = "\
-What was asked at the counter before is answered first. The status is 1 if no office has the counter, or a client speaks
-there.
+What was asked at the counter before is answered first. If a client speaks there, its end is awaited as long. The status
+is 1 if no office has the counter, or the client stays.
 ";
 
 const STANDING: &str = "\
