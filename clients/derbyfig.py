@@ -76,7 +76,7 @@ class Counter:
     def __enter__(self):
         self.lock = os.open(self.folder / "lock", os.O_RDWR | os.O_CREAT, 0o666)
         try:
-            fcntl.flock(self.lock, fcntl.LOCK_EX | fcntl.LOCK_NB)
+            self.take_lock()
             self.told = os.open(self.folder / "out", os.O_RDONLY | os.O_NONBLOCK)
             self.said = os.open(self.folder / "in", os.O_WRONLY | os.O_NONBLOCK)
             self.greet()
@@ -92,6 +92,15 @@ class Counter:
             self.__exit__()
             raise
         return self
+
+    def take_lock(self):
+        """Tries twice, since an office that tells how it stands has it for a moment."""
+        how = fcntl.LOCK_EX | fcntl.LOCK_NB
+        try:
+            fcntl.flock(self.lock, how)
+        except BlockingIOError:
+            time.sleep(0.1)
+            fcntl.flock(self.lock, how)
 
     def __exit__(self, *_):
         for end in (self.said, self.told, self.lock):

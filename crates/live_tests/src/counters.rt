@@ -46,6 +46,7 @@ impl Read for InPieces {
 }
 
 const REQUESTS: &[u8] = b"\
+status
 last
 deposit 1 500 7
 balance 1
@@ -82,6 +83,7 @@ deposit 1 1
 ";
 
 const RESPONSES: &[u8] = b"\
+office next 0 free 4 turns 0 clients 2 archived none
 last none
 posted 0 7
 balance 1 500

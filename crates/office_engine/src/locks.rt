@@ -2,6 +2,11 @@
 use std::alloc::{AllocError, Global};
 use std::fs;
 use std::fs::{File, Files, OpenOptions, TryLockError};
+use std::thread::sleep;
+use std::time::{Clock, Duration};
+
+/// How many milliseconds lie between the two times that a lock is tried.
+const PAUSE: u64 = 100;
 
 /// Why a folder's lock isn't had.
 #[derive(Clone, Copy, Debug, PartialEq, Eq)]
@@ -12,11 +17,12 @@ pub(crate) enum LockRefusal {
     Unlocked,
 }
 
-/// The lock of a counter's folder, for as long as the file is open. It is made where it isn't there.
+/// The lock of a counter's folder, for as long as the file is open. It is made where it isn't there. It is tried twice,
+/// since an office that tells how it stands has it for a moment.
 ///
 /// # Errors
 /// [`LockRefusal`]; out of memory is `Unlocked`.
-pub(crate) fn lock_folder<R: Files<File = File>>(
+pub(crate) fn lock_folder<R: Files<File = File> + Clock>(
     rt: &R,
     alloc: Global,
     folder: &str,
@@ -32,6 +38,9 @@ pub(crate) fn lock_folder<R: Files<File = File>>(
     else {
         return Err(LockRefusal::Unlocked);
     };
+    if matches!(file.try_lock(), Err(TryLockError::WouldBlock)) {
+        sleep(rt, Duration::from_millis(PAUSE));
+    }
     match file.try_lock() {
         Ok(()) => Ok(file),
         Err(TryLockError::WouldBlock) => Err(LockRefusal::Taken),

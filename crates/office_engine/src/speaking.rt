@@ -9,6 +9,7 @@ use program_ends::Status;
 use script_streams::write_all;
 use std::alloc::Global;
 use std::fs::{File, Files, TryLockError};
+use std::time::Clock;
 use thiserror::Error;
 
 /// Why an office isn't spoken at, or doesn't do what it is asked.
@@ -64,7 +65,7 @@ pub(crate) struct Speaker<'a> {
 
 impl<'a> Speaker<'a> {
     /// At a counter that an office has, and no other client.
-    pub(crate) fn at<R: Files<File = File>>(
+    pub(crate) fn at<R: Files<File = File> + Clock>(
         rt: &R,
         alloc: Global,
         folder: &'a str,
