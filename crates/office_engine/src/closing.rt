@@ -12,6 +12,9 @@ const SAID: &[u8] = b" ?\nhello 0\nclose\n";
 /// How often in a second it is looked whether the office has ended.
 const LOOKS: u64 = 50;
 
+/// How often in a second a counter is tried that another client has: each time takes as long as the lock's two tries.
+const TRIES: u64 = 10;
+
 /// Asks the office that has a counter to close, and waits until it has ended, for so many seconds at most. If another
 /// client speaks at the counter, it waits as long for that one's end first. The folder is the counter's. What was asked
 /// at it before is answered first. No answer is read.
@@ -42,9 +45,9 @@ fn speaker_within<'a, R: Files<File = File> + Clock>(
     folder: &'a str,
     seconds: u64,
 ) -> Result<Speaker<'a>, ControlFault<'a>> {
-    for _ in 0..seconds.saturating_mul(LOOKS) {
+    for _ in 0..seconds.saturating_mul(TRIES) {
         match Speaker::at(rt, alloc, folder) {
-            Err(ControlFault::Taken(_)) => sleep(rt, Duration::from_millis(1_000 / LOOKS)),
+            Err(ControlFault::Taken(_)) => {}
             speaker => return speaker,
         }
     }
