@@ -30,11 +30,11 @@ class Archiving:
 
     def prepare(self, machine, layout):
         """Makes the ledger and the folder."""
-        machine.send("/tmp/script", SCRIPT)
         machine.ask(f"derbyfig format {layout.path()} --slots {SLOTS} && mkdir {layout.path('books')}")
 
     def work(self, machine, layout, preload, note):
         """Posts and archives in turn, and notes each round that is told as archived."""
+        machine.send("/tmp/script", SCRIPT)
         for number in range(self.count):
             machine.ask(f"derbyfig run {layout.path()} < /tmp/script")
             told = machine.ask(f"{preload}derbyfig archive {layout.path()} {layout.path('books')}")
