@@ -42,6 +42,11 @@ class Client:
             return f"deposit 1025 {amount}", Row(0, self.number, "deposit", "", "1025", str(amount), reference)
         return f"deposit {account} {amount}", Row(0, self.number, "deposit", "", str(account), str(amount), reference)
 
+    def begin(self):
+        """Says where its references begin: once early batches are out of sight, nobody knows that there are none."""
+        begin = max(1, self.first)
+        require_same(self.counter.ask(f"first {begin}"), [f"first {begin}"], f"where counter {self.number} begins")
+
     def go_on(self):
         """Says what may be under way, and hears what there is. How many answers came."""
         before = len(self.heard)
@@ -116,6 +121,8 @@ def one_kill(case, first, moments, slots):
     clients = [Client(number, first + 10_000 * number, counter) for number, counter in enumerate(counters)]
     with case.formatted(counters, slots) as office:
         office.opened(*counters)
+        for client in clients:
+            client.begin()
         talk_until(clients, moments.randint(1, COUNTERS * (POSTINGS - UNDER_WAY)))
         wait(moments.uniform(0, 0.002))
         require(office.run.poll() is None, f"it has ended as {office.all_said()}")

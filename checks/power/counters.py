@@ -2,6 +2,7 @@
 come all the time. A counter's client is the host, by a port of the machine whose bytes go through the counter's pipes."""
 import dataclasses
 import os
+import pathlib
 import select
 import time
 
@@ -31,7 +32,8 @@ PIPES = "\n".join([
 class Port(office.Counter):
     """A counter's pipes, by a port of the machine."""
 
-    def __init__(self, port):
+    def __init__(self, name, port):
+        self.folder = pathlib.PurePath(name)
         os.set_blocking(port.fileno(), False)
         self.input = self.output = port.fileno()
         self.heard = b""
@@ -62,7 +64,7 @@ class Counters:
 
     def work(self, machine, layout, preload, note):
         """Lets the clients talk, and notes at each answer whose it is and how many it has by then."""
-        ports = [Port(machine.ports[name]) for name in PORTS]
+        ports = [Port(name, machine.ports[name]) for name in PORTS]
         first = self.round * APART * COUNTERS
         self.clients = [kills.Client(number, first + APART * number, port) for number, port in enumerate(ports)]
         machine.ask(PIPES)
@@ -70,6 +72,8 @@ class Counters:
         machine.say(f"{preload}derbyfig serve {layout.path(self.ledger())} --format {SLOTS} {named}")
         machine.until(f"opened {COUNTERS} next 0 total 0\n".encode())
         note((0, 0))
+        for client in self.clients:
+            client.begin()
         self.talk(note)
         self.require_answers()
 
