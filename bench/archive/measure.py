@@ -63,7 +63,7 @@ def make_table(folder, book):
     table = sqlite3.connect(path)
     with subprocess.Popen([folder / "office", "journal", book, "--as", "csv"], stdout=subprocess.PIPE, text=True) as listing:
         names = next(listing.stdout).strip().split(",")
-        table.execute(f"create table rows ({', '.join(names)})")
+        table.execute("create table rows ({})".format(", ".join(f'"{name}"' for name in names)))
         rows = (line.rstrip("\n").split(",") for line in listing.stdout)
         table.executemany(f"insert into rows values ({', '.join('?' * len(names))})", rows)
     table.commit()
@@ -112,4 +112,5 @@ def main():
     print_book(folder, rounds, batches)
 
 
-main()
+if __name__ == "__main__":
+    main()
