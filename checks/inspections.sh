@@ -1,10 +1,10 @@
 #!/usr/bin/env bash
 # Runs the commands of derbyfig that look at a ledger on files that scripts made, on older and on damaged ones, and
-# compares what they print with what stands in checks/inspections. Looks at their statuses, at their progress, at the
-# memory that they take on banks of 1,000 and 100,000 slots, and at the options that the man pages and --help name; and
-# compares their balances with those that hledger and ledger find in what is printed for them, if both are on the
-# machine. One line for each, and status 1 at the first difference. Words: the built turn_console, and the built
-# derbyfig.
+# compares what they print with what stands in checks/inspections. Looks at their statuses, at what they tell of wrong
+# words and of outputs that fail, at their progress, at the memory that they take on banks of 1,000 and 100,000 slots,
+# and at the options that the man pages and --help name; and compares their balances with those that hledger and ledger
+# find in what is printed for them, if both are on the machine. One line for each, and status 1 at the first difference.
+# Words: the built turn_console, and the built derbyfig.
 set -euo pipefail
 console=$(realpath "${1:?the first word is the built turn_console}")
 derbyfig=$(realpath "${2:?the second word is the built derbyfig}")
@@ -93,6 +93,22 @@ for words in "--from 3" "--account 2 --reference 13" "--reference 12" "--from 3 
     # shellcheck disable=SC2086
     run 0 "$wanted/selected.csv" "" journal office --as csv $words
 done
+head -n 1 "$wanted/selected.csv" > none
+run 0 none "" journal office --as csv --reference 12 --account 9
+python3 "$wanted/widest.py" widest
+for format in table csv json hledger; do
+    run 0 "$wanted/widest.$format" "" journal widest --as "$format" --date 2026-02-28
+done
+for date in 1970-01-01 2024-02-29 0000-01-01 9999-12-31; do
+    "$derbyfig" balances office --as hledger --date "$date" | grep -q "^$date opening" || { echo "no date: $date"; exit 1; }
+done
+for date in "" 1970 1970-1-1 1970-13-01 1970-00-01 1970-01-32 2023-02-29 1970/01/01 19700101 1970-01-01T00:00:00 -970-01-01 \
+    +970-01-01 " 970-01-01"; do
+    status=0
+    "$derbyfig" balances office "--date=$date" > printed 2> told || status=$?
+    [ "$status" -eq 2 ] && grep -q '^error: a date has the form YYYY-MM-DD' told || { echo "a date: $date"; exit 1; }
+done
+echo "dates: as they must be"
 "$derbyfig" map office > drawn
 python3 -c 'import sys, xml.dom.minidom as dom; dom.parse("drawn").documentElement.tagName == "svg" or sys.exit("no SVG")'
 cmp office before || { echo "the file was changed"; exit 1; }
@@ -182,15 +198,68 @@ exec 3>&-
 wait "$holder"
 run 0 "$wanted/check.out" "" check office
 
-# Wrong words, and outputs that fail.
-for words in "" "check" "chart office" "journal office --as xml" "journal office --date 2023-02-29" \
-    "journal office --account 0" "balances office --from 1" "check office --at 1" "map office more"; do
+# Wrong words: the program, its words, and how it begins to tell that.
+while IFS='|' read -r program words begin; do
     status=0
     # shellcheck disable=SC2086
-    "$derbyfig" $words > printed 2> told || status=$?
-    [ "$status" -eq 2 ] && [ ! -s printed ] && [ -s told ] || { echo "$words: ends with status $status"; exit 1; }
-    echo "wrong words, $words: as they must be"
+    "${!program}" $words > printed 2> told || status=$?
+    [ "$status" -eq 2 ] && [ ! -s printed ] && [ "$(head -c "${#begin}" told)" = "$begin" ] \
+        || { echo "$program $words: ends with status $status, and tells $(cat told)"; exit 1; }
+    echo "wrong words, $program $words: as they must be"
+done << END
+derbyfig||error: 'derbyfig' requires a subcommand but one was not provided
+derbyfig|check|error: the following required arguments were not provided
+derbyfig|check office --at 1|error: unexpected argument '--at' found
+derbyfig|chart office|error: unrecognized subcommand 'chart'
+derbyfig|journal office --as xml|error: invalid value 'xml' for '--as <FORMAT>'
+derbyfig|journal office --from x|error: invalid value 'x' for '--from <N>'
+derbyfig|journal office --account 0|error: invalid value '0' for '--account <A>'
+derbyfig|journal office --account 1025|error: invalid value '1025' for '--account <A>'
+derbyfig|balances office --from 1|error: unexpected argument '--from' found
+derbyfig|map office more|error: unexpected argument 'more' found
+derbyfig|run office --sectors 0|error: invalid value '0' for '--sectors <K>'
+derbyfig|serve office --stations 65|error: invalid value '65' for '--stations <N>'
+derbyfig|serve office --format 1000001|error: invalid value '1000001' for '--format <SLOTS>'
+derbyfig|serve office|an office needs a --counter or --terminal
+derbyfig|serve office --terminal --overwrite|--overwrite needs --format
+derbyfig|close counter --seconds 86401|error: invalid value '86401' for '--seconds <S>'
+derbyfig|format office|error: the following required arguments were not provided
+derbyfig|migrate old --slots 1|error: the following required arguments were not provided
+derbyfig|migrate office office --slots 1|error: NEW is OLD; take another path
+derbyfig|copy office office --slots 1|error: NEW is LEDGER; take another path
+derbyfig|restore office office --slots 1|error: NEW is FOLDER; take another path
+console|--sectors 0|error: invalid value '0' for '--sectors <K>'
+console|--sectors 4000040|error: invalid value '4000040' for '--sectors <K>'
+console|--sectors x|error: invalid value 'x' for '--sectors <K>'
+console|--sectors|error: a value is required for '--sectors <K>'
+console|frob|error: unexpected argument 'frob' found
+console|--frob|error: unexpected argument '--frob' found
+END
+
+# An output that is full is told. One that nobody reads any more ends what was asked for beside a ledger quietly; but a
+# script's answers aren't told to nobody.
+ends_with() {
+    local output=$1 ends=$2 line=$3 status=0
+    shift 3
+    case $output in
+        full) "$derbyfig" "$@" < crash > /dev/full 2> told || status=$? ;;
+        closed) python3 "$wanted/closed.py" "$derbyfig" "$@" < crash 2> told || status=$? ;;
+    esac
+    [ "$status" -eq "$ends" ] && [ "$(cat told)" = "$line" ] \
+        || { echo "$*: ends with status $status at a $output output, and tells $(cat told)"; exit 1; }
+    echo "$*: at a $output output as it must be"
+}
+echo crash > crash
+for words in "check office" {journal,balances}" office --as "{table,csv,json,hledger} --help --version; do
+    # shellcheck disable=SC2086
+    ends_with full 3 "write failed" $words
+    # shellcheck disable=SC2086
+    ends_with closed 0 "" $words
 done
+ends_with full 3 "write failed" run
+ends_with closed 3 "write failed" run
+
+# A journal whose reader goes away in its midst.
 python3 "$wanted/bank.py" thousand 1000
 python3 "$wanted/bank.py" hundred_thousand 100000
 for format in table csv json hledger; do
@@ -198,11 +267,6 @@ for format in table csv json hledger; do
     [ "${PIPESTATUS[0]}" -eq 0 ] && [ ! -s told ] || { echo "a closed output, $format: $(cat told)"; exit 1; }
     echo "a closed output, $format: as it must be"
 done
-status=0
-"$derbyfig" check office > /dev/full 2> told || status=$?
-[ "$status" -eq 3 ] && [ "$(cat told)" = "write failed" ] \
-    || { echo "a full output: ends with status $status"; exit 1; }
-echo "a full output: as it must be"
 
 # Progress, on a terminal alone.
 "$derbyfig" journal hundred_thousand 2> told > /dev/null

@@ -1,15 +1,14 @@
 //! The words of `derbyfig`.
-use crate::images::DEPOSIT;
 use ledger_inspection::{BookTask, Locking, Task};
 use office_engine::Terminal;
-use program_front::{Request, read_request, run_derbyfig, run_derbyfig_words};
+use program_front::{Request, read_request, run_derbyfig_words};
 use std::alloc::Global;
 use std::io;
 use std::io::ErrorKind;
 
 fn terminal(alloc: Global) -> Terminal<&'static [u8], Vec<u8>> {
     Terminal {
-        input: DEPOSIT.as_bytes(),
+        input: b"".as_slice(),
         output: Vec::new(alloc),
     }
 }
@@ -134,108 +133,6 @@ fn each_command_has_its_words(rt: HostRuntime) {
         matches!(&asked, Ok(Request::Archive(archiving)) if archiving.ledger == "book"
         && archiving.folder == "books")
     );
-}
-
-// Words, and how it is told that they are wrong.
-const WRONG: [(&[&str], &str); 19] = [
-    (
-        &["journal", "book", "--from", "x"],
-        "error: invalid value 'x' for '--from <N>'",
-    ),
-    (
-        &["journal", "book", "--account", "0"],
-        "error: invalid value '0' for '--account <A>'",
-    ),
-    (
-        &["journal", "book", "--account", "1025"],
-        "error: invalid value '1025' for '--account <A>'",
-    ),
-    (
-        &["balances", "book", "--as", "xml"],
-        "error: invalid value 'xml' for '--as <FORMAT>'",
-    ),
-    (
-        &["journal", "book", "--date", "2023-02-29"],
-        "error: a date has the form YYYY-MM-DD",
-    ),
-    (
-        &["map", "book", "more"],
-        "error: unexpected argument 'more' found",
-    ),
-    (
-        &["balances", "book", "--from", "1"],
-        "error: unexpected argument '--from' found",
-    ),
-    (&["chart", "book"], "error: unrecognized subcommand 'chart'"),
-    (
-        &["run", "book", "--sectors", "0"],
-        "error: invalid value '0' for '--sectors <K>'",
-    ),
-    (
-        &["serve", "book", "--stations", "65"],
-        "error: invalid value '65' for '--stations <N>'",
-    ),
-    (
-        &["serve", "book", "--format", "1000001"],
-        "error: invalid value '1000001' for '--format <SLOTS>'",
-    ),
-    (
-        &["close", "counter", "--seconds", "86401"],
-        "error: invalid value '86401' for '--seconds <S>'",
-    ),
-    (
-        &["format", "book"],
-        "error: the following required arguments were not provided",
-    ),
-    (
-        &["migrate", "old", "--slots", "1"],
-        "error: the following required arguments were not provided",
-    ),
-    (
-        &["migrate", "book", "book", "--slots", "1"],
-        "error: NEW is OLD; take another path",
-    ),
-    (
-        &["copy", "book", "book", "--slots", "1"],
-        "error: NEW is LEDGER; take another path",
-    ),
-    (
-        &["serve", "book"],
-        "an office needs a --counter or --terminal\n",
-    ),
-    (
-        &["serve", "book", "--terminal", "--overwrite"],
-        "--overwrite needs --format\n",
-    ),
-    (
-        &[],
-        "error: 'derbyfig' requires a subcommand but one was not provided",
-    ),
-];
-
-#[test]
-fn wrong_words_are_told(rt: HostRuntime) {
-    let alloc = rt.alloc();
-    for (asked, wanted) in WRONG {
-        let mut words = Vec::new(alloc);
-        let _ = words.push("derbyfig");
-        let _ = words.extend_from_slice(asked);
-        let (mut output, mut errors) = (Vec::new(alloc), Vec::new(alloc));
-        let status = run_derbyfig(
-            &rt,
-            alloc,
-            words.as_slice(),
-            terminal(alloc),
-            &mut output,
-            &mut errors,
-            false,
-        );
-        assert!(rt; (status, output.len()) == (2, 0), "{wanted}");
-        assert!(rt;
-            errors.as_slice().starts_with(wanted.as_bytes()),
-            "{wanted}"
-        );
-    }
 }
 
 #[test]

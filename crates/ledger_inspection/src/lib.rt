@@ -3,7 +3,7 @@
 //! [`inspect_file`] opens a file and looks at it, and [`inspect_device`] does so with a device that is handed in.
 //! [`inspect_book`] looks at several ledgers as one.
 //!
-//! The test `a_sound_ledger_is_told_by_its_numbers` in `src/checks.rt` of the crate `front_tests` is an example.
+//! `checks/inspections.sh` has examples.
 #![tactic(auto)]
 
 mod book;

@@ -4,7 +4,7 @@
 //! of the [`Format`]s. A [`JournalPrint`] prints the records of several listings as one journal. The memory that they
 //! take doesn't grow with the number of records.
 //!
-//! The test `a_journal_is_printed_in_each_format` in `src/formats.rt` of the crate `front_tests` is an example.
+//! `checks/inspections.sh` has examples.
 #![tactic(auto)]
 
 mod any_printer;

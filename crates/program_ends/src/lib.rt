@@ -1,6 +1,6 @@
 //! How a program ends: its status, what it tells of a fault, and an output that fails or is closed early.
 //!
-//! The test `an_output_that_is_closed_ends_quietly` in `src/outputs.rt` of the crate `front_tests` is an example.
+//! `checks/inspections.sh` has examples.
 #![tactic(auto)]
 
 mod status;
