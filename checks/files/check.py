@@ -11,6 +11,7 @@ import parts
 from programs import Mismatch, Programs
 
 CASES = (
+    parts.a_first_run,
     parts.every_prefix,
     parts.a_ledger_of_600_deposits,
     parts.a_whole_ledger_grows,

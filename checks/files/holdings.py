@@ -87,6 +87,8 @@ def that_cant_be_opened(programs, _moments):
         # a folder may be an archive
         told = Said(1, f"{path}: it has no ledger of an archive\n", "") if path == folder else Said(3, "", f"{path}: {sentence}")
         require_same(programs.check(path), told, "the check")
+    require_same(programs.script(odd, "frob\n"), Said(1, "", "device failed"), "a script, of which no line is read")
+    require_same(odd.stat().st_size, 513, "the length of the file")
     if os.getuid() != 0:
         print("not tried: files without permission, since this user may not run a program as another one")
         return

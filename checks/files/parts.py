@@ -28,6 +28,18 @@ def too_short(slots, found):
     return f"it is too short for its {slots} slots: it has {found} sectors and needs {needed}; it may be a part of a copy"
 
 
+def a_first_run(programs, _moments):
+    """A script makes its file, and the next one finds there what was posted."""
+    path = programs.folder / "ledger"
+    first = "format 4\nopen 3 000 100\npost 0 deposit 1 500\nturn 0\nbalances\ncrash\nopen 3 111 110\nbalances\n"
+    posted = "opened 3 next 0 total 0\nheld 0 1\nturn 0 station 0 Bottom posted 0\nentry 0 ok\naccount 1 500\ntotal 500\n"
+    found = "next 1 total 500\naccount 1 500\ntotal 500\n"
+    said = programs.script(path, first)
+    require_same(said, Said(0, f"formatted 4\n{posted}crashed\nopened 3 {found}", ""), "the first run")
+    require_same(path.stat().st_size, 512 * 64, "the length of the file")
+    require_same(programs.script(path, "open 2 00 10\nbalances\n"), Said(0, f"opened 2 {found}", ""), "the second run")
+
+
 def every_prefix(programs, _moments):
     """Whole sectors of the beginning of a ledger: no program opens them or changes them, whatever size is asked for."""
     whole = make(programs, "whole", 4, 30).read_bytes()

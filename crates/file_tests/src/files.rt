@@ -106,18 +106,6 @@ fn is_refused<R: Files<File = File> + AllocGlobal + Abort>(rt: &R, path: &str, s
 }
 
 #[test]
-fn what_is_no_file_of_whole_sectors_is_refused(rt: HostRuntime) -> Result<(), Fail> {
-    make_folder(&rt, "file_device_refused")?;
-    fs::create_dir(&rt, "file_device_refused/folder")?;
-    fs::write(&rt, "file_device_refused/short", [7; 511].as_slice())?;
-    is_refused(&rt, "file_device_refused/short", 1);
-    is_refused(&rt, "file_device_refused/folder", 1);
-    assert!(rt; fs::read(&rt, "file_device_refused/short")?.as_slice() == [7; 511].as_slice());
-    fs::remove_dir_all(&rt, "file_device_refused")?;
-    Ok(())
-}
-
-#[test]
 fn what_can_not_be_made_is_refused(rt: HostRuntime) -> Result<(), Fail> {
     make_folder(&rt, "file_device_unmade")?;
     is_refused(&rt, "file_device_unmade/missing/sectors", 1);

@@ -1,10 +1,7 @@
 // Files that are only read.
 use crate::fake_disk::{Asked, Disk, Limits, WHOLE};
-use crate::files::{make_folder, read_at, sector_of, write_at};
-use file_device::{Device, FileDevice, FileFault, FileRefusal, Locking, ReadOnlyFile};
+use file_device::{Device, FileFault, Locking};
 use std::alloc::Global;
-use std::fs;
-use std::fs::{File, Files};
 use std::io::ErrorKind;
 use std::process::Abort;
 use std::test::Fail;
@@ -60,59 +57,5 @@ fn each_failed_step_of_a_look_is_told(rt: HostRuntime) -> Result<(), Fail> {
         );
         expect_asked(&rt, &disk, STEPS.get(..asked).unwrap_or(&[]));
     }
-    Ok(())
-}
-
-// How many sectors a look finds, which is closed again.
-fn looked<R: Files<File = File>>(
-    files: &R,
-    alloc: Global,
-    path: &str,
-    locking: Locking,
-) -> Result<u64, FileFault> {
-    Ok(ReadOnlyFile::open(files, alloc, path, locking)?.sectors())
-}
-
-const PATH: &str = "file_device_looked/sectors";
-
-// Whoever has the file keeps others out, but for a look that doesn't lock it.
-fn is_had<R: Files<File = File> + AllocGlobal + Abort>(rt: &R) -> Result<(), Fail> {
-    assert!(rt; looked(rt, rt.alloc(), PATH, Locking::Shared) == Err(FileFault::InUse));
-    assert!(rt; looked(rt, rt.alloc(), PATH, Locking::Unlocked) == Ok(3));
-    let second = FileDevice::open(rt, rt.alloc(), PATH, 5).err();
-    assert!(rt; second == Some(FileRefusal::File));
-    assert!(rt; fs::metadata(rt, PATH)?.len() == 3 * 512);
-    Ok(())
-}
-
-// Whoever looks at the file keeps those out that want to have it, and nobody else.
-fn is_looked_at<R: Files<File = File> + AllocGlobal + Abort>(rt: &R) {
-    assert!(rt; looked(rt, rt.alloc(), PATH, Locking::Shared) == Ok(3));
-    let other = FileDevice::open(rt, rt.alloc(), PATH, 3).err();
-    assert!(rt; other == Some(FileRefusal::File));
-}
-
-// Writes the last sector of a new file, and looks who else gets it.
-fn have<R: Files<File = File> + AllocGlobal + Abort>(rt: &R) -> Result<(), Fail> {
-    let mut device = FileDevice::open(rt, rt.alloc(), PATH, 3)?;
-    let is_written = write_at(rt, &mut device, 2, &sector_of(2)).is_ok();
-    assert!(rt; is_written && device.sync().is_ok());
-    is_had(rt)
-}
-
-// Reads it, and looks who else gets the file.
-fn look<R: Files<File = File> + AllocGlobal + Abort>(rt: &R) -> Result<(), Fail> {
-    let mut first = ReadOnlyFile::open(rt, rt.alloc(), PATH, Locking::Shared)?;
-    assert!(rt; read_at(rt, &mut first, 2) == Ok(sector_of(2)));
-    is_looked_at(rt);
-    Ok(())
-}
-
-#[test]
-fn a_file_is_looked_at_by_many_and_had_by_one(rt: HostRuntime) -> Result<(), Fail> {
-    make_folder(&rt, "file_device_looked")?;
-    have(&rt)?;
-    look(&rt)?;
-    fs::remove_dir_all(&rt, "file_device_looked")?;
     Ok(())
 }
