@@ -37,17 +37,10 @@ fn expect_next<D: Device>(
     (by, wanted): (u16, &[Entry]),
     amounts: [u64; 2],
 ) -> Result<(), Fail> {
-    let Some(
-        Listed {
-            station,
-            entries,
-            ..
-        },
-    ) = listing.next()?
-    else {
+    let Some(Listed { record, entries, .. }) = listing.next()? else {
         panic!(rt; "a record")
     };
-    assert!(rt; (station, entries.as_slice()) == (by, wanted));
+    assert!(rt; (record.station(), entries.as_slice()) == (by, wanted));
     let ledger = listing.ledger();
     assert!(rt; [1, 2].map(|account| ledger.balance(account)) == amounts.map(Some));
     Ok(())
