@@ -24,7 +24,7 @@ pub(crate) enum BookFault<'a> {
     Nothing,
     /// The folder of an archive can't be had.
     #[error("{0}")]
-    Archive(ArchiveFault<'a>),
+    Archive(#[from] ArchiveFault<'a>),
     /// A ledger can't be looked at.
     #[error("{part}: {fault}")]
     Unread {
@@ -110,7 +110,7 @@ impl<'a> BookFault<'a> {
         }
     }
 
-    // Of a ledger that can't be looked at. Out of memory is told as such, here and below.
+    // A ledger can't be looked at. Out of memory stays out of memory, here and below.
     pub(crate) fn of_file(part: Part<'a>, fault: FileFault) -> BookFault<'a> {
         match fault {
             FileFault::Memory => BookFault::Memory,
@@ -118,7 +118,7 @@ impl<'a> BookFault<'a> {
         }
     }
 
-    // Of one that isn't sound.
+    // It isn't sound.
     pub(crate) fn of_damage(part: Part<'a>, wrong: Wrong) -> BookFault<'a> {
         match wrong.refusal {
             OpenRefusal::Memory => BookFault::Memory,
@@ -126,7 +126,7 @@ impl<'a> BookFault<'a> {
         }
     }
 
-    // Of one that can't be read again.
+    // It can't be read again.
     pub(crate) fn of_reading(part: Part<'a>, refusal: ReadRefusal) -> BookFault<'a> {
         match refusal {
             ReadRefusal::Device => BookFault::Lost { part },
@@ -134,7 +134,7 @@ impl<'a> BookFault<'a> {
         }
     }
 
-    // Of one that isn't printed to its end.
+    // It isn't printed to its end.
     pub(crate) fn of_printing(part: Part<'a>, fault: PrintFault) -> BookFault<'a> {
         match fault {
             PrintFault::Read(refusal) => BookFault::of_reading(part, refusal),
@@ -161,11 +161,5 @@ impl From<AllocError> for BookFault<'_> {
 impl<T: Drop> From<AllocFailed<T>> for BookFault<'_> {
     fn from(_: AllocFailed<T>) -> Self {
         BookFault::Memory
-    }
-}
-
-impl<'a> From<ArchiveFault<'a>> for BookFault<'a> {
-    fn from(fault: ArchiveFault<'a>) -> Self {
-        BookFault::Archive(fault)
     }
 }

@@ -128,17 +128,15 @@ fn print_book<'a, R: Files<File = File>, W: Write + Drop, P: Progress>(
     progress: &mut P,
 ) -> Result<(), BookFault<'a>> {
     let Extent { last, .. } = walk(rt, alloc, shelf, &mut Passing)?;
-    let printed = match JournalPrint::over(alloc, wish, writer) {
-        Ok(printed) => printed,
-        Err(fault) => return Err(BookFault::of_printing(last, fault)),
-    };
+    let printed = JournalPrint::over(alloc, wish, writer).map_err(|fault| BookFault::of_printing(
+        last, fault,
+    ))?;
     let mut printing = Printing { printed, progress };
     walk(rt, alloc, shelf, &mut printing)?;
     let Printing { printed, .. } = printing;
-    match printed.end() {
-        Ok(()) => Ok(()),
-        Err(fault) => Err(BookFault::of_printing(last, fault)),
-    }
+    printed
+        .end()
+        .map_err(|fault| BookFault::of_printing(last, fault))
 }
 
 // What the accounts hold at the end, or held before the record with that sequence number.

@@ -35,7 +35,7 @@ pub(crate) enum Telling {
 }
 
 impl Telling {
-    /// Of a ledger that isn't sound, for what was asked of it.
+    /// Where the line of a ledger that isn't sound is printed, for what was asked of it.
     pub(crate) fn of(task: Task) -> Telling
         ensures nothing { (result ≡ Telling.Nothing) ↔ (task ≡ Task.Check true) }
         ensures answer { (result ≡ Telling.Answer) ↔ (task ≡ Task.Check false) }

@@ -28,10 +28,8 @@ impl FromStr for Date {
         if !has_form {
             return Err(BadDate);
         }
-        match text.parse::<jiff::civil::Date>() {
-            Ok(date) => Ok(Date(date)),
-            Err(_) => Err(BadDate),
-        }
+        let date = text.parse::<jiff::civil::Date>().map_err(|_| BadDate)?;
+        Ok(Date(date))
     }
 }
 

@@ -9,22 +9,10 @@ use thiserror::Error;
 pub enum PrintFault {
     /// The ledger couldn't be read again, or isn't what it was.
     #[error("{0}")]
-    Read(ReadRefusal),
+    Read(#[from] ReadRefusal),
     /// The output couldn't be written, or there was no memory for it.
     #[error("{0}")]
-    Stream(StreamFault),
-}
-
-impl From<ReadRefusal> for PrintFault {
-    fn from(refusal: ReadRefusal) -> Self {
-        PrintFault::Read(refusal)
-    }
-}
-
-impl From<StreamFault> for PrintFault {
-    fn from(fault: StreamFault) -> Self {
-        PrintFault::Stream(fault)
-    }
+    Stream(#[from] StreamFault),
 }
 
 impl From<AllocError> for PrintFault {

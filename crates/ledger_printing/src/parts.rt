@@ -3,7 +3,7 @@ use crate::kind::Kind;
 use ledger_reading::{Batch, Entry};
 use std::alloc::{AllocError, Global};
 
-/// The parts of an entry; those that its kind hasn't are `None`.
+/// The parts of an entry. Those that its kind does not have are `None`.
 #[derive(Clone, Copy, Debug, PartialEq, Eq)]
 pub(crate) struct Parts {
     pub(crate) kind: Kind,

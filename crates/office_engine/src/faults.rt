@@ -80,7 +80,7 @@ pub enum OfficeFault<'a> {
     Archive(ArchiveFault<'a>),
 }
 
-/// Out of memory is told as such, wherever it was met.
+/// Out of memory is reported as out of memory, wherever it was met.
 impl From<LiveRefusal> for OfficeFault<'_> {
     fn from(refusal: LiveRefusal) -> Self {
         match refusal {
@@ -117,7 +117,7 @@ impl<'a> OfficeFault<'a> {
         }
     }
 
-    // Out of memory is told as such.
+    // Out of memory stays out of memory.
     pub(crate) fn of_file(path: &'a str, refusal: LedgerRefusal) -> OfficeFault<'a> {
         if refusal.is_memory() {
             return OfficeFault::Memory;
@@ -126,7 +126,7 @@ impl<'a> OfficeFault<'a> {
     }
 }
 
-/// Out of memory is told as such here too.
+/// Out of memory stays out of memory here too.
 impl<'a> From<ArchiveFault<'a>> for OfficeFault<'a> {
     fn from(fault: ArchiveFault<'a>) -> Self {
         match fault {

@@ -98,10 +98,7 @@ pub fn serve<
     } = opened;
     let moves = turns_of_span(slots, serving.archive.is_some());
     let kept = keep_open(rt, alloc, device, line, counters, moves, archivist);
-    let (closed, mut archivist) = match kept {
-        Ok(both) => both,
-        Err((_, refusal)) => return Err(OfficeFault::from(refusal)),
-    };
+    let (closed, mut archivist) = kept.map_err(|(_, refusal)| OfficeFault::from(refusal))?;
     let device = tell_closed(closed, &mut output)?;
     if let Some(fault) = archivist.fault() {
         return Err(OfficeFault::from(fault));
@@ -124,12 +121,11 @@ fn open_counters<'a, R: Files<File = File>, I: Read + Drop, O: Write + Drop>(
     let mut opened = Vec::new(alloc);
     for folder in &serving.counters {
         let counter = open_counter(rt, alloc, folder, serving.hello, &mut opened)?;
-        if counters.push(counter).is_err() {
-            return Err(OfficeFault::Memory);
-        }
+        counters.push(counter).map_err(|_| OfficeFault::Memory)?;
     }
-    if serving.terminal && counters.push(terminal_counter(terminal)).is_err() {
-        return Err(OfficeFault::Memory);
+    if serving.terminal {
+        let counter = terminal_counter(terminal);
+        counters.push(counter).map_err(|_| OfficeFault::Memory)?;
     }
     Ok(counters)
 }
@@ -169,14 +165,13 @@ fn pipe_of<'a, R: Files<File = File>>(
     side: Side,
     opened: &mut Vec<FileNumber>,
 ) -> Result<File, OfficeFault<'a>> {
-    match open_pipe(rt, alloc, folder, side, opened) {
-        Ok(file) => Ok(file),
-        Err(refusal) => Err(OfficeFault::Pipe(PipeFault {
+    open_pipe(rt, alloc, folder, side, opened).map_err(|refusal| {
+        OfficeFault::Pipe(PipeFault {
             folder,
             side,
             refusal,
-        })),
-    }
+        })
+    })
 }
 
 // The device, formatted first if that is asked for.
@@ -192,10 +187,7 @@ fn open_device<'a, R: Files<File = File>, W: Write>(
         Some(formatting) => format_ledger(rt, alloc, path, formatting),
         None => open_ledger(rt, alloc, path, serving.sectors.unwrap_or(0)),
     };
-    let device = match opened {
-        Ok(device) => device,
-        Err(refusal) => return Err(OfficeFault::of_file(path, refusal)),
-    };
+    let device = opened.map_err(|refusal| OfficeFault::of_file(path, refusal))?;
     if let Some(Formatting { slots, .. }) = formatting {
         output.line(format_args!("formatted {slots}"))?;
     }
@@ -217,10 +209,10 @@ fn tell_opened<'a, D: Device + Drop, W: Write>(
     stations: u64,
     output: &mut Output<'_, W>,
 ) -> Result<Opened<D>, OfficeFault<'a>> {
-    let Recovered { journal, ledger } = match recover(alloc, device) {
-        Ok(found) => found,
-        Err((_, refusal)) => return Err(OfficeFault::NoLedger { path, refusal }),
-    };
+    let Recovered { journal, ledger } = recover(alloc, device).map_err(|(
+        _,
+        refusal,
+    )| OfficeFault::NoLedger { path, refusal })?;
     let next = journal.next();
     let total = ledger.total();
     output.line(format_args!("opened {stations} next {next} total {total}"))?;
@@ -238,10 +230,7 @@ fn tell_opened<'a, D: Device + Drop, W: Write>(
 fn first_line<'a>(stations: u64) -> Result<Line, OfficeFault<'a>> {
     let bits = [false; MOST_STATIONS as usize];
     let count = stations.min(MOST_STATIONS) as usize;
-    match Line::from_bits(stations, &bits[..count], &bits[..count]) {
-        Ok(line) => Ok(line),
-        Err(refusal) => Err(OfficeFault::Line(refusal)),
-    }
+    Line::from_bits(stations, &bits[..count], &bits[..count]).map_err(OfficeFault::Line)
 }
 
 // Tells how the office ended: its turns, the line, and what was asked and not answered. The device comes back of one
@@ -309,8 +298,8 @@ fn tell_untold<W: Write>(
     Ok(())
 }
 
-// How an office ended: well, if no station was refused its thread or its turn. A device that failed is told as that:
-// other stations, which met it later, tell it in other words.
+// How an office ended: well, if no station was refused its thread or its turn. A failed device is
+// reported as one: other stations, which met it later, name it otherwise.
 fn ended<'a>(is_abandoned: bool, stations: &[StationDay]) -> Result<(), OfficeFault<'a>>
     ensures refused { OnOk result (NoneWasRefused stations.now) }
     ensures threads { OnOk result (is_abandoned ≡ false) }

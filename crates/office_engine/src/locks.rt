@@ -54,14 +54,13 @@ pub(crate) fn has_client<R: Files<File = File>>(rt: &R, alloc: Global, folder: &
         return false;
     };
     // the opening of a pipe would wait
-    match fs::metadata(rt, path.as_str()) {
-        Ok(found) if found.is_file() => {}
-        _ => return false,
+    if !fs::metadata(rt, path.as_str()).is_ok_and(|found| found.is_file()) {
+        return false;
     }
-    match reading(rt, path.as_str()) {
-        Ok(file) => matches!(file.try_lock_shared(), Err(TryLockError::WouldBlock)),
-        Err(_) => false,
-    }
+    let Ok(file) = reading(rt, path.as_str()) else {
+        return false;
+    };
+    matches!(file.try_lock_shared(), Err(TryLockError::WouldBlock))
 }
 
 // A file, open for reading.
