@@ -149,7 +149,7 @@ impl<'a> ArchiveFault<'a> {
         }
     }
 
-    // Of the ledger that can't be looked at. Out of memory is told as such, here and below.
+    // The ledger can't be looked at. Out of memory stays out of memory, here and below.
     pub(crate) fn of_file(path: &'a str, fault: FileFault) -> ArchiveFault<'a>
         ensures status { status_of result ≡ Status.Failed }
         ensures numbers { TellsNumbers result }
@@ -160,7 +160,7 @@ impl<'a> ArchiveFault<'a> {
         }
     }
 
-    // Of one that isn't sound.
+    // The ledger isn't sound.
     pub(crate) fn of_opening(path: &'a str, refusal: OpenRefusal) -> ArchiveFault<'a>
         ensures read { IsReadFault result ↔ (refusal ≡ OpenRefusal.Device) }
         ensures numbers { TellsNumbers result }
@@ -171,7 +171,7 @@ impl<'a> ArchiveFault<'a> {
         }
     }
 
-    // Of the newest ledger of the archive.
+    // The archive's newest ledger can't be had.
     pub(crate) fn of_newest(volume: Volume<'a>, fault: NewestFault) -> ArchiveFault<'a>
         ensures { IsElsewhere result }
     {
@@ -183,7 +183,7 @@ impl<'a> ArchiveFault<'a> {
         }
     }
 
-    // Of the ledger that is to be added.
+    // The ledger that is to be added can't be made.
     pub(crate) fn of_device(folder: &'a str, refusal: DeviceRefusal) -> ArchiveFault<'a>
         ensures status { status_of result ≡ Status.Failed }
         ensures elsewhere { IsElsewhere result }

@@ -17,7 +17,7 @@ pub fn day_tries_in_numbers()
     ensures { DAY_TRIES ≡ 100000000 }
 {}
 
-/// What a day shows beside its turns.
+/// What a day shows besides its turns.
 #[derive(Drop)]
 pub struct DayReport {
     /// From which turn on one station alone was privileged.

@@ -6,6 +6,6 @@ use Rattle.file_device.specs.declared.refusal.FileFault.TheVariants as fault
 use Rattle.ledger_file.specs.declared.refusal.LedgerRefusal.{LedgerRefusal}
 use Rattle.ledger_file.specs.declared.refusal.LedgerRefusal.TheVariants.{Device, Missing}
 
--- a file that isn't there is told as one that could be made, and all else as it is
+-- a missing file is reported as one that could be made, and all else as it is
 abbrev pub IsToldAs : DeviceRefusal → LedgerRefusal → Type 0
 IsToldAs refusal told = ((refusal ≡ File fault.Missing) × (told ≡ Missing)) ⊎ ((refusal ≢ File fault.Missing) × (told ≡ Device refusal))

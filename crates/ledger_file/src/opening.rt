@@ -24,7 +24,7 @@ pub const MOST_SECTORS: u64 = 4_000_039;
 pub struct Formatting {
     /// How many slots each bank gets: at most 1,000,000.
     pub slots: NonZeroU64,
-    /// How many sectors the device has at least, beside the 39 + 4·slots that it needs.
+    /// How many sectors the device has at least, besides the 39 + 4·slots that it needs.
     pub sectors: u64,
     /// Whether it may hold anything.
     pub overwrite: bool,

@@ -59,7 +59,7 @@ impl LedgerRefusal {
     }
 }
 
-/// A file that isn't there is told as one that could be made.
+/// A missing file is reported as one that could be made.
 impl From<DeviceRefusal> for LedgerRefusal {
     ghost from_gives = { IsToldAs };
 

@@ -16,7 +16,7 @@ pub struct Watched<'a, W: Write> {
 }
 
 impl<'a, W: Write> Watched<'a, W> {
-    /// A writer that hasn't failed yet.
+    /// A writer that has not failed yet.
     pub fn over(writer: &'a mut W) -> Watched<'a, W> {
         Watched {
             writer,
