@@ -70,12 +70,7 @@ pub(crate) const FROM: NumberOption = NumberOption {
 };
 
 /// Before which record.
-pub(crate) const AT: NumberOption = NumberOption {
-    name: "at",
-    value: "N",
-    least: 0,
-    most: u64::MAX,
-};
+pub(crate) const AT: NumberOption = NumberOption { name: "at", ..FROM };
 
 /// Which account.
 pub(crate) const ACCOUNT: NumberOption = NumberOption {
@@ -89,8 +84,7 @@ pub(crate) const ACCOUNT: NumberOption = NumberOption {
 pub(crate) const REFERENCE: NumberOption = NumberOption {
     name: "reference",
     value: "R",
-    least: 0,
-    most: u64::MAX,
+    ..FROM
 };
 
 /// That a number is out of its limits.

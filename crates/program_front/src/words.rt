@@ -111,10 +111,9 @@ fn path<'a>(options: &ArgMatches<'a>, name: &str) -> Result<&'a str, WrongWord> 
 fn running<'a>(options: &ArgMatches<'a>) -> Result<Request<'a>, WrongWord>
     ensures within { IfOk result IsWithin }
 {
-    let sectors = SECTORS.given(options)?;
     Ok(Request::Run(Running {
         path: options.get_str("FILE"),
-        sectors,
+        sectors: SECTORS.given(options)?,
     }))
 }
 
@@ -125,12 +124,7 @@ fn serving<'a>(alloc: Global, options: &ArgMatches<'a>) -> Result<Request<'a>, W
     let sectors = SECTORS.given(options)?;
     let stations = STATIONS.given(options)?;
     let format = slots(FORMAT.given(options)?);
-    let mut counters = Vec::new(alloc);
-    if let Some(folders) = options.get_strs("counter") {
-        for folder in folders {
-            counters.push(*folder)?;
-        }
-    }
+    let mut counters = texts(alloc, options, "counter")?;
     if let Some(folder) = options.get_str("control") {
         counters.push(folder)?;
     }
@@ -162,9 +156,10 @@ fn closing<'a>(options: &ArgMatches<'a>) -> Result<Request<'a>, WrongWord>
 fn making<'a>(options: &ArgMatches<'a>) -> Result<Request<'a>, WrongWord>
     ensures within { IfOk result IsWithin }
 {
-    let path = path(options, "FILE")?;
-    let formatting = formatting(options)?;
-    Ok(Request::Format { path, formatting })
+    Ok(Request::Format {
+        path: path(options, "FILE")?,
+        formatting: formatting(options)?,
+    })
 }
 
 // The slots that are asked for, of which there is one at least.
@@ -197,11 +192,10 @@ fn copying<'a>(
     if old == path {
         return Err(onto_itself);
     }
-    let formatting = formatting(options)?;
     Ok(Copying {
         old,
         path,
-        formatting,
+        formatting: formatting(options)?,
     })
 }
 
@@ -227,7 +221,7 @@ fn inspection<'a>(
     } else {
         Locking::Shared
     };
-    let paths = paths(alloc, options)?;
+    let paths = texts(alloc, options, "FILE")?;
     let before = at(name, options)?;
     if let (Some(path), None) = (sole(paths.as_slice()), before) {
         return Ok(Request::Inspect(Inspection {
@@ -246,15 +240,17 @@ fn inspection<'a>(
     }
 }
 
-// The paths of what is looked at.
-fn paths<'a>(alloc: Global, options: &ArgMatches<'a>) -> Result<Vec<&'a str>, WrongWord> {
-    let mut paths = Vec::new(alloc);
-    if let Some(files) = options.get_strs("FILE") {
-        for file in files {
-            paths.push(*file)?;
-        }
+// All that have this name among the words.
+fn texts<'a>(
+    alloc: Global,
+    options: &ArgMatches<'a>,
+    name: &str,
+) -> Result<Vec<&'a str>, WrongWord> {
+    let mut texts = Vec::new(alloc);
+    if let Some(given) = options.get_strs(name) {
+        texts.extend_from_slice(given).or(Err(WrongWord::Memory))?;
     }
-    Ok(paths)
+    Ok(texts)
 }
 
 // The path, if it is one.
@@ -301,13 +297,11 @@ fn selection(options: &ArgMatches<'_>) -> Result<Selection, WrongWord> {
 }
 
 fn account(options: &ArgMatches<'_>) -> Result<Option<u32>, WrongWord> {
-    match ACCOUNT.given(options)? {
-        Some(number) => match u32::try_from(number) {
-            Ok(account) => Ok(Some(account)),
-            Err(_) => Err(WrongWord::OutOfRange),
-        },
-        None => Ok(None),
-    }
+    let Some(number) = ACCOUNT.given(options)? else {
+        return Ok(None);
+    };
+    let account = u32::try_from(number).or(Err(WrongWord::OutOfRange))?;
+    Ok(Some(account))
 }
 
 fn format(options: &ArgMatches<'_>) -> Result<Format, WrongWord> {
