@@ -3,11 +3,12 @@ ghost use Rattle.std.specs.Prelude.{◌≡◌, IfErr};
 ghost use Rattle.clap.specs.Values.{kind_of};
 ghost use Rattle.clap.specs.declared.error.kind.ErrorKind.TheVariants.{OutOfMemory};
 
+use crate::command_table::{CommandText, Word, with_commands};
 use crate::console_words::SCRIPT;
 use crate::option_table::{
-    ACCOUNT, AT, FORMAT, FROM, REFERENCE, SECONDS, SECTORS, SLOTS, STATIONS, flag, option,
+    ACCOUNT, AT, FORMAT, FROM, REFERENCE, SECONDS, SECTORS, SLOTS, STATIONS,
 };
-use clap::{Arg, ArgAction, Command, Error};
+use clap::{Command, Error};
 use ledger_inspection::Format;
 use office_engine::REQUESTS;
 use std::alloc::Global;
@@ -20,7 +21,7 @@ The status is 0 when it is done, 1 if there is no sound ledger or a rule refuses
 and 3 if the file, the device, memory or a stream fails.
 ";
 
-const SERVE: &str = "\
+const SERVING: &str = "\
 Keep a ledger open for counters that come and go.
 
 A counter is a folder PATH with two named pipes, PATH/in and PATH/out, which its owner makes with mkfifo. It says a request
@@ -41,8 +42,6 @@ archive, or 'archived none'. It waits until the office answers. The status is 1 
 speaks there.
 ";
 
-const COUNTER: &str = "The folder of a counter, as serve was given it";
-
 const ARCHIVING: &str = "\
 FOLDER has a ledger for each time that something was added, whose name is the number of its first batch in twenty digits.
 'check', 'journal' and 'balances' take FOLDER as one ledger, or each file of it. The status is 1 if LEDGER doesn't go on where the archive ends, or if
@@ -50,9 +49,6 @@ batches between are no longer in LEDGER.
 ";
 
 const FILE: &str = "The file or the disk that has the ledger";
-
-const FILES: &str =
-    "A file or a disk that has a ledger, or the folder of an archive; several are read as one";
 
 const LOOKING: &str = "\
 FILE is never written. While it is looked at, no other program can write it, unless --unlocked is given.
@@ -72,343 +68,292 @@ pub(crate) fn derbyfig_command<'a>(alloc: Global) -> Result<Command<'a>, Error>
         .about("A crash-safe ledger of accounts, which stations in a row share")
         .after_help(STATUSES)
         .version(VERSION)
-        .subcommand_required(true)
-        .subcommand(run(alloc)?)?
-        .subcommand(serve(alloc)?)?
-        .subcommand(close(alloc)?)?
-        .subcommand(status(alloc)?)?
-        .subcommand(check(alloc)?)?
-        .subcommand(journal(alloc)?)?
-        .subcommand(balances(alloc)?)?
-        .subcommand(map(alloc)?)?
-        .subcommand(format(alloc)?)?
-        .subcommand(copy(alloc)?)?
-        .subcommand(archive(alloc)?)?
-        .subcommand(restore(alloc)?)?
-        .subcommand(migrate(alloc)?)?;
-    Ok(command)
+        .subcommand_required(true);
+    let command = with_commands(alloc, command, running_commands())?;
+    let command = with_commands(alloc, command, serving_commands())?;
+    let command = with_commands(alloc, command, looking_commands())?;
+    Ok(with_commands(alloc, command, making_commands())?)
 }
 
-fn run<'a>(alloc: Global) -> Result<Command<'a>, Error>
-    ensures memory { IfErr result (λ error. kind_of error ≡ OutOfMemory) }
-{
-    let file = positional(alloc, "FILE", FILE).required(false);
-    let sectors = SECTORS.arg(
-        alloc,
-        "How many sectors of 512 bytes the device has at least, 1 to 4000039: a file is made, or grown; 64 in memory without it",
-    );
-    let command = Command::new(alloc, "run")
-        .about(
-            "Run a script of commands on a device that can lose its power, which is in memory without FILE",
-        )
-        .after_help(SCRIPT)
-        .arg(file)?
-        .arg(sectors)?;
-    Ok(command)
+// The table in four parts: the prover takes no more text at once.
+const RUNNING: &[CommandText] = &[RUN];
+
+const KEEPING: &[CommandText] = &[SERVE];
+
+const LOOKS: &[CommandText] = &[CLOSE, STATUS, CHECK, JOURNAL];
+
+const MAKING: &[CommandText] = &[BALANCES, MAP, FORMATS, COPY, ARCHIVE, RESTORE, MIGRATE];
+
+fn running_commands() -> &'static [CommandText] {
+    RUNNING
 }
 
-fn serve<'a>(alloc: Global) -> Result<Command<'a>, Error>
-    ensures memory { IfErr result (λ error. kind_of error ≡ OutOfMemory) }
-{
-    let command = Command::new(alloc, "serve")
-        .about("Keep a ledger open for counters that come and go")
-        .long_about(SERVE)
-        .after_help(REQUESTS)
-        .arg(positional(alloc, "FILE", FILE))?
-        .arg(counter(alloc))?
-        .arg(option(
-            alloc,
+fn serving_commands() -> &'static [CommandText] {
+    KEEPING
+}
+
+fn looking_commands() -> &'static [CommandText] {
+    LOOKS
+}
+
+fn making_commands() -> &'static [CommandText] {
+    MAKING
+}
+
+// A command of which help says no more than this.
+const PLAIN: CommandText = CommandText {
+    name: "",
+    about: "",
+    long_about: None,
+    after: None,
+    words: &[],
+};
+
+const RUN: CommandText = CommandText {
+    name: "run",
+    about: "Run a script of commands on a device that can lose its power, which is in memory without FILE",
+    after: Some(SCRIPT),
+    words: &[
+        Word::Optional("FILE", FILE),
+        Word::Number(
+            SECTORS,
+            "How many sectors of 512 bytes the device has at least, 1 to 4000039: a file is made, or grown; 64 in memory without it",
+        ),
+    ],
+    ..PLAIN
+};
+
+const SERVE: CommandText = CommandText {
+    name: "serve",
+    about: "Keep a ledger open for counters that come and go",
+    long_about: Some(SERVING),
+    after: Some(REQUESTS),
+    words: &[
+        Word::Positional("FILE", FILE),
+        Word::Repeated(
+            "counter",
+            "PATH",
+            "The folder of a counter. The first is that of station 0, the next of station 1",
+        ),
+        Word::Text(
             "control",
             "PATH",
             "The folder of one more counter, behind the others, for whoever runs the office: see 'close' and 'status'",
-        ))?
-        .arg(option(
-            alloc,
+        ),
+        Word::Text(
             "archive",
             "FOLDER",
             "Keep every batch in the archive in FOLDER, which gets what it lacks at the start, between turns and at the end",
-        ))?
-        .arg(option(
-            alloc,
+        ),
+        Word::Text(
             "copies",
             "FOLDER",
             "Where a counter that says 'copy' has a copy of the ledger made, named by the number of its next batch",
-        ))?
-        .arg(flag(
-            alloc,
+        ),
+        Word::Flag(
             "hello",
             "Drop what a counter says until it says 'hello X': what an earlier client left in the pipe isn't run",
-        ))?
-        .arg(flag(
-            alloc,
+        ),
+        Word::Flag(
             "terminal",
             "The terminal is a counter too, behind the others; the office closes where its input ends",
-        ))?
-        .arg(STATIONS.arg(
-            alloc,
+        ),
+        Word::Number(
+            STATIONS,
             "How many stations there are, 2 to 64; without it one for each counter, but two at least",
-        ))?
-        .arg(FORMAT.arg(
-            alloc,
+        ),
+        Word::Number(
+            FORMAT,
             "First make an empty ledger of two banks with SLOTS slots each, 1 to 1000000; refused if FILE holds anything",
-        ))?
-        .arg(flag(
-            alloc,
+        ),
+        Word::Flag(
             "overwrite",
             "With --format: FILE may hold anything, which is erased",
-        ))?
-        .arg(SECTORS.arg(
-            alloc,
+        ),
+        Word::Number(
+            SECTORS,
             "Grow FILE to K sectors of 512 bytes, 1 to 4000039, if it has fewer; a ledger needs 4 SLOTS + 39",
-        ))?;
-    Ok(command)
-}
+        ),
+    ],
+};
 
-fn close<'a>(alloc: Global) -> Result<Command<'a>, Error>
-    ensures memory { IfErr result (λ error. kind_of error ≡ OutOfMemory) }
-{
-    let command = Command::new(alloc, "close")
-        .about("Close the office that has a counter, and wait until it has ended")
-        .after_help(CLOSING)
-        .arg(positional(alloc, "COUNTER", COUNTER))?
-        .arg(SECONDS.arg(
-            alloc,
+const CLOSE: CommandText = CommandText {
+    name: "close",
+    about: "Close the office that has a counter, and wait until it has ended",
+    after: Some(CLOSING),
+    words: &[
+        COUNTER,
+        Word::Number(
+            SECONDS,
             "How many seconds the office may take, 0 to 86400; 60 without it",
-        ))?;
-    Ok(command)
-}
+        ),
+    ],
+    ..PLAIN
+};
 
-fn status<'a>(alloc: Global) -> Result<Command<'a>, Error>
-    ensures memory { IfErr result (λ error. kind_of error ≡ OutOfMemory) }
-{
-    let command = Command::new(alloc, "status")
-        .about("Tell how the office stands that has a counter")
-        .after_help(STANDING)
-        .arg(positional(alloc, "COUNTER", COUNTER))?;
-    Ok(command)
-}
+const STATUS: CommandText = CommandText {
+    name: "status",
+    about: "Tell how the office stands that has a counter",
+    after: Some(STANDING),
+    words: &[COUNTER],
+    ..PLAIN
+};
 
-fn counter<'a>(alloc: Global) -> Arg<'a> {
-    option(
-        alloc,
-        "counter",
-        "PATH",
-        "The folder of a counter. The first is that of station 0, the next of station 1",
-    )
-    .action(ArgAction::Append)
-}
+const CHECK: CommandText = CommandText {
+    name: "check",
+    about: "Tell whether the ledger is sound, its numbers, or where it is damaged",
+    after: Some(READING),
+    words: &[
+        BOOK,
+        UNLOCKED,
+        Word::ShortFlag('q', "quiet", "Print nothing: the status tells"),
+    ],
+    ..PLAIN
+};
 
-fn check<'a>(alloc: Global) -> Result<Command<'a>, Error>
-    ensures memory { IfErr result (λ error. kind_of error ≡ OutOfMemory) }
-{
-    let quiet = flag(alloc, "quiet", "Print nothing: the status tells").short('q');
-    let about = "Tell whether the ledger is sound, its numbers, or where it is damaged";
-    Ok(command_on_book(alloc, "check", about)?.arg(quiet)?)
-}
-
-fn journal<'a>(alloc: Global) -> Result<Command<'a>, Error>
-    ensures memory { IfErr result (λ error. kind_of error ≡ OutOfMemory) }
-{
-    let about = "Print the records of both banks, and the balances after each";
-    let command = command_on_book(alloc, "journal", about)?
-        .arg(FROM.arg(
-            alloc,
+const JOURNAL: CommandText = CommandText {
+    name: "journal",
+    about: "Print the records of both banks, and the balances after each",
+    after: Some(READING),
+    words: &[
+        BOOK,
+        UNLOCKED,
+        Word::Number(
+            FROM,
             "Only records with this sequence number or a later one",
-        ))?
-        .arg(ACCOUNT.arg(alloc, "Only records with an entry that names this account"))?
-        .arg(REFERENCE.arg(alloc, "Only records with an entry of this reference"))?
-        .arg(format_option(alloc))?
-        .arg(date_option(alloc))?;
-    Ok(command)
-}
+        ),
+        Word::Number(
+            ACCOUNT,
+            "Only records with an entry that names this account",
+        ),
+        Word::Number(REFERENCE, "Only records with an entry of this reference"),
+        AS,
+        DATE,
+    ],
+    ..PLAIN
+};
 
-fn balances<'a>(alloc: Global) -> Result<Command<'a>, Error>
-    ensures memory { IfErr result (λ error. kind_of error ≡ OutOfMemory) }
-{
-    let about = "Print what the accounts hold, and their total";
-    let command = command_on_book(alloc, "balances", about)?
-        .arg(AT.arg(
-            alloc,
+const BALANCES: CommandText = CommandText {
+    name: "balances",
+    about: "Print what the accounts hold, and their total",
+    after: Some(READING),
+    words: &[
+        BOOK,
+        UNLOCKED,
+        Word::Number(
+            AT,
             "What they held before the record with this sequence number",
-        ))?
-        .arg(format_option(alloc))?
-        .arg(date_option(alloc))?;
-    Ok(command)
-}
+        ),
+        AS,
+        DATE,
+    ],
+    ..PLAIN
+};
 
-fn map<'a>(alloc: Global) -> Result<Command<'a>, Error>
-    ensures memory { IfErr result (λ error. kind_of error ≡ OutOfMemory) }
-{
-    let about =
-        "Draw the sectors as an SVG: what each is, which gates are open, and where it is damaged";
-    command_on(
-        alloc,
-        "map",
-        about,
-        positional(alloc, "FILE", FILE),
-        LOOKING,
-    )
-}
+const MAP: CommandText = CommandText {
+    name: "map",
+    about: "Draw the sectors as an SVG: what each is, which gates are open, and where it is damaged",
+    after: Some(LOOKING),
+    words: &[Word::Positional("FILE", FILE), UNLOCKED],
+    ..PLAIN
+};
 
-fn format<'a>(alloc: Global) -> Result<Command<'a>, Error>
-    ensures memory { IfErr result (λ error. kind_of error ≡ OutOfMemory) }
-{
-    let command = Command::new(alloc, "format")
-        .about("Make an empty ledger in a file, which is made if it isn't there, or on a disk")
-        .arg(positional(
-            alloc,
-            "FILE",
-            "The file or the disk; refused if it holds anything",
-        ))?
-        .arg(slots(alloc))?
-        .arg(flag(
-            alloc,
-            "overwrite",
-            "FILE may hold anything, which is erased",
-        ))?;
-    Ok(command)
-}
+const FORMATS: CommandText = CommandText {
+    name: "format",
+    about: "Make an empty ledger in a file, which is made if it isn't there, or on a disk",
+    words: &[
+        Word::Positional("FILE", "The file or the disk; refused if it holds anything"),
+        HAS_SLOTS,
+        Word::Flag("overwrite", "FILE may hold anything, which is erased"),
+    ],
+    ..PLAIN
+};
 
-fn copy<'a>(alloc: Global) -> Result<Command<'a>, Error>
-    ensures memory { IfErr result (λ error. kind_of error ≡ OutOfMemory) }
-{
-    let ledger = positional(
-        alloc,
-        "LEDGER",
-        "The file or the disk that has the ledger; it is only read",
-    );
-    let about = "Copy a ledger to another file or disk, with as many slots as are asked for";
-    command_that_copies(alloc, "copy", about, ledger)
-}
+const COPY: CommandText = CommandText {
+    name: "copy",
+    about: "Copy a ledger to another file or disk, with as many slots as are asked for",
+    words: &[LEDGER, NEW, HAS_SLOTS, OVER_NEW],
+    ..PLAIN
+};
 
-fn migrate<'a>(alloc: Global) -> Result<Command<'a>, Error>
-    ensures memory { IfErr result (λ error. kind_of error ≡ OutOfMemory) }
-{
-    let old = positional(
-        alloc,
-        "OLD",
-        "The file or the disk that has the older ledger; it is only read",
-    );
-    let about = "Copy a ledger of layout 1 or 2 to another file or disk, in layout 3";
-    command_that_copies(alloc, "migrate", about, old)
-}
-
-fn archive<'a>(alloc: Global) -> Result<Command<'a>, Error>
-    ensures memory { IfErr result (λ error. kind_of error ≡ OutOfMemory) }
-{
-    let command = Command::new(alloc, "archive")
-        .about("Add the batches of a ledger that an archive lacks to it")
-        .after_help(ARCHIVING)
-        .arg(positional(
-            alloc,
-            "LEDGER",
-            "The file or the disk that has the ledger; it is only read",
-        ))?
-        .arg(positional(
-            alloc,
+const ARCHIVE: CommandText = CommandText {
+    name: "archive",
+    about: "Add the batches of a ledger that an archive lacks to it",
+    after: Some(ARCHIVING),
+    words: &[
+        LEDGER,
+        Word::Positional(
             "FOLDER",
             "The folder of the archive; an empty one becomes an archive of all that LEDGER lists",
-        ))?;
-    Ok(command)
-}
+        ),
+    ],
+    ..PLAIN
+};
 
-fn restore<'a>(alloc: Global) -> Result<Command<'a>, Error>
-    ensures memory { IfErr result (λ error. kind_of error ≡ OutOfMemory) }
-{
-    let folder = positional(
-        alloc,
-        "FOLDER",
-        "The folder of the archive; it is only read",
-    );
-    let about = "Make a ledger that goes on where an archive ends";
-    command_that_copies(alloc, "restore", about, folder)
-}
+const RESTORE: CommandText = CommandText {
+    name: "restore",
+    about: "Make a ledger that goes on where an archive ends",
+    words: &[
+        Word::Positional("FOLDER", "The folder of the archive; it is only read"),
+        NEW,
+        HAS_SLOTS,
+        OVER_NEW,
+    ],
+    ..PLAIN
+};
 
-// A command that copies this ledger.
-fn command_that_copies<'a>(
-    alloc: Global,
-    name: &'a str,
-    about: &'a str,
-    ledger: Arg<'a>,
-) -> Result<Command<'a>, Error>
-    ensures memory { IfErr result (λ error. kind_of error ≡ OutOfMemory) }
-{
-    let command = Command::new(alloc, name)
-        .about(about)
-        .arg(ledger)?
-        .arg(positional(
-            alloc,
-            "NEW",
-            "Where the copy goes: made if nothing is there, and refused if it holds anything",
-        ))?
-        .arg(slots(alloc))?
-        .arg(flag(alloc, "overwrite", "NEW may hold anything, which is erased"))?;
-    Ok(command)
-}
+const MIGRATE: CommandText = CommandText {
+    name: "migrate",
+    about: "Copy a ledger of layout 1 or 2 to another file or disk, in layout 3",
+    words: &[
+        Word::Positional(
+            "OLD",
+            "The file or the disk that has the older ledger; it is only read",
+        ),
+        NEW,
+        HAS_SLOTS,
+        OVER_NEW,
+    ],
+    ..PLAIN
+};
 
-// A command that looks at one ledger, or at several as one.
-fn command_on_book<'a>(alloc: Global, name: &'a str, about: &'a str) -> Result<Command<'a>, Error>
-    ensures memory { IfErr result (λ error. kind_of error ≡ OutOfMemory) }
-{
-    let files = positional(alloc, "FILE", FILES)
-        .num_args(1..)
-        .action(ArgAction::Append);
-    command_on(alloc, name, about, files, READING)
-}
+// The words that several commands have.
 
-// A command that looks at this.
-fn command_on<'a>(
-    alloc: Global,
-    name: &'a str,
-    about: &'a str,
-    file: Arg<'a>,
-    after: &'a str,
-) -> Result<Command<'a>, Error>
-    ensures memory { IfErr result (λ error. kind_of error ≡ OutOfMemory) }
-{
-    let unlocked = flag(
-        alloc,
-        "unlocked",
-        "Look even if another program has the file; what is printed may be torn",
-    );
-    let command = Command::new(alloc, name)
-        .about(about)
-        .after_help(after)
-        .arg(file)?
-        .arg(unlocked)?;
-    Ok(command)
-}
+const COUNTER: Word = Word::Positional("COUNTER", "The folder of a counter, as serve was given it");
 
-// A word without a name, which has to be there.
-fn positional<'a>(alloc: Global, name: &'a str, help: &'a str) -> Arg<'a> {
-    Arg::new(alloc, name)
-        .required(true)
-        .help(help)
-        .action(ArgAction::Set)
-}
+const BOOK: Word = Word::Several(
+    "FILE",
+    "A file or a disk that has a ledger, or the folder of an archive; several are read as one",
+);
+
+const UNLOCKED: Word = Word::Flag(
+    "unlocked",
+    "Look even if another program has the file; what is printed may be torn",
+);
+
+const AS: Word = Word::Choice("as", "FORMAT", Format::NAMES, "table", "How it is printed");
+
+const DATE: Word = Word::Defaulted(
+    "date",
+    "YYYY-MM-DD",
+    "1970-01-01",
+    "The date of each transaction for hledger, since a ledger keeps no dates",
+);
+
+const LEDGER: Word = Word::Positional(
+    "LEDGER",
+    "The file or the disk that has the ledger; it is only read",
+);
+
+const NEW: Word = Word::Positional(
+    "NEW",
+    "Where the copy goes: made if nothing is there, and refused if it holds anything",
+);
+
+const OVER_NEW: Word = Word::Flag("overwrite", "NEW may hold anything, which is erased");
 
 // How many slots a ledger gets that is made.
-fn slots<'a>(alloc: Global) -> Arg<'a> {
-    SLOTS
-        .arg(
-            alloc,
-            "How many slots each of the two banks has, 1 to 1000000; the ledger has 4K + 39 sectors of 512 bytes",
-        )
-        .required(true)
-}
-
-fn format_option<'a>(alloc: Global) -> Arg<'a> {
-    option(alloc, "as", "FORMAT", "How it is printed")
-        .value_parser(Format::NAMES)
-        .default_value("table")
-}
-
-fn date_option<'a>(alloc: Global) -> Arg<'a> {
-    option(
-        alloc,
-        "date",
-        "YYYY-MM-DD",
-        "The date of each transaction for hledger, since a ledger keeps no dates",
-    )
-    .default_value("1970-01-01")
-}
+const HAS_SLOTS: Word = Word::Needed(
+    SLOTS,
+    "How many slots each of the two banks has, 1 to 1000000; the ledger has 4K + 39 sectors of 512 bytes",
+);

@@ -7,6 +7,7 @@
 //! The test `each_command_has_its_words` in `src/words.rt` of the crate `front_tests` is an example.
 #![tactic(auto)]
 
+mod command_table;
 mod commands;
 mod console_faults;
 mod console_program;
