@@ -65,13 +65,13 @@ pub enum Fault<'a> {
     Migration(MigrationFault),
     /// An office wasn't kept open, or ended early.
     #[error("{0}")]
-    Office(OfficeFault<'a>),
+    Office(#[from] OfficeFault<'a>),
     /// An office wasn't closed, or doesn't tell how it stands.
     #[error("{0}")]
-    Control(ControlFault<'a>),
+    Control(#[from] ControlFault<'a>),
     /// An archive doesn't have all of a ledger.
     #[error("{0}")]
-    Archive(ArchiveFault<'a>),
+    Archive(#[from] ArchiveFault<'a>),
 }
 
 impl<'a> Fault<'a> {
