@@ -26,6 +26,6 @@ pub use sweep_auditor::Audit;
 pub use told::ToldBalance;
 pub use turn_clerk::{
     Clerk, FindRefusal, Found, Latest, OpenRefusal, Posting, Reached, SEARCH_STEP, Taken, Turn,
-    TurnRefusal,
+    TurnRefusal, later_posting,
 };
 pub use turn_ledger::{BATCH_LIMIT, Entry};

@@ -1,5 +1,5 @@
 -- What a look at a counter's postings tells, from what each of its steps told.
-use Rattle.std.specs.Prelude.{◌≡◌, ℕ, zero, suc, min, nat_lt, if◌then◌else◌, Option, None, Some, Result, Ok, Err, IsSomeAnd}
+use Rattle.std.specs.Prelude.{◌≡◌, ℕ, zero, suc, min, Option, None, Some, Result, Ok, Err, IsSomeAnd}
 use Rattle.turn_ledger.specs.Entry.{reference_of}
 use Rattle.turn_clerk.specs.declared.postings.Posting.{Posting}
 use Rattle.turn_clerk.specs.declared.postings.Latest.{Latest}
@@ -10,22 +10,16 @@ use Rattle.live_office.specs.declared.look.Seen.{Seen}
 use Rattle.live_office.specs.declared.session.Earlier.{Earlier}
 use Rattle.live_office.specs.declared.session.Earlier.TheVariants as earlier
 
--- the one of two postings with the greater reference, the second if they have the same
-abbrev pub latest_with : Option Posting → Option Posting → Option Posting
-latest_with None next = next
-latest_with (Some before) None = Some before
-latest_with (Some before) (Some next) = if nat_lt (reference_of next.entry) (reference_of before.entry) then Some before else Some next
-
 -- a look that has come to the last record, with that posting
 abbrev pub seen_at : Option Posting → Reached → Option (Result Seen FindRefusal)
 seen_at posting (reached.All since) = Some (Ok (record { posting = posting; since = since }))
 seen_at posting (reached.Further number) = None
 seen_at posting reached.LookingBack = None
 
--- what the whole look tells with this step, if it ends the look
+-- what the whole look tells with this step, by the posting so far, if the step ends it
 abbrev pub seen_with : Option Posting → Result Latest FindRefusal → Option (Result Seen FindRefusal)
-seen_with before (Ok latest) = seen_at (latest_with before latest.posting) latest.reached
-seen_with before (Err refusal) = Some (Err refusal)
+seen_with posting (Ok latest) = seen_at posting latest.reached
+seen_with posting (Err refusal) = Some (Err refusal)
 
 -- Where the next step begins: where this one ended, or where it began if it looked at no record.
 abbrev pub GoesOnAt : ℕ → Reached → ℕ → Type 0

@@ -2,13 +2,14 @@
 ghost use Rattle.std.specs.Prelude.{◌≡◌, ◌≢◌, ◌↔◌, ◌<◌, ℕ, IfOk, IfSome, Some};
 ghost use Rattle.sector_device.specs.Crash.{LooksOnly};
 ghost use Rattle.turn_clerk.specs.Found.{after_looks};
+ghost use Rattle.turn_clerk.specs.Latest.{IsLater};
 ghost use Rattle.turn_clerk.specs.declared.refusals.FindRefusal.{FindRefusal};
 ghost use Rattle.turn_ledger.specs.Entry.{reference_of};
 ghost use Rattle.station_desk.specs.declared.errand.Question.TheVariants as question;
-ghost use Rattle.live_office.specs.Looked.{seen_with, latest_with, seen_farther, GoesOnAt, IsUnder};
+ghost use Rattle.live_office.specs.Looked.{seen_with, seen_farther, GoesOnAt, IsUnder};
 
 use crate::responses::Judgement;
-use line_lock::{Clerk, FindRefusal, Latest, Posting, Reached};
+use line_lock::{Clerk, FindRefusal, Latest, Posting, Reached, later_posting};
 use office_day::Device;
 use station_desk::Question;
 use std::fmt;
@@ -69,16 +70,16 @@ impl Look {
         &mut self,
         step: Result<Latest, FindRefusal>,
     ) -> Option<Result<Seen, FindRefusal>>
-        ensures seen { result ≡ seen_with self.old.posting step }
+        ensures seen { result ≡ seen_with self.new.posting step }
         ensures latest { IfOk step (λ latest.
-            self.new.posting ≡ latest_with self.old.posting latest.posting) }
+            IsLater self.old.posting latest.posting self.new.posting) }
         ensures meets { IfOk step (λ latest. GoesOnAt self.old.from latest.reached self.new.from) }
     {
         let latest = match step {
             Ok(latest) => latest,
             Err(refusal) => return Some(Err(refusal)),
         };
-        self.posting = later_of(self.posting, latest.posting);
+        self.posting = later_posting(self.posting, latest.posting);
         match latest.reached {
             Reached::Further(number) => {
                 self.from = number;
@@ -122,23 +123,6 @@ pub(crate) fn farther(since: u64, in_archive: Option<Seen>) -> Seen
             posting: None,
             since,
         },
-    }
-}
-
-// Which of two postings has the greater reference; the second one if they have the same.
-fn later_of(before: Option<Posting>, next: Option<Posting>) -> Option<Posting>
-    ensures { result ≡ latest_with before next }
-{
-    match (before, next) {
-        (Some(first), Some(second)) => {
-            if second.entry.reference() < first.entry.reference() {
-                before
-            } else {
-                next
-            }
-        }
-        (Some(_), None) => before,
-        (None, _) => next,
     }
 }
 

@@ -20,7 +20,7 @@ pub use events::{Event, Reply};
 pub use four_state::{Line, Rule};
 pub use journal_recovery::{Cause, OpenRefusal};
 pub use laws::{lives_in_a_row, lives_join};
-pub use postings::{Latest, Posting, Reached};
+pub use postings::{Latest, Posting, Reached, later_posting};
 pub use refusals::{FindRefusal, TurnRefusal};
 pub use searching::{Found, SEARCH_STEP};
 pub use sector_device::Device;
