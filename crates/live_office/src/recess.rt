@@ -1,9 +1,9 @@
 //! What a live office does between two spans.
-ghost use Rattle.std.specs.Prelude.{◌≡◌, ◌⊎◌, ◌↔◌, ℕ, true, false, Ok};
+ghost use Rattle.std.specs.Prelude.{◌≡◌, ◌⊎◌, ◌↔◌, ℕ, true, false, Ok, Err};
 ghost use Rattle.office_day.specs.Archive.{Archive, WasKept, next_of};
 ghost use Rattle.office_day.specs.Spans.{WasLookedAt};
 ghost use Rattle.live_office.specs.declared.standing.Standing.{Standing};
-ghost use Rattle.live_office.specs.Standing.{HasRoom, archived_of};
+ghost use Rattle.live_office.specs.Standing.{HasRoom, CantBeRead, archived_of};
 
 use crate::look::Seen;
 use crate::scheduler::Scheduler;
@@ -130,6 +130,10 @@ impl<R: Wait, K> Granting<'_, R, K> {
             → (D.state device).honest → HasRoom standing.next standing.free (D.state device).reads }
         ensures archived { (standing : Standing) → result.1 ≡ Came.Standing (Ok standing)
             → standing.archived ≡ archived_of kept }
+        ensures failed { (result.1 ≡ Came.Archive kept) ↔ (kept ≡ Kept.Failed) }
+        ensures device { (D.state device).honest
+            → result.1 ≡ Came.Standing (Err StandingRefusal.Device)
+            → CantBeRead (D.state device) (D.state result.0) }
     {
         let archived = match kept {
             Kept::UpTo(next) => Some(next),

@@ -1,7 +1,7 @@
 //! How a live office stands.
-ghost use Rattle.std.specs.Prelude.{IfOk};
+ghost use Rattle.std.specs.Prelude.{◌≡◌, IfOk, Err};
 ghost use Rattle.office_day.specs.Spans.{WasLookedAt};
-ghost use Rattle.live_office.specs.Standing.{HasRoom};
+ghost use Rattle.live_office.specs.Standing.{HasRoom, CantBeRead};
 
 use journal_recovery::{OpenRefusal, Recovered, recover};
 use office_day::Device;
@@ -56,6 +56,9 @@ pub(crate) fn measure<D: Device>(
     ensures looked { WasLookedAt (D.state device) (D.state result.0) }
     ensures measured { (D.state device).honest
         → IfOk result.1 (λ room. HasRoom room.0 room.1 (D.state device).reads) }
+    ensures memory { result.1 ≡ Err StandingRefusal.Memory → result.0 ≡ device }
+    ensures device { (D.state device).honest → result.1 ≡ Err StandingRefusal.Device
+        → CantBeRead (D.state device) (D.state result.0) }
 {
     match recover(alloc, device) {
         Ok(Recovered { journal, .. }) => {
@@ -63,6 +66,7 @@ pub(crate) fn measure<D: Device>(
             (journal.into_device(), Ok((next, free)))
         }
         Err((device, OpenRefusal::Memory)) => (device, Err(StandingRefusal::Memory)),
+        Err((device, OpenRefusal::Device)) => (device, Err(StandingRefusal::Device)),
         Err((device, _)) => (device, Err(StandingRefusal::Device)),
     }
 }
