@@ -10,9 +10,9 @@ use Rattle.turn_clerk.specs.declared.refusals.TurnRefusal.TheVariants.{Faulted, 
 use Rattle.line_lock.specs.Seat.{SeatState, EndsHistoryOf, IsDeniedAfter, WasRefused}
 
 -- A seat asked for a turn with these entries, in an office that was opened on that device with that line, and was
--- answered; a refusal of the turn is told as `told` says. A turn is in its list, behind the others; it is its
+-- answered; a refusal of the turn is reported as `told` says. A turn is in its list, behind the others; it is its
 -- station's, has these entries, 15 at most, and ends a legal history. A refusal lists nothing, and is one of the
--- clerk's, in the clerk's order, but for want of memory where the seat's list has no place. That it isn't the station's
+-- clerk's, in the clerk's order, but for out of memory if the seat's list has no place. That it isn't the station's
 -- turn is noted, with how many turns the history held, and is so; that a fault was met before is noted; that the device
 -- failed is counted, and with which entries is noted. What the seat was told of an account stays.
 pub record WasTold {E : Type 0} (device : DeviceState) (from : Configuration) (old new : SeatState) (entries : List Entry) (reply : Result Turn E) (told : TurnRefusal → E) : Type 0 where

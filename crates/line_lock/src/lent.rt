@@ -21,7 +21,7 @@ use turn_clerk::OpenRefusal;
 
 /// What is done in an office between its opening and its closing.
 pub trait OfficeWork<D: Device>: Drop {
-    /// What the work answers beside the seats.
+    /// What the work answers besides the seats.
     type Answer: Drop;
 
     /// Why it gave up.

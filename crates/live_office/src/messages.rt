@@ -20,7 +20,7 @@ pub enum WrongLine {
     Fault(LineFault),
     /// It has more than 256 bytes.
     TooLong,
-    /// Its client hasn't said hello since the office began.
+    /// Its client did not say hello since the office began.
     NoHello,
 }
 

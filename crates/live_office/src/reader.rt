@@ -117,7 +117,7 @@ impl<I: Read + Drop> Reader<I> {
         }
     }
 
-    // The request, unless its client hasn't said hello, and has to.
+    // The request, unless its client did not say hello, and has to.
     fn heard(&mut self, request: Request) -> Message {
         if matches!(request, Request::Hello { .. }) {
             self.awaits_hello = false;

@@ -1,4 +1,4 @@
--- What a station leaves beside its seat.
+-- What a station leaves besides its seat.
 use Rattle.station_desk.specs.declared.stations.Station.{Station}
 use Rattle.office_day.specs.declared.seated.Left.{Left}
 

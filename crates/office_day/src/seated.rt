@@ -6,7 +6,7 @@ use line_lock::{Count, Seat};
 use station_desk::{Desk, End, Station};
 use std::alloc::{AllocError, Global};
 
-/// What a station leaves of a run beside its seat.
+/// What a station leaves of a run besides its seat.
 #[derive(Drop)]
 pub struct Left {
     /// Where its clients' requests came in and the answers went out.
@@ -38,7 +38,7 @@ pub(crate) fn seated<L: Count>(
     Ok(stations)
 }
 
-/// The seats of the stations, and what the stations leave beside them.
+/// The seats of the stations, and what the stations leave besides them.
 pub(crate) fn risen<L: Count>(
     alloc: Global,
     stations: Vec<Station<L>>,
