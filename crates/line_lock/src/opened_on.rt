@@ -4,7 +4,7 @@ ghost use Rattle.four_state.specs.Configuration.{Configuration};
 
 use std::marker::Brand;
 
-/// What the type that names an office says besides its ledger: the device and the line with which the office was opened.
+/// What the type that names an office says besides its ledger: the device and the line that the office was opened with.
 /// A lock forgets both; the type doesn't, so that closing the office can tell of them. Who opens an office by
 /// [`std::marker::Brand`] names them in a proof, as the ledger's name and parts.
 pub trait OpenedOn {
