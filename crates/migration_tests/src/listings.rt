@@ -37,7 +37,14 @@ fn expect_next<D: Device>(
     (by, wanted): (u16, &[Entry]),
     amounts: [u64; 2],
 ) -> Result<(), Fail> {
-    let Some(Listed { record, entries, .. }) = listing.next()? else {
+    let Some(
+        Listed {
+            record,
+            entries,
+            ..
+        },
+    ) = listing.next()?
+    else {
         panic!(rt; "a record")
     };
     assert!(rt; (record.station(), entries.as_slice()) == (by, wanted));

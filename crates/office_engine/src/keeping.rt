@@ -87,7 +87,10 @@ pub fn serve<
     } = opened;
     let moves = turns_of_span(slots, serving.archive.is_some());
     let kept = keep_open(rt, alloc, device, line, counters, moves, archivist);
-    let (closed, mut archivist) = kept.map_err(|(_, refusal)| OfficeFault::from(refusal))?;
+    let (closed, mut archivist) = match kept {
+        Ok(both) => both,
+        Err((_, refusal)) => return Err(OfficeFault::from(refusal)),
+    };
     let device = tell_closed(closed, &mut output)?;
     if let Some(fault) = archivist.fault() {
         return Err(OfficeFault::from(fault));
@@ -110,11 +113,11 @@ fn open_counters<'a, R: Files<File = File>, I: Read + Drop, O: Write + Drop>(
     let mut opened = Vec::new(alloc);
     for folder in &serving.counters {
         let counter = open_counter(rt, alloc, folder, serving.hello, &mut opened)?;
-        counters.push(counter).map_err(|_| OfficeFault::Memory)?;
+        counters.push(counter).or(Err(OfficeFault::Memory))?;
     }
     if serving.terminal {
         let counter = terminal_counter(terminal);
-        counters.push(counter).map_err(|_| OfficeFault::Memory)?;
+        counters.push(counter).or(Err(OfficeFault::Memory))?;
     }
     Ok(counters)
 }
@@ -219,7 +222,10 @@ fn tell_opened<'a, D: Device + Drop, W: Write>(
 fn first_line<'a>(stations: u64) -> Result<Line, OfficeFault<'a>> {
     let bits = [false; MOST_STATIONS as usize];
     let count = stations.min(MOST_STATIONS) as usize;
-    Line::from_bits(stations, &bits[..count], &bits[..count]).map_err(OfficeFault::Line)
+    match Line::from_bits(stations, &bits[..count], &bits[..count]) {
+        Ok(line) => Ok(line),
+        Err(refusal) => Err(OfficeFault::Line(refusal)),
+    }
 }
 
 // Tells how the office ended: its turns, the line, and what was asked and not answered. The device comes back of one
