@@ -6,7 +6,6 @@ ghost use Rattle.office_engine.specs.Ends.{NoneFailed, NoneWasRefused, TellsRefu
 use crate::archivist::Archivist;
 use crate::faults::{OfficeFault, PipeFault};
 use crate::pipes::{Side, open_pipe};
-use crate::runtime::Runtime;
 use crate::serving::{Plan, Serving};
 use crate::source::{Source, Target};
 use file_device::FileNumber;
@@ -19,9 +18,12 @@ use live_office::{
 use office_day::{End, StationDay, TurnRefusal};
 use script_streams::{Output, StreamFault};
 use sector_device::Device;
-use std::alloc::Global;
+use std::alloc::{Alloc, Global};
 use std::fs::{File, Files};
 use std::io::{Read, Write};
+use std::sync::Wait;
+use std::thread::Threads;
+use std::time::Clock;
 
 /// After how many turns an office is closed and opened again, if its banks have as many slots: so many its history
 /// holds at most.
@@ -59,7 +61,16 @@ type AnyCounter<I, O> = Counter<Source<File, I>, Target<File, O>>;
 /// [`OfficeFault`].
 pub fn serve<
     'a,
-    R: Runtime,
+    R: Files<File = File>
+        + Alloc<A = Global>
+        + Threads
+        + Wait
+        + Clock
+        + Sync
+        + Send
+        + Clone
+        + Drop
+        + 'static,
     I: Read + Send + Drop + 'static,
     O: Write + Send + Drop + 'static,
     W: Write,

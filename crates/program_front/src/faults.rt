@@ -65,13 +65,13 @@ pub enum Fault<'a> {
     Migration(MigrationFault),
     /// An office wasn't kept open, or ended early.
     #[error("{0}")]
-    Office(#[from] OfficeFault<'a>),
+    Office(OfficeFault<'a>),
     /// An office wasn't closed, or doesn't tell how it stands.
     #[error("{0}")]
-    Control(#[from] ControlFault<'a>),
+    Control(ControlFault<'a>),
     /// An archive doesn't have all of a ledger.
     #[error("{0}")]
-    Archive(#[from] ArchiveFault<'a>),
+    Archive(ArchiveFault<'a>),
 }
 
 impl<'a> Fault<'a> {
