@@ -124,11 +124,12 @@ fn open_counters<'a, R: Files<File = File>, I: Read + Drop, O: Write + Drop>(
     let mut opened = Vec::new(alloc);
     for folder in &serving.counters {
         let counter = open_counter(rt, alloc, folder, serving.hello, &mut opened)?;
-        counters.push(counter).or(Err(OfficeFault::Memory))?;
+        if counters.push(counter).is_err() {
+            return Err(OfficeFault::Memory);
+        }
     }
-    if serving.terminal {
-        let counter = terminal_counter(terminal);
-        counters.push(counter).or(Err(OfficeFault::Memory))?;
+    if serving.terminal && counters.push(terminal_counter(terminal)).is_err() {
+        return Err(OfficeFault::Memory);
     }
     Ok(counters)
 }
@@ -168,13 +169,14 @@ fn pipe_of<'a, R: Files<File = File>>(
     side: Side,
     opened: &mut Vec<FileNumber>,
 ) -> Result<File, OfficeFault<'a>> {
-    open_pipe(rt, alloc, folder, side, opened).map_err(|refusal| {
-        OfficeFault::Pipe(PipeFault {
+    match open_pipe(rt, alloc, folder, side, opened) {
+        Ok(file) => Ok(file),
+        Err(refusal) => Err(OfficeFault::Pipe(PipeFault {
             folder,
             side,
             refusal,
-        })
-    })
+        })),
+    }
 }
 
 // The device, formatted first if that is asked for.
@@ -190,7 +192,10 @@ fn open_device<'a, R: Files<File = File>, W: Write>(
         Some(formatting) => format_ledger(rt, alloc, path, formatting),
         None => open_ledger(rt, alloc, path, serving.sectors.unwrap_or(0)),
     };
-    let device = opened.map_err(|refusal| OfficeFault::of_file(path, refusal))?;
+    let device = match opened {
+        Ok(device) => device,
+        Err(refusal) => return Err(OfficeFault::of_file(path, refusal)),
+    };
     if let Some(Formatting { slots, .. }) = formatting {
         output.line(format_args!("formatted {slots}"))?;
     }
@@ -212,10 +217,10 @@ fn tell_opened<'a, D: Device + Drop, W: Write>(
     stations: u64,
     output: &mut Output<'_, W>,
 ) -> Result<Opened<D>, OfficeFault<'a>> {
-    let Recovered { journal, ledger } = recover(alloc, device).map_err(|(
-        _,
-        refusal,
-    )| OfficeFault::NoLedger { path, refusal })?;
+    let Recovered { journal, ledger } = match recover(alloc, device) {
+        Ok(found) => found,
+        Err((_, refusal)) => return Err(OfficeFault::NoLedger { path, refusal }),
+    };
     let next = journal.next();
     let total = ledger.total();
     output.line(format_args!("opened {stations} next {next} total {total}"))?;

@@ -54,13 +54,14 @@ pub(crate) fn has_client<R: Files<File = File>>(rt: &R, alloc: Global, folder: &
         return false;
     };
     // the opening of a pipe would wait
-    if !fs::metadata(rt, path.as_str()).is_ok_and(|found| found.is_file()) {
-        return false;
+    match fs::metadata(rt, path.as_str()) {
+        Ok(found) if found.is_file() => {}
+        _ => return false,
     }
-    let Ok(file) = reading(rt, path.as_str()) else {
-        return false;
-    };
-    matches!(file.try_lock_shared(), Err(TryLockError::WouldBlock))
+    match reading(rt, path.as_str()) {
+        Ok(file) => matches!(file.try_lock_shared(), Err(TryLockError::WouldBlock)),
+        Err(_) => false,
+    }
 }
 
 // A file, open for reading.

@@ -3,7 +3,7 @@ ghost use Rattle.std.specs.Prelude.{◌<ℤ◌, pos, IfOk};
 ghost use Rattle.std.specs.Fd.{file_raw_fd};
 
 use file_device::FileNumber;
-use std::alloc::Global;
+use std::alloc::{AllocError, Global};
 use std::fs::{File, Files, OpenFile, OpenOptions, TryLockError};
 use std::os::fd::{AsRawFd, RawFd};
 use std::os::unix::fs::FileTypeExt;
@@ -101,13 +101,18 @@ pub(crate) fn listen<R: Files<File = File>>(
     let path = path_of(alloc, folder, Side::Out)?;
     let mut how = OpenOptions::new();
     how.read(true);
-    how.open(rt, path.as_str())
-        .map_err(|_| PipeRefusal::Unopened)
+    match how.open(rt, path.as_str()) {
+        Ok(file) => Ok(file),
+        Err(_) => Err(PipeRefusal::Unopened),
+    }
 }
 
 fn path_of(alloc: Global, folder: &str, side: Side) -> Result<String, PipeRefusal> {
     let name = side.name();
-    format!(in alloc; "{folder}/{name}").map_err(|_| PipeRefusal::Memory)
+    match format!(in alloc; "{folder}/{name}") {
+        Ok(path) => Ok(path),
+        Err(AllocError) => Err(PipeRefusal::Memory),
+    }
 }
 
 // Notes a pipe that wasn't opened before.
@@ -115,7 +120,10 @@ fn note_pipe(number: FileNumber, opened: &mut Vec<FileNumber>) -> Result<(), Pip
     if opened.iter().any(|other| *other == number) {
         return Err(PipeRefusal::Taken);
     }
-    opened.push(number).map_err(|_| PipeRefusal::Memory)
+    match opened.push(number) {
+        Ok(()) => Ok(()),
+        Err(_) => Err(PipeRefusal::Memory),
+    }
 }
 
 // Moves the file off the numbers of the standard streams: where one of these is closed, what is printed to it would

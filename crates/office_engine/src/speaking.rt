@@ -70,11 +70,10 @@ impl<'a> Speaker<'a> {
         alloc: Global,
         folder: &'a str,
     ) -> Result<Speaker<'a>, ControlFault<'a>> {
-        let (pipe, _) = find_pipe(rt, alloc, folder, Side::In).map_err(|refusal| at_pipe(
-            folder,
-            Side::In,
-            refusal,
-        ))?;
+        let pipe = match find_pipe(rt, alloc, folder, Side::In) {
+            Ok((pipe, _)) => pipe,
+            Err(refusal) => return Err(at_pipe(folder, Side::In, refusal)),
+        };
         if !is_held(&pipe, folder)? {
             return Err(ControlFault::NotOpen(folder));
         }
@@ -91,7 +90,10 @@ impl<'a> Speaker<'a> {
 
     /// Says these lines.
     pub(crate) fn say(&mut self, lines: &[u8]) -> Result<(), ControlFault<'a>> {
-        write_all(&mut self.pipe, lines).map_err(|_| ControlFault::Unwritten(self.folder))
+        match write_all(&mut self.pipe, lines) {
+            Ok(()) => Ok(()),
+            Err(_) => Err(ControlFault::Unwritten(self.folder)),
+        }
     }
 
     /// Whether the office still has the counter.

@@ -48,14 +48,21 @@ pub fn ask_standing<'a, R: Files<File = File> + Clock>(
     let mut speaker = Speaker::at(rt, alloc, folder)?;
     let mut listener = Listener::at(rt, alloc, folder)?;
     let number = own_number(rt);
-    let memory = |_| at_pipe(folder, Side::In, PipeRefusal::Memory);
-    let hello = format!(in alloc; "hello {number}").map_err(memory)?;
-    let said = format!(in alloc; " ?\n{hello}\nstatus\n").map_err(memory)?;
+    let memory = at_pipe(folder, Side::In, PipeRefusal::Memory);
+    let Ok(hello) = format!(in alloc; "hello {number}") else {
+        return Err(memory);
+    };
+    let Ok(said) = format!(in alloc; " ?\n{hello}\nstatus\n") else {
+        return Err(memory);
+    };
     speaker.say(said.as_bytes())?;
     listener.await_line(hello.as_bytes())?;
     listener.hear()?;
-    let told = listener.told(alloc).map_err(memory)?;
-    told.ok_or(ControlFault::Untold(folder))
+    match listener.told(alloc) {
+        Ok(Some(told)) => Ok(told),
+        Ok(None) => Err(ControlFault::Untold(folder)),
+        Err(AllocError) => Err(memory),
+    }
 }
 
 // A number by which the answers are known that aren't an earlier client's: the time.
@@ -83,14 +90,18 @@ impl<'a> Listener<'a> {
         alloc: Global,
         folder: &'a str,
     ) -> Result<Listener<'a>, ControlFault<'a>> {
-        let of_pipe = |refusal| at_pipe(folder, Side::Out, refusal);
-        let pipe = listen(rt, alloc, folder).map_err(of_pipe)?;
-        let cutter = LineCutter::new(alloc).map_err(|_| of_pipe(PipeRefusal::Memory))?;
-        Ok(Listener {
-            folder,
-            pipe,
-            cutter,
-        })
+        let pipe = match listen(rt, alloc, folder) {
+            Ok(pipe) => pipe,
+            Err(refusal) => return Err(at_pipe(folder, Side::Out, refusal)),
+        };
+        match LineCutter::new(alloc) {
+            Ok(cutter) => Ok(Listener {
+                folder,
+                pipe,
+                cutter,
+            }),
+            Err(AllocError) => Err(at_pipe(folder, Side::Out, PipeRefusal::Memory)),
+        }
     }
 
     // Hears all up to this line.
