@@ -47,9 +47,9 @@ def main():
     console, folder = sys.argv[1], pathlib.Path(sys.argv[2])
     for entries in (1, 15):
         for accounts in (64, image.ACCOUNTS):
-            print(f"| a turn with {entries} entries, {accounts} accounts | {turns(console, folder, entries, accounts, 2_000):,.0f} |")
+            print(f"| a turn of {entries} entries, {accounts:,} accounts | {turns(console, folder, entries, accounts, 2_000):,.0f} |")
     for slots in (1, 4, 64):
-        print(f"| a turn with 1 entry, banks of {slots} slots | {turns(console, folder, 1, 64, slots):,.0f} |")
+        print(f"| a turn of 1 entry, banks of {slots} slots | {turns(console, folder, 1, 64, slots):,.0f} |")
     print(f"| an opening, for each slot | {opening(console, folder):,.0f} |")
 
 
