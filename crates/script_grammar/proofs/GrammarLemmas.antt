@@ -1,19 +1,15 @@
 -- What the grammar says of a line, form by form.
-use Rattle.std.proofs.Common.{◌≡◌, ◌≢◌, ◌∙◌, ℕ, suc, ◌<◌, ◌≤◌, ◌&&◌, Bool, true, false, if◌then◌else◌, Option, Some, None, Result, Ok, Err, List, []}
-use Rattle.std.proofs.Common.{◌∷◌, ◌++◌, length, drop, map, filter, ◌==◌, nat_lt, arith, refl, sym, ap}
+use Rattle.std.proofs.Common.{◌≡◌, ◌≢◌, ◌∙◌, ℕ, suc, ◌≤◌, Bool, true, false, if◌then◌else◌, Option, Some, None, Result, Ok, Err, List, []}
+use Rattle.std.proofs.Common.{◌∷◌, ◌++◌, length, drop, map, filter, ◌==◌, arith, refl, sym, ap}
 use Rattle.std.specs.Prelude.{IfErr, IfOk}
 use Rattle.std.specs.Option.{option_or}
-use Rattle.std.specs.Str.{bytes_eq, IsUtf8}
-use Rattle.std.specs.List.{All, list_all}
+use Rattle.std.specs.List.{All}
 use Rattle.std.proofs.Math.Dec.{eqb-suc-suc}
 use Rattle.std.proofs.Math.Seq.{drop-nil}
-use Rattle.std.proofs.lemmas.Bool.{eq-eqb, ne_eqb, false_from_ne_true, and_parts, ltb-true}
+use Rattle.std.proofs.lemmas.Bool.{eq-eqb, ne_eqb}
 use Rattle.std.proofs.lemmas.List.{append-nil, append_assoc}
 use Rattle.std.proofs.lemmas.List.Elements.{All-filter, All-head}
-use Rattle.std.proofs.lemmas.List.Sums.{AllPass-from_list_all}
 use Rattle.std.proofs.lemmas.Slice.Eq.{bytes_eq-Decides}
-use Rattle.std.proofs.lemmas.Str.{IsUtf8-from_ascii}
-use Rattle.std.proofs.lemmas.Str.Ascii.{IsAscii-from_all}
 use Rattle.script_grammar.specs.Places.{AreTaken, Field, Fills, IsAnswer, Value, fault_by, first_wrong, is_skipped, takes, told_as, told_of, told_of_named, told_of_one, values, written}
 use Rattle.script_grammar.specs.Places.{Name}
 use Rattle.script_grammar.specs.declared.faults.LineFault.{LineFault}
@@ -136,22 +132,6 @@ pub fills_named : (name : Word) (places : List Field) (words : List Word) (these
     → Fills (name ∷ words) (Name name ∷ places) these
 unfolding Fills first_wrong takes
 fills_named name places words these full = (ap suc full.0, rw ((bytes_eq-Decides name name).1 refl) full.1, full.2)
-
--- ---- names
-
--- a name of one character or more, all of them ASCII
-abbrev pub is_plain : Word → Bool
-is_plain name = nat_lt 0 (length name) && list_all (λ byte. nat_lt byte 128) name
-
--- the text is the word, as far as names see it
-abbrev pub IsText : Word → Word → Type 0
-IsText text word = (name : Word) → IsUtf8 name → 0 < length name → bytes_eq text name ≡ bytes_eq word name
-
-pub no_name : (text word name : Word) → IsText text word → is_plain name ≡ true → (text ≡ name → ⊥) → bytes_eq word name ≡ false
-no_name text word name same plain other =
-    let each = AllPass-from_list_all (λ byte. nat_lt byte 128) name (and_parts _ _ plain).1 in
-    let utf8 : IsUtf8 name = IsUtf8-from_ascii name (IsAscii-from_all name (λ k d low. ltb-true _ _ (each k d low))) in
-    sym (same name utf8 (ltb-true _ _ (and_parts _ _ plain).0)) ∙ false_from_ne_true _ (λ t. other ((bytes_eq-Decides text name).0 t))
 
 -- nothing is wrong with a line that says nothing
 pub skipped : (table : List (List Field)) (words : List Word) → is_skipped words ≡ true → fault_by table words ≡ None

@@ -8,7 +8,7 @@ use crate::entries::{Reference, read_entry};
 use crate::faults::LineFault;
 use crate::numbers::Bits;
 use crate::places::{Nothing, One, Place, Three, Turns, exactly};
-use crate::words::{Words, first_name, text_of, word};
+use crate::words::{Words, first_name, is, word};
 use std::num::NonZeroU64;
 use turn_ledger::Entry;
 
@@ -62,37 +62,31 @@ fn read_named(name: &[u8], words: Words<'_>, line: u64) -> Result<Command, LineF
     requires { (slice_index name.now 0 == 35) ≡ false }
     ensures { IsRead (name.now ∷ words.entry) line result }
 {
-    match text_of(name) {
-        "format" => {
-            let One(slots) = exactly(words)?;
-            Ok(Command::Format { slots })
-        }
-        "open" => {
-            let Three(stations, x, up) = exactly(words)?;
-            Ok(Command::Open { stations, x, up })
-        }
-        "post" => read_post(words, line),
-        "turn" => {
-            let One(station) = exactly(words)?;
-            Ok(Command::Turn { station })
-        }
-        "bits" => {
-            let Nothing = exactly(words)?;
-            Ok(Command::Bits)
-        }
-        "balances" => {
-            let Nothing = exactly(words)?;
-            Ok(Command::Balances)
-        }
-        "crash" => {
-            let Nothing = exactly(words)?;
-            Ok(Command::Crash)
-        }
-        "day" => {
-            let One(Turns(moves)) = exactly(words)?;
-            Ok(Command::Day { moves })
-        }
-        _ => Err(LineFault::UnknownCommand),
+    if is(name, "format") {
+        let One(slots) = exactly(words)?;
+        Ok(Command::Format { slots })
+    } else if is(name, "open") {
+        let Three(stations, x, up) = exactly(words)?;
+        Ok(Command::Open { stations, x, up })
+    } else if is(name, "post") {
+        read_post(words, line)
+    } else if is(name, "turn") {
+        let One(station) = exactly(words)?;
+        Ok(Command::Turn { station })
+    } else if is(name, "bits") {
+        let Nothing = exactly(words)?;
+        Ok(Command::Bits)
+    } else if is(name, "balances") {
+        let Nothing = exactly(words)?;
+        Ok(Command::Balances)
+    } else if is(name, "crash") {
+        let Nothing = exactly(words)?;
+        Ok(Command::Crash)
+    } else if is(name, "day") {
+        let One(Turns(moves)) = exactly(words)?;
+        Ok(Command::Day { moves })
+    } else {
+        Err(LineFault::UnknownCommand)
     }
 }
 

@@ -6,7 +6,7 @@ ghost use Rattle.script_grammar.specs.declared.entries.Reference.TheVariants.{Gi
 
 use crate::faults::LineFault;
 use crate::places::{One, Places, Three, Two, exactly, next};
-use crate::words::{Words, text_of};
+use crate::words::{Words, is};
 use turn_ledger::Entry;
 
 /// What an entry's reference is.
@@ -24,37 +24,33 @@ pub fn read_entry(kind: &[u8], words: Words<'_>, reference: Reference) -> Result
     ensures { IsAnswer (told_by (entry_forms reference) (kind.now ∷ words.entry))
         (SpellsEntry reference (kind.now ∷ words.entry)) result }
 {
-    match text_of(kind) {
-        "deposit" => {
-            let (Two(to, amount), reference) = with_reference(words, reference)?;
-            Ok(Entry::Deposit {
-                to,
-                amount,
-                reference,
-            })
-        }
-        "withdraw" => {
-            let (Two(from, amount), reference) = with_reference(words, reference)?;
-            Ok(Entry::Withdraw {
-                from,
-                amount,
-                reference,
-            })
-        }
-        "transfer" => {
-            let (Three(from, to, amount), reference) = with_reference(words, reference)?;
-            Ok(Entry::Transfer {
-                from,
-                to,
-                amount,
-                reference,
-            })
-        }
-        "seal" => {
-            let (One(account), reference) = with_reference(words, reference)?;
-            Ok(Entry::Seal { account, reference })
-        }
-        _ => Err(LineFault::UnknownCommand),
+    if is(kind, "deposit") {
+        let (Two(to, amount), reference) = with_reference(words, reference)?;
+        Ok(Entry::Deposit {
+            to,
+            amount,
+            reference,
+        })
+    } else if is(kind, "withdraw") {
+        let (Two(from, amount), reference) = with_reference(words, reference)?;
+        Ok(Entry::Withdraw {
+            from,
+            amount,
+            reference,
+        })
+    } else if is(kind, "transfer") {
+        let (Three(from, to, amount), reference) = with_reference(words, reference)?;
+        Ok(Entry::Transfer {
+            from,
+            to,
+            amount,
+            reference,
+        })
+    } else if is(kind, "seal") {
+        let (One(account), reference) = with_reference(words, reference)?;
+        Ok(Entry::Seal { account, reference })
+    } else {
+        Err(LineFault::UnknownCommand)
     }
 }
 

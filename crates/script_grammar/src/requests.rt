@@ -7,7 +7,7 @@ ghost use Rattle.script_grammar.specs.Script.{words_of};
 use crate::entries::{Reference, read_entry};
 use crate::faults::LineFault;
 use crate::places::{Nothing, One, exactly};
-use crate::words::{Words, first_name, text_of};
+use crate::words::{Words, first_name, is};
 use turn_ledger::Entry;
 
 /// What a line of a counter asks for. A counter is a client of an office that stays open: it says one request a line.
@@ -67,50 +67,38 @@ fn read_requested(name: &[u8], words: Words<'_>) -> Result<Request, LineFault>
     requires { (slice_index name.now 0 == 35) ≡ false }
     ensures { IsRequestRead (name.now ∷ words.entry) result }
 {
-    match text_of(name) {
-        "balance" => {
-            let One(account) = exactly(words)?;
-            Ok(Request::Balance { account })
-        }
-        "find" => {
-            let One(reference) = exactly(words)?;
-            Ok(Request::Find { reference })
-        }
-        "last" => {
-            let Nothing = exactly(words)?;
-            Ok(Request::Last)
-        }
-        "first" => {
-            let One(reference) = exactly(words)?;
-            Ok(Request::First { reference })
-        }
-        "hello" => {
-            let One(number) = exactly(words)?;
-            Ok(Request::Hello { number })
-        }
-        "copy" => {
-            let Nothing = exactly(words)?;
-            Ok(Request::Copy)
-        }
-        "archive" => {
-            let Nothing = exactly(words)?;
-            Ok(Request::Archive)
-        }
-        "status" => {
-            let Nothing = exactly(words)?;
-            Ok(Request::Status)
-        }
-        "help" => {
-            let Nothing = exactly(words)?;
-            Ok(Request::Help)
-        }
-        "close" => {
-            let Nothing = exactly(words)?;
-            Ok(Request::Close)
-        }
-        _ => {
-            let entry = read_entry(name, words, Reference::GivenOr(0))?;
-            Ok(Request::Post(entry))
-        }
+    if is(name, "balance") {
+        let One(account) = exactly(words)?;
+        Ok(Request::Balance { account })
+    } else if is(name, "find") {
+        let One(reference) = exactly(words)?;
+        Ok(Request::Find { reference })
+    } else if is(name, "last") {
+        let Nothing = exactly(words)?;
+        Ok(Request::Last)
+    } else if is(name, "first") {
+        let One(reference) = exactly(words)?;
+        Ok(Request::First { reference })
+    } else if is(name, "hello") {
+        let One(number) = exactly(words)?;
+        Ok(Request::Hello { number })
+    } else if is(name, "copy") {
+        let Nothing = exactly(words)?;
+        Ok(Request::Copy)
+    } else if is(name, "archive") {
+        let Nothing = exactly(words)?;
+        Ok(Request::Archive)
+    } else if is(name, "status") {
+        let Nothing = exactly(words)?;
+        Ok(Request::Status)
+    } else if is(name, "help") {
+        let Nothing = exactly(words)?;
+        Ok(Request::Help)
+    } else if is(name, "close") {
+        let Nothing = exactly(words)?;
+        Ok(Request::Close)
+    } else {
+        let entry = read_entry(name, words, Reference::GivenOr(0))?;
+        Ok(Request::Post(entry))
     }
 }

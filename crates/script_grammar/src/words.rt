@@ -1,5 +1,5 @@
 //! Lines and words of a script.
-ghost use Rattle.std.specs.Prelude.{◌≡◌, ◌⊎◌, ◌<◌, ℕ, true, false, List, [], ◌∷◌, ◌++◌, ◌==◌, length, bytes_eq, slice_index, All, IfErr, IfOk, IfSome, IsNone, IsUtf8, MatchOption};
+ghost use Rattle.std.specs.Prelude.{◌≡◌, ◌⊎◌, ◌<◌, ℕ, true, false, List, [], ◌∷◌, ◌++◌, ◌==◌, length, bytes_eq, slice_index, All, IfErr, IfOk, IfSome, IsFalse, IsNone, IsTrue, MatchOption};
 ghost use Rattle.std.specs.Str.Lines.{lines, strip_carriage_return};
 ghost use Rattle.script_grammar.specs.Places.{is_skipped};
 ghost use Rattle.script_grammar.specs.Script.{words_of};
@@ -148,16 +148,12 @@ fn begins_comment(name: &[u8]) -> bool
     }
 }
 
-/// A word as text: the empty one, which is no name, where it isn't UTF-8.
-pub fn text_of(word: &[u8]) -> &str
-    ensures same { (result.now ≡ word.now) ⊎ (result.now ≡ []) }
-    ensures names { (name : List ℕ) → IsUtf8 name → 0 < length name
-        → bytes_eq result.now name ≡ bytes_eq word.now name }
+/// Whether a word is this name.
+pub fn is(word: &[u8], name: &str) -> bool
+    ensures yes { IsTrue result → word.now ≡ name.now }
+    ensures no { IsFalse result → bytes_eq word.now name.now ≡ false }
 {
-    match std::str::from_utf8(word) {
-        Ok(text) => text,
-        Err(_) => "",
-    }
+    word == name.as_bytes()
 }
 
 /// The next word, which has to be there.

@@ -1,18 +1,17 @@
-use Rattle.std.proofs.Common.{codes, refl}
+use Rattle.std.proofs.Common.{refl}
 use Rattle.script_grammar.specs.Grammar.{IsRead, line_fault}
-use Rattle.script_grammar.proofs.GrammarLemmas.{no_name}
 use Rattle.script_grammar.proofs.commands.read_named.Goals as goal
 
-pub returns-in_default : goal.returns-in_default
+pub returns-else-is-8 : goal.returns-else-is-8
 unfolding IsRead line_fault
-returns-in_default c = rw (
+returns-else-is-8 c = rw (
   c.requires,
-  no_name _ _ (codes "format") c.text_of.ensures.names refl c.in_default.not-format,
-  no_name _ _ (codes "open") c.text_of.ensures.names refl c.in_default.not-open,
-  no_name _ _ (codes "post") c.text_of.ensures.names refl c.in_default.not-post,
-  no_name _ _ (codes "turn") c.text_of.ensures.names refl c.in_default.not-turn,
-  no_name _ _ (codes "bits") c.text_of.ensures.names refl c.in_default.not-bits,
-  no_name _ _ (codes "balances") c.text_of.ensures.names refl c.in_default.not-balances,
-  no_name _ _ (codes "crash") c.text_of.ensures.names refl c.in_default.not-crash,
-  no_name _ _ (codes "day") c.text_of.ensures.names refl c.in_default.not-day,
+  c.if-is.ensures.no,
+  c.if-is-2.ensures.no,
+  c.if-is-3.ensures.no,
+  c.if-is-4.ensures.no,
+  c.if-is-5.ensures.no,
+  c.if-is-6.ensures.no,
+  c.if-is-7.ensures.no,
+  c.if-is-8.ensures.no,
 ) refl

@@ -1,4 +1,4 @@
-use Rattle.std.proofs.Common.{◌≡◌, ◌∙◌, Some, None, ap, sym}
+use Rattle.std.proofs.Common.{◌∙◌, ap, sym}
 use Rattle.script_grammar.specs.Requests.{IsRequestRead, request_fault}
 use Rattle.script_grammar.proofs.requests.read_request.Goals as goal
 

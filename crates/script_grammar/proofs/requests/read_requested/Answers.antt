@@ -1,46 +1,33 @@
 use Rattle.std.proofs.Common.{◌≡◌, ◌∙◌, false, List, ◌∷◌, ◌==◌, codes, refl, rules}
-use Rattle.std.specs.Prelude.{slice_index}
+use Rattle.std.specs.Prelude.{bytes_eq, slice_index}
 use Rattle.script_grammar.specs.Entries.{entries_given}
 use Rattle.script_grammar.specs.Places.{told_by}
 use Rattle.script_grammar.specs.Requests.{IsRequestRead, SpellsRequest, request_fault}
-use Rattle.script_grammar.proofs.GrammarLemmas.{IsText, Word, no_name}
+use Rattle.script_grammar.proofs.GrammarLemmas.{Word}
 use Rattle.script_grammar.proofs.requests.read_requested.Goals as goal
 
 -- what is told of a line of another name is told of it as an entry
-as_entry : (text word : Word) (words : List Word) → (slice_index word 0 == 35) ≡ false → IsText text word → (text ≡ codes "balance" → ⊥) → (text ≡ codes "find" → ⊥)
-    → (text ≡ codes "last" → ⊥) → (text ≡ codes "first" → ⊥)
-    → (text ≡ codes "hello" → ⊥) → (text ≡ codes "copy" → ⊥) → (text ≡ codes "archive" → ⊥) → (text ≡ codes "status" → ⊥) → (text ≡ codes "help" → ⊥) → (text ≡ codes "close" → ⊥)
+as_entry : (word : Word) (words : List Word) → (slice_index word 0 == 35) ≡ false → bytes_eq word (codes "balance") ≡ false → bytes_eq word (codes "find") ≡ false
+    → bytes_eq word (codes "last") ≡ false → bytes_eq word (codes "first") ≡ false → bytes_eq word (codes "hello") ≡ false → bytes_eq word (codes "copy") ≡ false
+    → bytes_eq word (codes "archive") ≡ false → bytes_eq word (codes "status") ≡ false → bytes_eq word (codes "help") ≡ false → bytes_eq word (codes "close") ≡ false
     → request_fault (word ∷ words) ≡ told_by entries_given (word ∷ words)
 unfolding request_fault
-as_entry text word words no_comment same balance find last first hello copy archive status help close = rw (
-  no_comment,
-  no_name text word (codes "balance") same refl balance,
-  no_name text word (codes "find") same refl find,
-  no_name text word (codes "last") same refl last,
-  no_name text word (codes "first") same refl first,
-  no_name text word (codes "hello") same refl hello,
-  no_name text word (codes "copy") same refl copy,
-  no_name text word (codes "archive") same refl archive,
-  no_name text word (codes "status") same refl status,
-  no_name text word (codes "help") same refl help,
-  no_name text word (codes "close") same refl close,
-) refl
+as_entry word words no_comment balance find last first hello copy archive status help close =
+    rw (no_comment, balance, find, last, first, hello, copy, archive, status, help, close) refl
 
-pub returns-in_err-entry-in_default : goal.returns-in_err-entry-in_default
+pub returns-in_err-entry : goal.returns-in_err-entry
 unfolding IsRequestRead
-returns-in_err-entry-in_default c =
-    let other = c.in_default in
+returns-in_err-entry c =
     let told =
-    as_entry _ _ c.args.words c.requires c.text_of.ensures.names other.not-balance other.not-find other.not-last other.not-first other.not-hello other.not-copy
-    other.not-archive other.not-status other.not-help other.not-close in
-    search (rules, told ∙ c.in_err-entry-in_default.ensures)
+    as_entry c.args.name.now c.args.words c.requires (c.if-is.ensures.no refl) (c.if-is-2.ensures.no refl) (c.if-is-3.ensures.no refl)
+    (c.if-is-4.ensures.no refl) (c.if-is-5.ensures.no refl) (c.if-is-6.ensures.no refl) (c.if-is-7.ensures.no refl) (c.if-is-8.ensures.no refl)
+    (c.if-is-9.ensures.no refl) (c.if-is-10.ensures.no refl) in
+    search (rules, told ∙ c.in_err-entry.ensures)
 
-pub returns-in_ok-entry-in_default : goal.returns-in_ok-entry-in_default
+pub returns-in_ok-entry : goal.returns-in_ok-entry
 unfolding IsRequestRead SpellsRequest
-returns-in_ok-entry-in_default c =
-    let other = c.in_default in
-    let h = c.in_ok-entry-in_default.ensures in (
-      as_entry _ _ c.args.words c.requires c.text_of.ensures.names other.not-balance other.not-find other.not-last other.not-first other.not-hello other.not-copy
-          other.not-archive other.not-status other.not-help other.not-close ∙ h.0,
-      h.1,
-    )
+returns-in_ok-entry c =
+    let told =
+    as_entry c.args.name.now c.args.words c.requires (c.if-is.ensures.no refl) (c.if-is-2.ensures.no refl) (c.if-is-3.ensures.no refl)
+    (c.if-is-4.ensures.no refl) (c.if-is-5.ensures.no refl) (c.if-is-6.ensures.no refl) (c.if-is-7.ensures.no refl) (c.if-is-8.ensures.no refl)
+    (c.if-is-9.ensures.no refl) (c.if-is-10.ensures.no refl) in (told ∙ c.in_ok-entry.ensures.0, c.in_ok-entry.ensures.1)
