@@ -50,10 +50,7 @@ pub fn read_command(line: &[u8], number: u64) -> Result<Option<Command>, LineFau
     let Some(name) = first_name(&mut words) else {
         return Ok(None);
     };
-    match read_named(name, words, number) {
-        Ok(command) => Ok(Some(command)),
-        Err(fault) => Err(fault),
-    }
+    Ok(Some(read_named(name, words, number)?))
 }
 
 // The command of this name, which begins no comment.

@@ -37,10 +37,7 @@ impl Place for u64 {
 
     #[tactic(auto, using(crate::proofs::TestLemmas::numeral), unfolding(crate::specs::Places::takes))]
     fn read(word: &[u8]) -> Result<u64, LineFault> {
-        match read_number(word) {
-            Some(number) => Ok(number),
-            None => Err(LineFault::BadNumber),
-        }
+        read_number(word).ok_or(LineFault::BadNumber)
     }
 }
 
@@ -52,10 +49,7 @@ impl Place for u32 {
 
     #[tactic(auto, unfolding(crate::specs::Places::takes))]
     fn read(word: &[u8]) -> Result<u32, LineFault> {
-        match u32::try_from(u64::read(word)?) {
-            Ok(account) => Ok(account),
-            Err(_) => Err(LineFault::BadNumber),
-        }
+        u32::try_from(u64::read(word)?).or(Err(LineFault::BadNumber))
     }
 }
 
@@ -67,10 +61,7 @@ impl Place for NonZeroU64 {
 
     #[tactic(auto, unfolding(crate::specs::Places::takes))]
     fn read(word: &[u8]) -> Result<NonZeroU64, LineFault> {
-        match NonZeroU64::new(u64::read(word)?) {
-            Some(slots) => Ok(slots),
-            None => Err(LineFault::BadNumber),
-        }
+        NonZeroU64::new(u64::read(word)?).ok_or(LineFault::BadNumber)
     }
 }
 
@@ -81,10 +72,7 @@ impl Place for Bits {
 
     #[tactic(auto, unfolding(crate::specs::Places::takes))]
     fn read(word: &[u8]) -> Result<Bits, LineFault> {
-        match Bits::read(word) {
-            Some(bits) => Ok(bits),
-            None => Err(LineFault::BadBits),
-        }
+        Bits::read(word).ok_or(LineFault::BadBits)
     }
 }
 
@@ -100,10 +88,7 @@ impl Place for Turns {
     #[tactic(auto, unfolding(crate::specs::Places::takes))]
     fn read(word: &[u8]) -> Result<Turns, LineFault> {
         let turns = u64::read(word)?;
-        if turns == 0 {
-            return Err(LineFault::BadNumber);
-        }
-        if turns > DAY_LIMIT {
+        if turns == 0 || turns > DAY_LIMIT {
             return Err(LineFault::BadNumber);
         }
         Ok(Turns(turns))

@@ -55,10 +55,7 @@ pub fn read_request(line: &[u8]) -> Result<Option<Request>, LineFault>
     let Some(name) = first_name(&mut words) else {
         return Ok(None);
     };
-    match read_requested(name, words) {
-        Ok(request) => Ok(Some(request)),
-        Err(fault) => Err(fault),
-    }
+    Ok(Some(read_requested(name, words)?))
 }
 
 // The request of this name, which begins no comment.

@@ -161,10 +161,7 @@ pub fn word<'a>(words: &mut Words<'a>) -> Result<&'a [u8], LineFault>
     ensures ok { IfOk result (λ word. words.old ≡ word.now ∷ words.new) }
     ensures err { IfErr result (λ fault. (words.old ≡ []) × (fault ≡ WrongNumberOfWords)) }
 {
-    match words.next() {
-        Some(word) => Ok(word),
-        None => Err(LineFault::WrongNumberOfWords),
-    }
+    words.next().ok_or(LineFault::WrongNumberOfWords)
 }
 
 // What stands before the first such byte, and what behind it.
