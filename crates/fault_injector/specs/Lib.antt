@@ -1,4 +1,3 @@
-pub mod Fuse
+pub mod Failing
 pub mod Held
 pub mod Noting
-pub mod OneFault
