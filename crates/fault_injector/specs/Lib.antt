@@ -1,3 +1,2 @@
 pub mod Failing
-pub mod Held
 pub mod Noting

@@ -10,8 +10,8 @@ mod noting;
 mod op;
 
 pub use call::Call;
-pub use failing::{Failing, ForGood, Fuse, Lasting, Once, OneFault};
-pub use held::{HELD_LOOKS, Held, HeldFlags, held_looks_in_numbers};
+pub use failing::{Failing, ForGood, Fuse, Once, OneFault, Rule};
+pub use held::{HELD_LOOKS, Held, HeldFlags, Leave, held_looks_in_numbers};
 pub use noting::Noting;
 pub use op::Op;
 pub use sector_device::{Device, DeviceFault, Sector};
