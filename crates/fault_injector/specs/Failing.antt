@@ -18,8 +18,8 @@ pub record FailingState (D : Type 0) : Type 0 where
 abbrev pub Counts : Op → Op → Type 0
 Counts op call = (op ≡ Any) ⊎ (op ≡ call)
 
--- The next call, of that kind, is one to fail: it is the one that is waited for, or that one was made and the device
--- fails for good.
+-- A next call of this kind is one to fail: it is the one that is waited for, or that one was made and the device fails
+-- for good.
 abbrev pub Fails : {D : Type 0} → Bool → FailingState D → Op → Type 0
 Fails for_good device call =
     (Counts device.op call × (device.left ≡ Some 0)) ⊎ ((for_good ≡ true) × (device.left ≡ None))

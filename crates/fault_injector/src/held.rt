@@ -6,7 +6,7 @@ use std::sync::Arc;
 use std::sync::atomic::{AtomicBool, Ordering};
 use std::thread;
 
-/// How often a held sync looks for its leave at most.
+/// How often a held call looks for its leave at most.
 pub const HELD_LOOKS: u32 = 10_000_000;
 
 /// This number, as a statement; the body does nothing.
@@ -17,12 +17,12 @@ pub fn held_looks_in_numbers()
 /// After how many looks it lets other threads run. On a busy machine that takes milliseconds, and a look nanoseconds.
 const LOOKS_IN_A_ROW: u32 = 1_000;
 
-/// The two flags between a held sync and whoever lets it go. Nothing is claimed of them.
+/// The two flags between a held call and whoever lets it go. Nothing is claimed of them.
 #[derive(Debug, Default, Drop)]
 pub struct HeldFlags {
-    /// The sync has begun.
+    /// The call has begun.
     pub begun: AtomicBool,
-    /// The sync may go on.
+    /// The call may go on.
     pub go: AtomicBool,
 }
 
