@@ -1,4 +1,2 @@
-pub mod Fuse
-pub mod Held
+pub mod Failing
 pub mod Noting
-pub mod OneFault

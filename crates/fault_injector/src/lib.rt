@@ -4,16 +4,14 @@
 #![tactic(auto)]
 
 mod call;
-mod fuse;
+mod failing;
 mod held;
 mod noting;
-mod one_fault;
 mod op;
 
 pub use call::Call;
-pub use fuse::Fuse;
-pub use held::{HELD_LOOKS, Held, HeldFlags, held_looks_in_numbers};
+pub use failing::{Failing, ForGood, Fuse, Once, OneFault, Rule};
+pub use held::{HELD_LOOKS, Held, HeldFlags, Leave, held_looks_in_numbers};
 pub use noting::Noting;
-pub use one_fault::OneFault;
 pub use op::Op;
 pub use sector_device::{Device, DeviceFault, Sector};

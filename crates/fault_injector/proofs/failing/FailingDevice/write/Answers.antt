@@ -1,7 +1,7 @@
 use Rattle.std.proofs.Common.{rules}
 use Rattle.sector_device.specs.Crash.{IsLook, torn_nothing}
 use Rattle.sector_device.specs.Wrapped.{with_failures, sound_with_failures}
-use Rattle.fault_injector.proofs.one_fault.OneFaultDevice.write.Goals as goal
+use Rattle.fault_injector.proofs.failing.FailingDevice.write.Goals as goal
 
 pub returns-then-fails-clause-torn : goal.returns-then-fails-clause-torn
 returns-then-fails-clause-torn g c honest =
