@@ -5,6 +5,7 @@ import subprocess
 import tempfile
 import threading
 import time
+from collections import Counter
 from dataclasses import dataclass
 from functools import cached_property
 from pathlib import Path
@@ -16,7 +17,7 @@ from places import path_at
 from stubs import leave_out
 
 # So few edits are tried at once that no processor is left alone with many of them.
-MOST_AT_ONCE = 16
+MOST_AT_ONCE = 20
 
 
 @dataclass(frozen=True)
@@ -108,9 +109,9 @@ def alone(one, tree):
 
 
 def batches(aimed, tree):
-    """All edits in batches."""
-    found = []
-    for one in sorted(aimed, key=lambda it: (it.edit.crate, it.functions, it.edit.name)):
+    """All edits in batches. Those of functions with several come first, since each of these needs another batch."""
+    several, found = Counter((one.edit.crate, one.functions) for one in aimed), []
+    for one in sorted(aimed, key=lambda it: (it.edit.crate, -several[it.edit.crate, it.functions], it.functions, it.edit.name)):
         if not any(batch.takes(one, tree / "crates" / one.edit.crate) for batch in found):
             found.append(alone(one, tree))
     return found
