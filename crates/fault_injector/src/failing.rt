@@ -87,7 +87,7 @@ impl<D: Device, R: Rule + Default> Failing<D, R> {
 
 impl<D: Device, R: Rule> Failing<D, R> {
     /// A device that waits for call number `at` of that kind, and fails by this rule.
-    pub fn by_rule(inner: D, op: Op, at: u64, rule: R) -> Failing<D, R>
+    pub(crate) fn by_rule(inner: D, op: Op, at: u64, rule: R) -> Failing<D, R>
         ensures { result ≡ record { inner = inner; op = op; left = Some at; failures = 0 } }
     {
         Failing {

@@ -1,6 +1,8 @@
-ghost use Rattle.std.specs.Prelude.{◌≡◌, true, false};
+ghost use Rattle.std.specs.Prelude.{◌≡◌, Some, true, false};
 
 use crate::failing::{Failing, Rule};
+use crate::op::Op;
+use sector_device::Device;
 use std::alloc::Global;
 use std::sync::Arc;
 use std::sync::atomic::{AtomicBool, Ordering};
@@ -66,3 +68,12 @@ impl Rule for Leave {
 
 /// A device that holds one call until it has its leave. Every other call is passed on.
 pub type Held<D> = Failing<D, Leave>;
+
+impl<D: Device> Held<D> {
+    /// A device that holds sync number `at`.
+    pub fn new(inner: D, at: u64, flags: Arc<HeldFlags, Global>) -> Held<D>
+        ensures { result ≡ record { inner = inner; op = Op.Sync; left = Some at; failures = 0 } }
+    {
+        Failing::by_rule(inner, Op::Sync, at, Leave(flags))
+    }
+}

@@ -1,5 +1,5 @@
 //! What reaches a device behind another one: each call that is passed on, once and in order, and no other.
-use fault_injector::{Call, Fuse, Held, HeldFlags, Leave, Noting, OneFault, Op};
+use fault_injector::{Call, Fuse, Held, HeldFlags, Noting, OneFault, Op};
 use file_device::{FailStop, ReadOnly};
 use sector_device::{Device, DeviceFault, MemoryDevice, SECTOR};
 use std::alloc::{AllocError, Global};
@@ -96,8 +96,7 @@ fn one_fault_hands_on(
 fn held_hands_on(rt: &impl Abort, alloc: Global, broken: u64, at: u64) -> Result<(), Fail> {
     let flags = Arc::new(alloc, HeldFlags::new())?;
     flags.go.store(true, Ordering::SeqCst);
-    let rule = Leave(Arc::try_clone(&flags)?);
-    let mut device = Held::by_rule(behind(alloc, broken)?, Op::Sync, at, rule);
+    let mut device = Held::new(behind(alloc, broken)?, at, Arc::try_clone(&flags)?);
     ask(rt, &mut device);
     assert!(rt;
         device.into_inner().calls() == ASKED.as_slice(),
@@ -208,8 +207,7 @@ fn give_leave(runs: &AtomicBool, flags: &HeldFlags) -> bool {
 fn a_sync_that_has_begun_goes_on_when_its_leave_comes(rt: HostRuntime) -> Result<(), Fail> {
     let alloc = rt.alloc();
     let (runs, flags) = (AtomicBool::new(false), Arc::new(alloc, HeldFlags::new())?);
-    let rule = Leave(Arc::try_clone(&flags)?);
-    let mut device = Held::by_rule(behind(alloc, NEVER)?, Op::Sync, 0, rule);
+    let mut device = Held::new(behind(alloc, NEVER)?, 0, Arc::try_clone(&flags)?);
     let ((waited, outcome), begun) = join_mut(
         &rt,
         &mut || (is_raised(&runs), device.sync()),

@@ -1,7 +1,7 @@
 //! Threads at once: a station gathers while another one's sync is under way.
 
 use super::TRIES;
-use fault_injector::{Held, HeldFlags, Leave, Op};
+use fault_injector::{Held, HeldFlags};
 use office_day::{Closing, run_office};
 use station_desk::{Gate, Outcome, desk};
 use std::alloc::Global;
@@ -44,8 +44,7 @@ impl Gate for BesideSync {
 fn gather_runs_beside_sync(rt: HostRuntime) -> Result<(), Fail> {
     let alloc = rt.alloc();
     let flags = Arc::new(alloc, HeldFlags::new())?;
-    let rule = Leave(Arc::try_clone(&flags)?);
-    let device = Held::by_rule(formatted(alloc, 4)?, Op::Sync, 1, rule);
+    let device = Held::new(formatted(alloc, 4)?, 1, Arc::try_clone(&flags)?);
     let gate = BesideSync {
         flags,
         asked: AtomicBool::new(false),
