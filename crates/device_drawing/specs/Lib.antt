@@ -1,4 +1,3 @@
 pub mod Damage
 pub mod Places
-pub mod Faults
 pub mod Refused

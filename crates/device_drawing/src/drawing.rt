@@ -102,17 +102,10 @@ fn print_head<W: Write>(
         "<svg xmlns=\"http://www.w3.org/2000/svg\" viewBox=\"0 0 {WIDTH} {height}\" width=\"{WIDTH}\" height=\"{height}\" role=\"img\">"
     ))?;
     output.line("<title>Sectors of a device</title>")?;
-    print_style(output)?;
+    output.line(STYLE)?;
     output.line(format_args!("<rect class=\"page\" width=\"{WIDTH}\" height=\"{height}\"/>"))?;
     print_captions(map, output)?;
     print_legend(output)
-}
-
-fn print_style<W: Write>(output: &mut Output<'_, W>) -> Result<(), StreamFault> {
-    for line in STYLE {
-        output.line(line)?;
-    }
-    Ok(())
 }
 
 // The title, what the device is, and the damage.

@@ -10,12 +10,9 @@ pub enum DrawFault {
     /// A read failed.
     #[error("the device failed")]
     Device,
-    /// The drawing couldn't be written.
-    #[error("write failed")]
-    Write,
-    /// There is no memory for the drawing.
-    #[error("out of memory")]
-    Memory,
+    /// The drawing couldn't be written, or there is no memory for it.
+    #[error("{0}")]
+    Stream(StreamFault),
 }
 
 impl From<DeviceFault> for DrawFault {
@@ -31,26 +28,23 @@ impl From<DeviceFault> for DrawFault {
 
 impl From<AllocError> for DrawFault {
     ghost use Rattle.std.specs.Prelude.{◌≡◌};
-    ghost use Rattle.device_drawing.specs.declared.faults.DrawFault.TheVariants.{Memory};
+    ghost use Rattle.script_streams.specs.declared.faults.StreamFault.TheVariants.{Memory};
+    ghost use Rattle.device_drawing.specs.declared.faults.DrawFault.TheVariants.{Stream};
 
-    ghost from_gives = { λ _ fault. fault ≡ Memory };
+    ghost from_gives = { λ _ fault. fault ≡ Stream Memory };
 
     fn from(_: AllocError) -> Self {
-        DrawFault::Memory
+        DrawFault::Stream(StreamFault::Memory)
     }
 }
 
 impl From<StreamFault> for DrawFault {
     ghost use Rattle.std.specs.Prelude.{◌≡◌};
-    ghost use Rattle.device_drawing.specs.Faults.{fault_of};
+    ghost use Rattle.device_drawing.specs.declared.faults.DrawFault.TheVariants.{Stream};
 
-    ghost from_gives = { λ fault made. made ≡ fault_of fault };
+    ghost from_gives = { λ inner fault. fault ≡ Stream inner };
 
     fn from(fault: StreamFault) -> Self {
-        match fault {
-            StreamFault::Memory => DrawFault::Memory,
-            // an output meets none of the faults of a reader
-            StreamFault::Write | StreamFault::Read | StreamFault::TooLong => DrawFault::Write,
-        }
+        DrawFault::Stream(fault)
     }
 }

@@ -1,6 +1,6 @@
 //! The picture of a device, counted cell by cell.
 use crate::images::{Change, FIRST, SECOND, THIRD, changed};
-use device_drawing::{DrawFault, Place, draw};
+use device_drawing::{DrawFault, Place, StreamFault, draw};
 use fault_injector::{OneFault, Op};
 use sector_device::MemoryDevice;
 use std::alloc::Global;
@@ -229,6 +229,6 @@ fn a_writer_that_fails_is_told(rt: HostRuntime) -> Result<(), Fail> {
     let alloc = rt.alloc();
     let mut device = changed(&rt, alloc, THIRD, &[])?;
     let answer = draw(alloc, &mut device, None, &mut Full);
-    assert!(rt; answer == Err(DrawFault::Write));
+    assert!(rt; answer == Err(DrawFault::Stream(StreamFault::Write)));
     Ok(())
 }

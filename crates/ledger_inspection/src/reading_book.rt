@@ -6,7 +6,7 @@ use crate::book_faults::BookFault;
 use crate::book_reader::{Keeping, Passing, Printing};
 use crate::inspecting::{answer, tell_locking};
 use crate::meter::Meter;
-use crate::shelf::{Extent, Shelf, open, parts_of, walk};
+use crate::shelf::{Extent, Shelf, parts_of};
 use ledger_printing::{JournalPrint, JournalWish, Progress, print_balances};
 use ledger_reading::Ledger;
 use program_ends::{Status, Watched, tell, unwritten};
@@ -84,89 +84,84 @@ fn read_book<
     let Some(last) = parts.last() else {
         return Err(BookFault::Nothing);
     };
-    let held = open(rt, alloc, *last, wish.locking)?;
     let shelf = Shelf {
+        rt,
+        alloc,
         parts: parts.as_slice(),
         locking: wish.locking,
     };
-    let read = read_shelf(rt, alloc, shelf, wish.task, writer, progress);
+    let held = shelf.open(*last)?;
+    let read = shelf.read(wish.task, writer, progress);
     drop(held);
     read
 }
 
-fn read_shelf<'a, R: Files<File = File>, W: Write + Drop, P: Progress>(
-    rt: &R,
-    alloc: Global,
-    shelf: Shelf<'a, '_>,
-    task: BookTask,
-    writer: &mut W,
-    progress: &mut P,
-) -> Result<(), BookFault<'a>> {
-    match task {
-        BookTask::Check { quiet } => {
-            let extent = walk(rt, alloc, shelf, &mut Passing)?;
-            if !quiet {
-                print_extent(alloc, &extent, writer)?;
+impl<'a, R: Files<File = File>> Shelf<'a, '_, R> {
+    fn read<W: Write + Drop, P: Progress>(
+        &self,
+        task: BookTask,
+        writer: &mut W,
+        progress: &mut P,
+    ) -> Result<(), BookFault<'a>> {
+        match task {
+            BookTask::Check { quiet } => {
+                let extent = self.walk(&mut Passing)?;
+                if !quiet {
+                    print_extent(self.alloc, &extent, writer)?;
+                }
             }
+            BookTask::Balances { format, date, at } => {
+                let ledger = self.held(at)?;
+                print_balances(self.alloc, &ledger, format, date, writer)?;
+            }
+            BookTask::Journal(wish) => self.print(wish, writer, progress)?,
         }
-        BookTask::Balances { format, date, at } => {
-            let ledger = held(rt, alloc, shelf, at)?;
-            print_balances(alloc, &ledger, format, date, writer)?;
-        }
-        BookTask::Journal(wish) => print_book(rt, alloc, shelf, wish, writer, progress)?,
+        Ok(())
     }
-    Ok(())
-}
 
-// Prints the records of a book, once all of it is found sound.
-fn print_book<'a, R: Files<File = File>, W: Write + Drop, P: Progress>(
-    rt: &R,
-    alloc: Global,
-    shelf: Shelf<'a, '_>,
-    wish: JournalWish,
-    writer: &mut W,
-    progress: &mut P,
-) -> Result<(), BookFault<'a>> {
-    let Extent { last, .. } = walk(rt, alloc, shelf, &mut Passing)?;
-    let printed = JournalPrint::over(alloc, wish, writer).map_err(|fault| BookFault::of_printing(
-        last, fault,
-    ))?;
-    let mut printing = Printing { printed, progress };
-    walk(rt, alloc, shelf, &mut printing)?;
-    let Printing { printed, .. } = printing;
-    printed
-        .end()
-        .map_err(|fault| BookFault::of_printing(last, fault))
-}
+    // Prints the records of a book, once all of it is found sound.
+    fn print<W: Write + Drop, P: Progress>(
+        &self,
+        wish: JournalWish,
+        writer: &mut W,
+        progress: &mut P,
+    ) -> Result<(), BookFault<'a>> {
+        let Extent { last, .. } = self.walk(&mut Passing)?;
+        let printed = JournalPrint::over(self.alloc, wish, writer).map_err(
+            |fault| BookFault::of_printing(last, fault),
+        )?;
+        let mut printing = Printing { printed, progress };
+        self.walk(&mut printing)?;
+        let Printing { printed, .. } = printing;
+        printed
+            .end()
+            .map_err(|fault| BookFault::of_printing(last, fault))
+    }
 
-// What the accounts hold at the end, or held before the record with that sequence number.
-fn held<'a, R: Files<File = File>>(
-    rt: &R,
-    alloc: Global,
-    shelf: Shelf<'a, '_>,
-    at: Option<u64>,
-) -> Result<Ledger, BookFault<'a>> {
-    let Some(at) = at else {
-        let extent = walk(rt, alloc, shelf, &mut Passing)?;
-        let mut ledger = Ledger::new(alloc)?;
-        ledger.copy_from(extent.seam.ledger());
-        return Ok(ledger);
-    };
-    let mut keeping = Keeping {
-        at,
-        ledger: Ledger::new(alloc)?,
-        is_found: false,
-    };
-    let extent = walk(rt, alloc, shelf, &mut keeping)?;
-    if !keeping.is_found {
-        return Err(BookFault::OutOfReach {
-            part: extent.last,
+    // What the accounts hold at the end, or held before the record with that sequence number.
+    fn held(&self, at: Option<u64>) -> Result<Ledger, BookFault<'a>> {
+        let mut ledger = Ledger::new(self.alloc)?;
+        let Some(at) = at else {
+            let extent = self.walk(&mut Passing)?;
+            ledger.copy_from(extent.seam.ledger());
+            return Ok(ledger);
+        };
+        let mut keeping = Keeping {
             at,
-            first: extent.first,
-            next: extent.seam.next(),
-        });
+            ledger,
+            is_found: false,
+        };
+        let extent = self.walk(&mut keeping)?;
+        if !keeping.is_found {
+            return Err(BookFault::OutOfReach {
+                part: extent.last,
+                at,
+                first: extent.first,
+                next: extent.seam.next(),
+            });
+        }
+        Ok(keeping.ledger)
     }
-    Ok(keeping.ledger)
 }
 
 // A line for each of its numbers.

@@ -91,7 +91,6 @@ pub(crate) fn print_map<D: Device, W: Write>(
     match draw(alloc, device, damage, writer) {
         Ok(()) => Ok(()),
         Err(DrawFault::Device) => Err(PrintFault::Read(ReadRefusal::Device)),
-        Err(DrawFault::Write) => Err(PrintFault::Stream(StreamFault::Write)),
-        Err(DrawFault::Memory) => Err(PrintFault::Stream(StreamFault::Memory)),
+        Err(DrawFault::Stream(fault)) => Err(PrintFault::Stream(fault)),
     }
 }

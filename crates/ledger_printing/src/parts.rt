@@ -17,48 +17,28 @@ pub(crate) struct Parts {
 
 impl From<&Entry> for Parts {
     fn from(entry: &Entry) -> Parts {
-        match *entry {
-            Entry::Deposit {
-                to,
-                amount,
-                reference,
-            } => Parts {
-                kind: Kind::Deposit,
-                from: None,
-                to: Some(to),
-                amount: Some(amount),
-                reference,
-            },
-            Entry::Withdraw {
-                from,
-                amount,
-                reference,
-            } => Parts {
-                kind: Kind::Withdraw,
-                from: Some(from),
-                to: None,
-                amount: Some(amount),
-                reference,
-            },
+        let (kind, from, to, amount) = match *entry {
+            Entry::Deposit { to, amount, .. } => (Kind::Deposit, None, Some(to), Some(amount)),
+            Entry::Withdraw { from, amount, .. } => (
+                Kind::Withdraw,
+                Some(from),
+                None,
+                Some(amount),
+            ),
             Entry::Transfer {
                 from,
                 to,
                 amount,
-                reference,
-            } => Parts {
-                kind: Kind::Transfer,
-                from: Some(from),
-                to: Some(to),
-                amount: Some(amount),
-                reference,
-            },
-            Entry::Seal { account, reference } => Parts {
-                kind: Kind::Seal,
-                from: Some(account),
-                to: None,
-                amount: None,
-                reference,
-            },
+                ..
+            } => (Kind::Transfer, Some(from), Some(to), Some(amount)),
+            Entry::Seal { account, .. } => (Kind::Seal, Some(account), None, None),
+        };
+        Parts {
+            kind,
+            from,
+            to,
+            amount,
+            reference: entry.reference(),
         }
     }
 }

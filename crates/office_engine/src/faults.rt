@@ -28,14 +28,15 @@ pub struct PipeFault<'a> {
 impl fmt::Display for PipeFault<'_> {
     fn fmt<W: fmt::Write>(&self, f: &mut fmt::Formatter<W>) -> fmt::Result {
         let name = self.side.name();
-        match self.refusal {
-            PipeRefusal::Memory => f.write_str("out of memory"),
-            PipeRefusal::Unopened => write!(f, "{}/{name}: it can't be opened", self.folder),
-            PipeRefusal::NoPipe => write!(f, "{}/{name}: it is no pipe", self.folder),
-            PipeRefusal::Taken => write!(f, "{}/{name}: it is another counter's", self.folder),
-            PipeRefusal::InUse => write!(f, "{}/{name}: another office has it", self.folder),
-            PipeRefusal::Unlocked => write!(f, "{}/{name}: it can't be locked", self.folder),
-        }
+        let cause = match self.refusal {
+            PipeRefusal::Memory => return f.write_str("out of memory"),
+            PipeRefusal::Unopened => "it can't be opened",
+            PipeRefusal::NoPipe => "it is no pipe",
+            PipeRefusal::Taken => "it is another counter's",
+            PipeRefusal::InUse => "another office has it",
+            PipeRefusal::Unlocked => "it can't be locked",
+        };
+        write!(f, "{}/{name}: {cause}", self.folder)
     }
 }
 

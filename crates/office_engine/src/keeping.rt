@@ -6,6 +6,7 @@ ghost use Rattle.office_engine.specs.Ends.{NoneFailed, NoneWasRefused, TellsRefu
 use crate::archivist::Archivist;
 use crate::faults::{OfficeFault, PipeFault};
 use crate::pipes::{Side, open_pipe};
+use crate::runtime::Runtime;
 use crate::serving::{Plan, Serving};
 use crate::source::{Source, Target};
 use file_device::FileNumber;
@@ -18,12 +19,9 @@ use live_office::{
 use office_day::{End, StationDay, TurnRefusal};
 use script_streams::{Output, StreamFault};
 use sector_device::Device;
-use std::alloc::{Alloc, Global};
+use std::alloc::Global;
 use std::fs::{File, Files};
 use std::io::{Read, Write};
-use std::sync::Wait;
-use std::thread::Threads;
-use std::time::Clock;
 
 /// After how many turns an office is closed and opened again, if its banks have as many slots: so many its history
 /// holds at most.
@@ -61,16 +59,7 @@ type AnyCounter<I, O> = Counter<Source<File, I>, Target<File, O>>;
 /// [`OfficeFault`].
 pub fn serve<
     'a,
-    R: Files<File = File>
-        + Alloc<A = Global>
-        + Threads
-        + Wait
-        + Clock
-        + Sync
-        + Send
-        + Clone
-        + Drop
-        + 'static,
+    R: Runtime,
     I: Read + Send + Drop + 'static,
     O: Write + Send + Drop + 'static,
     W: Write,
@@ -124,9 +113,7 @@ fn open_counters<'a, R: Files<File = File>, I: Read + Drop, O: Write + Drop>(
     let mut opened = Vec::new(alloc);
     for folder in &serving.counters {
         let counter = open_counter(rt, alloc, folder, serving.hello, &mut opened)?;
-        if counters.push(counter).is_err() {
-            return Err(OfficeFault::Memory);
-        }
+        counters.push(counter).or(Err(OfficeFault::Memory))?;
     }
     if serving.terminal && counters.push(terminal_counter(terminal)).is_err() {
         return Err(OfficeFault::Memory);
@@ -169,14 +156,13 @@ fn pipe_of<'a, R: Files<File = File>>(
     side: Side,
     opened: &mut Vec<FileNumber>,
 ) -> Result<File, OfficeFault<'a>> {
-    match open_pipe(rt, alloc, folder, side, opened) {
-        Ok(file) => Ok(file),
-        Err(refusal) => Err(OfficeFault::Pipe(PipeFault {
+    open_pipe(rt, alloc, folder, side, opened).map_err(|refusal| {
+        OfficeFault::Pipe(PipeFault {
             folder,
             side,
             refusal,
-        })),
-    }
+        })
+    })
 }
 
 // The device, formatted first if that is asked for.
@@ -192,10 +178,7 @@ fn open_device<'a, R: Files<File = File>, W: Write>(
         Some(formatting) => format_ledger(rt, alloc, path, formatting),
         None => open_ledger(rt, alloc, path, serving.sectors.unwrap_or(0)),
     };
-    let device = match opened {
-        Ok(device) => device,
-        Err(refusal) => return Err(OfficeFault::of_file(path, refusal)),
-    };
+    let device = opened.map_err(|refusal| OfficeFault::of_file(path, refusal))?;
     if let Some(Formatting { slots, .. }) = formatting {
         output.line(format_args!("formatted {slots}"))?;
     }

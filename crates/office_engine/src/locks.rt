@@ -27,17 +27,13 @@ pub(crate) fn lock_folder<R: Files<File = File> + Clock>(
     alloc: Global,
     folder: &str,
 ) -> Result<File, LockRefusal> {
-    let Ok(path) = path_of(alloc, folder) else {
-        return Err(LockRefusal::Unlocked);
-    };
+    let path = path_of(alloc, folder).or(Err(LockRefusal::Unlocked))?;
     let mut how = OpenOptions::new();
     how.read(true).write(true).create(true);
-    let Ok(file) = how
+    let file = how
         .open(rt, path.as_str())
         .or_else(|_| reading(rt, path.as_str()))
-    else {
-        return Err(LockRefusal::Unlocked);
-    };
+        .or(Err(LockRefusal::Unlocked))?;
     if matches!(file.try_lock(), Err(TryLockError::WouldBlock)) {
         sleep(rt, Duration::from_millis(PAUSE));
     }

@@ -3,7 +3,7 @@ ghost use Rattle.std.specs.Prelude.{◌<ℤ◌, pos, IfOk};
 ghost use Rattle.std.specs.Fd.{file_raw_fd};
 
 use file_device::FileNumber;
-use std::alloc::{AllocError, Global};
+use std::alloc::Global;
 use std::fs::{File, Files, OpenFile, OpenOptions, TryLockError};
 use std::os::fd::{AsRawFd, RawFd};
 use std::os::unix::fs::FileTypeExt;
@@ -81,9 +81,7 @@ pub(crate) fn find_pipe<R: Files<File = File>>(
     let path = path_of(alloc, folder, side)?;
     let mut how = OpenOptions::new();
     how.read(true).write(true);
-    let Ok(file) = how.open(rt, path.as_str()) else {
-        return Err(PipeRefusal::Unopened);
-    };
+    let file = how.open(rt, path.as_str()).or(Err(PipeRefusal::Unopened))?;
     match file.metadata() {
         Ok(found) if found.file_type().is_fifo() => Ok((file, FileNumber::of(&found))),
         _ => Err(PipeRefusal::NoPipe),
@@ -101,18 +99,12 @@ pub(crate) fn listen<R: Files<File = File>>(
     let path = path_of(alloc, folder, Side::Out)?;
     let mut how = OpenOptions::new();
     how.read(true);
-    match how.open(rt, path.as_str()) {
-        Ok(file) => Ok(file),
-        Err(_) => Err(PipeRefusal::Unopened),
-    }
+    how.open(rt, path.as_str()).or(Err(PipeRefusal::Unopened))
 }
 
 fn path_of(alloc: Global, folder: &str, side: Side) -> Result<String, PipeRefusal> {
     let name = side.name();
-    match format!(in alloc; "{folder}/{name}") {
-        Ok(path) => Ok(path),
-        Err(AllocError) => Err(PipeRefusal::Memory),
-    }
+    format!(in alloc; "{folder}/{name}").or(Err(PipeRefusal::Memory))
 }
 
 // Notes a pipe that wasn't opened before.
@@ -120,10 +112,7 @@ fn note_pipe(number: FileNumber, opened: &mut Vec<FileNumber>) -> Result<(), Pip
     if opened.iter().any(|other| *other == number) {
         return Err(PipeRefusal::Taken);
     }
-    match opened.push(number) {
-        Ok(()) => Ok(()),
-        Err(_) => Err(PipeRefusal::Memory),
-    }
+    opened.push(number).or(Err(PipeRefusal::Memory))
 }
 
 // Moves the file off the numbers of the standard streams: where one of these is closed, what is printed to it would

@@ -70,10 +70,8 @@ impl<'a> Speaker<'a> {
         alloc: Global,
         folder: &'a str,
     ) -> Result<Speaker<'a>, ControlFault<'a>> {
-        let pipe = match find_pipe(rt, alloc, folder, Side::In) {
-            Ok((pipe, _)) => pipe,
-            Err(refusal) => return Err(at_pipe(folder, Side::In, refusal)),
-        };
+        let found = find_pipe(rt, alloc, folder, Side::In);
+        let (pipe, _) = found.map_err(|refusal| at_pipe(folder, Side::In, refusal))?;
         if !is_held(&pipe, folder)? {
             return Err(ControlFault::NotOpen(folder));
         }
@@ -90,10 +88,7 @@ impl<'a> Speaker<'a> {
 
     /// Says these lines.
     pub(crate) fn say(&mut self, lines: &[u8]) -> Result<(), ControlFault<'a>> {
-        match write_all(&mut self.pipe, lines) {
-            Ok(()) => Ok(()),
-            Err(_) => Err(ControlFault::Unwritten(self.folder)),
-        }
+        write_all(&mut self.pipe, lines).or(Err(ControlFault::Unwritten(self.folder)))
     }
 
     /// Whether the office still has the counter.
@@ -104,13 +99,11 @@ impl<'a> Speaker<'a> {
 
 // Whether an office has the pipe, which it has locked.
 fn is_held<'a>(pipe: &File, folder: &'a str) -> Result<bool, ControlFault<'a>> {
+    let unlocked = at_pipe(folder, Side::In, PipeRefusal::Unlocked);
     match pipe.try_lock() {
-        Ok(()) => match pipe.unlock() {
-            Ok(()) => Ok(false),
-            Err(_) => Err(at_pipe(folder, Side::In, PipeRefusal::Unlocked)),
-        },
+        Ok(()) => pipe.unlock().and(Ok(false)).or(Err(unlocked)),
         Err(TryLockError::WouldBlock) => Ok(true),
-        Err(TryLockError::Error(_)) => Err(at_pipe(folder, Side::In, PipeRefusal::Unlocked)),
+        Err(TryLockError::Error(_)) => Err(unlocked),
     }
 }
 

@@ -90,18 +90,14 @@ impl<'a> Listener<'a> {
         alloc: Global,
         folder: &'a str,
     ) -> Result<Listener<'a>, ControlFault<'a>> {
-        let pipe = match listen(rt, alloc, folder) {
-            Ok(pipe) => pipe,
-            Err(refusal) => return Err(at_pipe(folder, Side::Out, refusal)),
-        };
-        match LineCutter::new(alloc) {
-            Ok(cutter) => Ok(Listener {
-                folder,
-                pipe,
-                cutter,
-            }),
-            Err(AllocError) => Err(at_pipe(folder, Side::Out, PipeRefusal::Memory)),
-        }
+        let found = listen(rt, alloc, folder);
+        let pipe = found.map_err(|refusal| at_pipe(folder, Side::Out, refusal))?;
+        let memory = at_pipe(folder, Side::Out, PipeRefusal::Memory);
+        Ok(Listener {
+            folder,
+            pipe,
+            cutter: LineCutter::new(alloc).or(Err(memory))?,
+        })
     }
 
     // Hears all up to this line.
