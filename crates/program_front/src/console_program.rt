@@ -94,10 +94,9 @@ fn upgraded<'a, F: Files<File = File>>(
 ) -> Result<FileDevice, ProgramFault<'a>>
     requires { 1 ≤ upgrade.slots }
 {
-    let old = match FileDevice::open_with_cause(rt, alloc, upgrade.old, 0) {
-        Ok(old) => old,
-        Err(refusal) => return Err(ProgramFault::of_device(upgrade.old, refusal)),
-    };
+    let old = FileDevice::open_with_cause(rt, alloc, upgrade.old, 0).map_err(
+        |refusal| ProgramFault::of_device(upgrade.old, refusal),
+    )?;
     let device = open_device(rt, alloc, upgrade.onto)?;
     let (device, migrated) = migrate_onto(alloc, old, device, upgrade.slots);
     migrated?;
@@ -120,19 +119,13 @@ fn open_device<'a, F: Files<File = File>>(
     } else {
         open_for_script(rt, alloc, path, sectors, Making::IfMissing)
     };
-    match opened {
-        Ok(device) => Ok(device),
-        Err(refusal) => Err(ProgramFault::of_device(path, refusal)),
-    }
+    opened.map_err(|refusal| ProgramFault::of_device(path, refusal))
 }
 
 // Says that a device was migrated, by the rule of the output.
 fn write_migrated<W: Write>(alloc: Global, slots: u64, writer: &mut W) -> Result<(), ScriptFault> {
     let line = format!(in alloc; "migrated {slots}\n")?;
-    match write_all(writer, line.as_bytes()) {
-        Ok(()) => Ok(()),
-        Err(_) => Err(ScriptFault::Write),
-    }
+    write_all(writer, line.as_bytes()).or(Err(ScriptFault::Write))
 }
 
 /// Writes what `clap` answers to wrong words, or to the wish for help, and gives the status.

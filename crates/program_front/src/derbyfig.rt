@@ -17,7 +17,7 @@ use ledger_file::{
     Formatting, LedgerRefusal, copy_ledger, format_ledger, migrate_ledger, open_for_script,
 };
 use ledger_inspection::{BookInspection, BookTask, Inspection, inspect_book, inspect_file};
-use office_engine::{Serving, Terminal, ask_standing, close_office, serve};
+use office_engine::{Runtime, Serving, Terminal, ask_standing, close_office, serve};
 use program_ends::{OUT_OF_MEMORY, Status, Watched, fail, tell_words, tell_wrong, unwritten};
 use script_streams::write_all;
 use sector_device::MemoryDevice;
@@ -37,16 +37,7 @@ const IN_MEMORY: u64 = 64;
 /// told of faults and wrong words to `errors`, of which a fault is ignored; so does the progress of long work, if it is
 /// to be shown. The call may wait.
 pub fn run_derbyfig<
-    R: Files<File = File>
-        + Alloc<A = Global>
-        + Threads
-        + Wait
-        + Clock
-        + Sync
-        + Send
-        + Clone
-        + Drop
-        + 'static,
+    R: Runtime,
     I: Read + Send + Drop + 'static,
     O: Write + Send + Drop + 'static,
     W: Write,
@@ -55,7 +46,7 @@ pub fn run_derbyfig<
     rt: &R,
     alloc: Global,
     words: &[&str],
-    terminal: Terminal<I, O>,
+    mut terminal: Terminal<I, O>,
     writer: &mut W,
     errors: &mut E,
     shows_progress: bool,
@@ -66,35 +57,24 @@ pub fn run_derbyfig<
         Ok(request) => request,
         Err(error) => return tell_error(alloc, error, writer, errors).code(),
     };
+    let mut doing = Doing { rt, alloc, writer };
     let status = match request {
         Request::Run(running) => {
-            let mut terminal = terminal;
-            ended(
-                alloc,
-                run_on_device(rt, alloc, running, &mut terminal.input, writer),
-                errors,
-            )
+            let run = run_on_device(rt, alloc, running, &mut terminal.input, doing.writer);
+            ended(alloc, run, errors)
         }
-        Request::Serve(serving) => serve_counters(rt, alloc, &serving, terminal, writer, errors),
-        Request::Close { counter, seconds } => {
-            ended(alloc, close(rt, alloc, counter, seconds, writer), errors)
+        Request::Serve(serving) => {
+            serve_counters(rt, alloc, &serving, terminal, doing.writer, errors)
         }
-        Request::Status { counter } => {
-            ended(alloc, tell_standing(rt, alloc, counter, writer), errors)
-        }
-        Request::Inspect(wish) => inspect(rt, alloc, &wish, writer, errors, shows_progress),
-        Request::Book(wish) => inspect_book(rt, alloc, &wish, writer, errors, shows_progress),
-        Request::Format { path, formatting } => {
-            ended(alloc, make(rt, alloc, path, formatting, writer), errors)
-        }
-        Request::Migrate(copying) => {
-            ended(alloc, migrate_file(rt, alloc, copying, writer), errors)
-        }
-        Request::Copy(copying) => ended(alloc, copy_file(rt, alloc, copying, writer), errors),
-        Request::Archive(archiving) => {
-            ended(alloc, add_to_archive(rt, alloc, archiving, writer), errors)
-        }
-        Request::Restore(copying) => { ended(alloc, restore(rt, alloc, copying, writer), errors) }
+        Request::Inspect(wish) => inspect(rt, alloc, &wish, doing.writer, errors, shows_progress),
+        Request::Book(wish) => inspect_book(rt, alloc, &wish, doing.writer, errors, shows_progress),
+        Request::Close { counter, seconds } => ended(alloc, doing.close(counter, seconds), errors),
+        Request::Status { counter } => ended(alloc, doing.tell_standing(counter), errors),
+        Request::Format { path, formatting } => ended(alloc, doing.make(path, formatting), errors),
+        Request::Migrate(copying) => ended(alloc, doing.migrate_file(copying), errors),
+        Request::Copy(copying) => ended(alloc, doing.copy_file(copying), errors),
+        Request::Archive(archiving) => ended(alloc, doing.add_to_archive(archiving), errors),
+        Request::Restore(copying) => ended(alloc, doing.restore(copying), errors),
     };
     status.code()
 }
@@ -150,24 +130,12 @@ fn device_for_script<'a, F: Files<File = File>>(
         Some(sectors) => open_for_script(rt, alloc, path, sectors, Making::IfMissing),
         None => open_for_script(rt, alloc, path, 0, Making::Never),
     };
-    match opened {
-        Ok(device) => Ok(device),
-        Err(refusal) => Err(Fault::of_ledger(path, LedgerRefusal::from(refusal))),
-    }
+    opened.map_err(|refusal| Fault::of_ledger(path, LedgerRefusal::from(refusal)))
 }
 
 // Keeps an office open, if its words go together.
 fn serve_counters<
-    R: Files<File = File>
-        + Alloc<A = Global>
-        + Threads
-        + Wait
-        + Clock
-        + Sync
-        + Send
-        + Clone
-        + Drop
-        + 'static,
+    R: Runtime,
     I: Read + Send + Drop + 'static,
     O: Write + Send + Drop + 'static,
     W: Write,
@@ -190,127 +158,88 @@ fn serve_counters<
     }
 }
 
-// Closes the office that has a counter.
-fn close<'a, R: Files<File = File> + Clock, W: Write>(
-    rt: &R,
+// What the commands work with that say what was done.
+#[derive(Drop)]
+struct Doing<'r, R, W> {
+    rt: &'r R,
     alloc: Global,
-    counter: &'a str,
-    seconds: u64,
-    writer: &mut W,
-) -> Result<(), Fault<'a>> {
-    match close_office(rt, alloc, counter, seconds) {
-        Ok(()) => say(alloc, "closed", writer),
-        Err(fault) => Err(Fault::Control(fault)),
-    }
+    writer: &'r mut W,
 }
 
-// Tells how the office stands that has a counter.
-fn tell_standing<'a, R: Files<File = File> + Clock, W: Write>(
-    rt: &R,
-    alloc: Global,
-    counter: &'a str,
-    writer: &mut W,
-) -> Result<(), Fault<'a>> {
-    match ask_standing(rt, alloc, counter) {
-        Ok(told) => say(alloc, told, writer),
-        Err(fault) => Err(Fault::Control(fault)),
+impl<R: Files<File = File> + Alloc<A = Global> + Clock + Clone + Drop, W: Write> Doing<'_, R, W> {
+    // Closes the office that has a counter.
+    fn close<'a>(&mut self, counter: &'a str, seconds: u64) -> Result<(), Fault<'a>> {
+        close_office(self.rt, self.alloc, counter, seconds)?;
+        self.say("closed")
     }
-}
 
-// Makes an empty ledger.
-fn make<'a, F: Files<File = File>, W: Write>(
-    rt: &F,
-    alloc: Global,
-    path: &'a str,
-    formatting: Formatting,
-    writer: &mut W,
-) -> Result<(), Fault<'a>> {
-    match format_ledger(rt, alloc, path, formatting) {
-        Ok(_) => say(
-            alloc,
-            format_args!("formatted {}", formatting.slots),
-            writer,
-        ),
-        Err(refusal) => Err(Fault::of_ledger(path, refusal)),
+    // Tells how the office stands that has a counter.
+    fn tell_standing<'a>(&mut self, counter: &'a str) -> Result<(), Fault<'a>> {
+        let told = ask_standing(self.rt, self.alloc, counter)?;
+        self.say(told)
     }
-}
 
-// Copies an older ledger.
-fn migrate_file<'a, F: Files<File = File>, W: Write>(
-    rt: &F,
-    alloc: Global,
-    copying: Copying<'a>,
-    writer: &mut W,
-) -> Result<(), Fault<'a>> {
-    let Copying {
-        old,
-        path,
-        formatting,
-    } = copying;
-    let older = opened_first(rt, alloc, old)?;
-    match migrate_ledger(rt, alloc, older, path, formatting) {
-        Ok(_) => say(alloc, format_args!("migrated {}", formatting.slots), writer),
-        Err(refusal) => Err(Fault::of_migration(path, refusal)),
+    // Makes an empty ledger.
+    fn make<'a>(&mut self, path: &'a str, formatting: Formatting) -> Result<(), Fault<'a>> {
+        format_ledger(self.rt, self.alloc, path, formatting).map_err(|refusal| Fault::of_ledger(
+            path, refusal,
+        ))?;
+        self.say(format_args!("formatted {}", formatting.slots))
     }
-}
 
-// Copies a ledger of the present layout.
-fn copy_file<'a, F: Files<File = File>, W: Write>(
-    rt: &F,
-    alloc: Global,
-    copying: Copying<'a>,
-    writer: &mut W,
-) -> Result<(), Fault<'a>> {
-    let Copying {
-        old,
-        path,
-        formatting,
-    } = copying;
-    let ledger = opened_first(rt, alloc, old)?;
-    let (_ledger, copied) = copy_ledger(rt, alloc, ledger, path, formatting);
-    match copied {
-        Ok(_) => say(alloc, format_args!("copied {}", formatting.slots), writer),
-        Err(refusal) => Err(Fault::of_copy(old, path, refusal)),
+    // Copies an older ledger.
+    fn migrate_file<'a>(&mut self, copying: Copying<'a>) -> Result<(), Fault<'a>> {
+        let (path, formatting) = (copying.path, copying.formatting);
+        let older = self.opened_first(copying.old)?;
+        migrate_ledger(self.rt, self.alloc, older, path, formatting).map_err(
+            |refusal| Fault::of_migration(path, refusal),
+        )?;
+        self.say(format_args!("migrated {}", formatting.slots))
     }
-}
 
-// Adds to an archive what it lacks.
-fn add_to_archive<'a, R: Files<File = File> + Alloc<A = Global> + Clone + Drop, W: Write>(
-    rt: &R,
-    alloc: Global,
-    archiving: Archiving<'a>,
-    writer: &mut W,
-) -> Result<(), Fault<'a>> {
-    match archive(rt, alloc, archiving) {
-        Ok(Archived { batches, first }) => say(
-            alloc,
-            format_args!("archived {batches} from {first}"),
-            writer,
-        ),
-        Err(fault) => Err(Fault::Archive(fault)),
+    // Copies a ledger of the present layout.
+    fn copy_file<'a>(&mut self, copying: Copying<'a>) -> Result<(), Fault<'a>> {
+        let ledger = self.opened_first(copying.old)?;
+        self.copy(ledger, copying)?;
+        self.say(format_args!("copied {}", copying.formatting.slots))
     }
-}
 
-// Makes a ledger that goes on where an archive ends.
-fn restore<'a, R: Files<File = File> + Alloc<A = Global> + Clone + Drop, W: Write>(
-    rt: &R,
-    alloc: Global,
-    copying: Copying<'a>,
-    writer: &mut W,
-) -> Result<(), Fault<'a>> {
-    let Copying {
-        old,
-        path,
-        formatting,
-    } = copying;
-    let newest = match open_newest(rt, alloc, old) {
-        Ok(newest) => newest,
-        Err(fault) => return Err(Fault::Archive(fault)),
-    };
-    let (_newest, copied) = copy_ledger(rt, alloc, newest, path, formatting);
-    match copied {
-        Ok(_) => say(alloc, format_args!("restored {}", formatting.slots), writer),
-        Err(refusal) => Err(Fault::of_copy(old, path, refusal)),
+    // Adds to an archive what it lacks.
+    fn add_to_archive<'a>(&mut self, archiving: Archiving<'a>) -> Result<(), Fault<'a>> {
+        let Archived { batches, first } = archive(self.rt, self.alloc, archiving)?;
+        self.say(format_args!("archived {batches} from {first}"))
+    }
+
+    // Makes a ledger that goes on where an archive ends.
+    fn restore<'a>(&mut self, copying: Copying<'a>) -> Result<(), Fault<'a>> {
+        let newest = open_newest(self.rt, self.alloc, copying.old)?;
+        self.copy(newest, copying)?;
+        self.say(format_args!("restored {}", copying.formatting.slots))
+    }
+
+    fn copy<'a>(&self, ledger: ReadOnlyFile, copying: Copying<'a>) -> Result<(), Fault<'a>> {
+        let Copying {
+            old,
+            path,
+            formatting,
+        } = copying;
+        match copy_ledger(self.rt, self.alloc, ledger, path, formatting) {
+            (_, Ok(_)) => Ok(()),
+            (_, Err(refusal)) => Err(Fault::of_copy(old, path, refusal)),
+        }
+    }
+
+    // A ledger that is to be copied, which is opened first, so that nothing is made if it isn't there.
+    fn opened_first<'a>(&self, path: &'a str) -> Result<ReadOnlyFile, Fault<'a>> {
+        ReadOnlyFile::open(self.rt, self.alloc, path, Locking::Shared).map_err(
+            |fault| Fault::of_source(path, fault),
+        )
+    }
+
+    // Says what was done on a line of its own.
+    fn say<'a, L: fmt::Display + Drop>(&mut self, line: L) -> Result<(), Fault<'a>> {
+        let text = format!(in self.alloc; "{line}\n").map_err(ScriptFault::from)?;
+        write_all(self.writer, text.as_bytes()).or(Err(Fault::Script(ScriptFault::Write)))
     }
 }
 
@@ -341,38 +270,11 @@ fn book_of<'a>(
     let Some(task) = BookTask::of(wish.task) else {
         return Ok(None);
     };
-    let mut paths = Vec::new(alloc);
-    paths.push(wish.path)?;
     Ok(Some(BookInspection {
-        paths,
+        paths: vec![in alloc; wish.path]?,
         locking: wish.locking,
         task,
     }))
-}
-
-// A ledger that is to be copied, which is opened first, so that nothing is made if it isn't there.
-fn opened_first<'a, F: Files<File = File>>(
-    rt: &F,
-    alloc: Global,
-    path: &'a str,
-) -> Result<ReadOnlyFile, Fault<'a>> {
-    match ReadOnlyFile::open(rt, alloc, path, Locking::Shared) {
-        Ok(file) => Ok(file),
-        Err(fault) => Err(Fault::of_source(path, fault)),
-    }
-}
-
-// Says what was done on a line of its own.
-fn say<'a, L: fmt::Display + Drop, W: Write>(
-    alloc: Global,
-    line: L,
-    writer: &mut W,
-) -> Result<(), Fault<'a>> {
-    let text = format!(in alloc; "{line}\n").map_err(ScriptFault::from)?;
-    match write_all(writer, text.as_bytes()) {
-        Ok(()) => Ok(()),
-        Err(_) => Err(Fault::Script(ScriptFault::Write)),
-    }
 }
 
 /// Writes what `clap` answers to wrong words, or to the wish for help or the version.

@@ -65,13 +65,13 @@ pub enum Fault<'a> {
     Migration(MigrationFault),
     /// An office wasn't kept open, or ended early.
     #[error("{0}")]
-    Office(OfficeFault<'a>),
+    Office(#[from] OfficeFault<'a>),
     /// An office wasn't closed, or doesn't tell how it stands.
     #[error("{0}")]
-    Control(ControlFault<'a>),
+    Control(#[from] ControlFault<'a>),
     /// An archive doesn't have all of a ledger.
     #[error("{0}")]
-    Archive(ArchiveFault<'a>),
+    Archive(#[from] ArchiveFault<'a>),
 }
 
 impl<'a> Fault<'a> {
@@ -131,21 +131,15 @@ impl<'a> Fault<'a> {
         ensures { status_of result ≡ of_copy refusal }
     {
         let refusal = match refusal {
-            CopyRefusal::Target(refusal) => refusal,
+            CopyRefusal::Target(refusal) => return Fault::of_ledger(path, refusal),
             CopyRefusal::Copy(MigrateRefusal::Source(refusal)) => {
                 return Fault::of_opening(old, refusal);
             }
-            CopyRefusal::Copy(MigrateRefusal::TooManySlots) => {
-                LedgerRefusal::Format(FormatRefusal::TooManySlots)
-            }
-            CopyRefusal::Copy(MigrateRefusal::TooSmall) => {
-                LedgerRefusal::Format(FormatRefusal::TooSmall)
-            }
-            CopyRefusal::Copy(MigrateRefusal::Target) => {
-                LedgerRefusal::Format(FormatRefusal::Device)
-            }
+            CopyRefusal::Copy(MigrateRefusal::TooManySlots) => FormatRefusal::TooManySlots,
+            CopyRefusal::Copy(MigrateRefusal::TooSmall) => FormatRefusal::TooSmall,
+            CopyRefusal::Copy(MigrateRefusal::Target) => FormatRefusal::Device,
         };
-        Fault::of_ledger(path, refusal)
+        Fault::of_ledger(path, LedgerRefusal::Format(refusal))
     }
 
     // Of a path where there is no sound ledger of the present layout.

@@ -10,7 +10,7 @@ use crate::derbyfig::run_derbyfig;
 use crate::{console_program, derbyfig};
 use clap::error::ErrorKind;
 use clap::{Command, Error};
-use office_engine::Terminal;
+use office_engine::{Runtime, Terminal};
 use program_ends::{OUT_OF_MEMORY, fail};
 use std::alloc::{Alloc, AllocError, Global};
 use std::env::Env;
@@ -18,7 +18,6 @@ use std::fs::{File, Files};
 use std::io::{Read, Write};
 use std::sync::Wait;
 use std::thread::Threads;
-use std::time::Clock;
 use std::{env, io};
 
 /// The words of the command line, of which the first is the program's name.
@@ -56,16 +55,7 @@ pub fn run_console<F: Files<File = File> + Threads + Wait + Sync, R: Read, W: Wr
 
 /// Runs `derbyfig` on the words that the system gave, if it did.
 pub fn run_derbyfig_words<
-    R: Files<File = File>
-        + Alloc<A = Global>
-        + Threads
-        + Wait
-        + Clock
-        + Sync
-        + Send
-        + Clone
-        + Drop
-        + 'static,
+    R: Runtime,
     I: Read + Send + Drop + 'static,
     O: Write + Send + Drop + 'static,
     W: Write,

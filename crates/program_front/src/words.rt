@@ -81,24 +81,14 @@ fn requested<'a>(alloc: Global, matches: &ArgMatches<'a>) -> Result<Request<'a>,
         "run" => running(options),
         "serve" => serving(alloc, options),
         "close" => closing(options),
-        "status" => {
-            let counter = path(options, "COUNTER")?;
-            Ok(Request::Status { counter })
-        }
+        "status" => Ok(Request::Status {
+            counter: path(options, "COUNTER")?,
+        }),
         "format" => making(options),
-        "migrate" => {
-            let copying = copying(options, "OLD", WrongWord::NewIsOld)?;
-            Ok(Request::Migrate(copying))
-        }
-        "copy" => {
-            let copying = copying(options, "LEDGER", WrongWord::NewIsLedger)?;
-            Ok(Request::Copy(copying))
-        }
+        "migrate" => Ok(Request::Migrate(copying(options, "OLD", WrongWord::NewIsOld)?)),
+        "copy" => Ok(Request::Copy(copying(options, "LEDGER", WrongWord::NewIsLedger)?)),
         "archive" => archiving(options),
-        "restore" => {
-            let copying = copying(options, "FOLDER", WrongWord::NewIsFolder)?;
-            Ok(Request::Restore(copying))
-        }
+        "restore" => Ok(Request::Restore(copying(options, "FOLDER", WrongWord::NewIsFolder)?)),
         _ => inspection(alloc, name, options),
     }
 }
