@@ -36,16 +36,18 @@ impl<D: PowerLoss + Drop> Console<D> {
         mut self,
         rt: &R,
         alloc: Global,
-        command: Command,
+        command: &Command,
         output: &mut Output<'_, W>,
     ) -> Result<Console<D>, ScriptFault>
         ensures { IfErr result (λ fault. (line : ℕ) (cause : LineFault) → fault ≢ Line line cause) }
     {
-        match command {
+        match *command {
             Command::Format { slots } => self.format(slots, output)?,
-            Command::Open { stations, x, up } => {
-                return Ok(self.open(alloc, stations, &x, &up, output)?);
-            }
+            Command::Open {
+                stations,
+                ref x,
+                ref up,
+            } => return Ok(self.open(alloc, stations, x, up, output)?),
             Command::Post { station, entry } => self.post(station, entry, output)?,
             Command::Turn { station } => self.turn(station, output)?,
             Command::Bits => self.bits(output)?,

@@ -38,6 +38,8 @@ pub enum Command {
 ///
 /// # Errors
 /// [`LineFault`], the first thing that is wrong with the line.
+// A part of its caller, since a command is large: a script has many lines, and each would be copied on its way.
+#[inline(always)]
 #[tactic(auto, using(crate::proofs::GrammarLemmas::skipped), unfolding(crate::specs::Grammar::IsRead, crate::specs::Grammar::line_fault))]
 pub fn read_command(line: &[u8], number: u64) -> Result<Option<Command>, LineFault>
     ensures fault { IfErr result (λ fault. line_fault (words_of line.now) ≡ Some fault) }
