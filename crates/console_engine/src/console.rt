@@ -36,18 +36,16 @@ impl<D: PowerLoss + Drop> Console<D> {
         mut self,
         rt: &R,
         alloc: Global,
-        command: &Command,
+        command: Command<'_>,
         output: &mut Output<'_, W>,
     ) -> Result<Console<D>, ScriptFault>
         ensures { IfErr result (λ fault. (line : ℕ) (cause : LineFault) → fault ≢ Line line cause) }
     {
-        match *command {
+        match command {
             Command::Format { slots } => self.format(slots, output)?,
-            Command::Open {
-                stations,
-                ref x,
-                ref up,
-            } => return Ok(self.open(alloc, stations, x, up, output)?),
+            Command::Open { stations, x, up } => {
+                return Ok(self.open(alloc, stations, x, up, output)?);
+            }
             Command::Post { station, entry } => self.post(station, entry, output)?,
             Command::Turn { station } => self.turn(station, output)?,
             Command::Bits => self.bits(output)?,
@@ -76,8 +74,8 @@ impl<D: PowerLoss + Drop> Console<D> {
         self,
         alloc: Global,
         stations: u64,
-        x: &Bits,
-        up: &Bits,
+        x: Bits<'_>,
+        up: Bits<'_>,
         output: &mut Output<'_, W>,
     ) -> Result<Console<D>, StreamFault> {
         let device = match self {

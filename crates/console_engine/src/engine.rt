@@ -66,7 +66,7 @@ fn run_lines<H: Threads + Wait + Sync, W: Write, D: PowerLoss + Drop>(
             Err(cause) => return Err(ScriptFault::Line { line, cause }),
         };
         if let Some(command) = command {
-            console = console.run(rt, alloc, &command, output)?;
+            console = console.run(rt, alloc, command, output)?;
         }
     }
     Ok(())

@@ -39,9 +39,10 @@ impl<D: Device> ScriptedClerk<D> {
         alloc: Global,
         device: D,
         stations: u64,
-        x: &Bits,
-        up: &Bits,
+        x: Bits<'_>,
+        up: Bits<'_>,
     ) -> Result<ScriptedClerk<D>, (D, Refusal)> {
+        let (x, up) = (x.kept(), up.kept());
         let line = match Line::from_bits(stations, x.as_slice(), up.as_slice()) {
             Ok(line) => line,
             Err(refusal) => return Err((device, Refusal::Line(refusal))),

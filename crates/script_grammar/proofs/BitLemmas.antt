@@ -2,7 +2,7 @@
 use Rattle.std.proofs.Common.{◌≡◌, ◌∙◌, ℕ, ◌+◌, ◌<◌, Bool, List, [], ◌∷◌, ◌++◌, length, ◌==◌, take, map, min, get_or, add-one, arith, sym, ap}
 use Rattle.std.proofs.Math.ListN.{set}
 use Rattle.std.proofs.Math.Seq.{take-suc, take-suc-set, take-length}
-use Rattle.std.proofs.lemmas.List.{map-append, take_min, length-take}
+use Rattle.std.proofs.lemmas.List.{map-append, take-map, take_min, length-take}
 
 abbrev is_one : ℕ → Bool
 is_one byte = byte == 49
@@ -18,11 +18,12 @@ one_more places kept i in_places in_kept so_far =
 
 pub all_kept : (places : List Bool) (word : List ℕ) (i most : ℕ) → most ≡ min 65 (length word) → i ≡ length (take most word)
     → take i places ≡ map (λ byte. byte == 49) (take i (take most word))
-    → take (length (take most word)) places ≡ map (λ byte. byte == 49) (take 65 word)
+    → take (length (take most word)) places ≡ take 65 (map (λ byte. byte == 49) word)
 all_kept places word i most least all so_far =
     ap (λ (k : ℕ). take k places) (sym all) ∙ so_far
     ∙ ap (map is_one) (ap (λ (k : ℕ). take k (take most word)) all ∙ take-length (take most word)
     ∙ ap (λ (k : ℕ). take k word) least ∙ take_min 65 word)
+    ∙ sym (take-map is_one 65 word)
 
 -- a place of what is kept is one of the 65
 pub in_kept : (word : List ℕ) (i most : ℕ) → most ≡ min 65 (length word) → i < length (take most word) → i < 65

@@ -1,5 +1,5 @@
 -- What a script's bytes say: words, numbers and bits. What its lines are is told by std's `lines`.
-use Rattle.std.specs.Prelude.{ℕ, ◌^◌, Bool, ◌&&◌, ◌||◌, List, ◌==◌, nat_lt, length, filter, map, take}
+use Rattle.std.specs.Prelude.{ℕ, ◌^◌, Bool, ◌&&◌, ◌||◌, List, ◌==◌, nat_lt, length, filter, map}
 use Rattle.std.specs.List.{list_all, slice_split}
 use Rattle.std.specs.Char.{is_digit}
 use Rattle.std.specs.Str.Parse.{digits_value}
@@ -16,6 +16,6 @@ is_number word = nat_lt 0 (length word) && list_all (λ byte. is_digit byte 10) 
 abbrev pub is_bit_text : List ℕ → Bool
 is_bit_text word = nat_lt 0 (length word) && list_all (λ byte. (byte == 48) || (byte == 49)) word
 
--- the bits that the characters write, of which no more than 65 are kept
+-- the bits that the characters write
 abbrev pub bits_written : List ℕ → List Bool
-bits_written word = map (λ byte. byte == 49) (take 65 word)
+bits_written word = map (λ byte. byte == 49) word

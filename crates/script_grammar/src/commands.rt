@@ -14,15 +14,26 @@ use turn_ledger::Entry;
 
 /// What a line of a script asks for.
 #[derive(Clone, Copy, Debug)]
-pub enum Command {
+pub enum Command<'a> {
     /// `format K`: make the device an empty journal of K slots.
-    Format { slots: NonZeroU64 },
+    Format {
+        slots: NonZeroU64,
+    },
     /// `open J XBITS UPBITS`: recover the ledger, with a line of J stations.
-    Open { stations: u64, x: Bits, up: Bits },
+    Open {
+        stations: u64,
+        x: Bits<'a>,
+        up: Bits<'a>,
+    },
     /// `post S KIND ..`: keep an entry for station S.
-    Post { station: u64, entry: Entry },
+    Post {
+        station: u64,
+        entry: Entry,
+    },
     /// `turn S`: a turn of station S with the entries that it holds.
-    Turn { station: u64 },
+    Turn {
+        station: u64,
+    },
     /// `bits`: show the line.
     Bits,
     /// `balances`: show the accounts.
@@ -30,7 +41,9 @@ pub enum Command {
     /// `crash`: lose the power.
     Crash,
     /// `day M`: the stations take M turns, each in a thread of its own; 1 to [`DAY_LIMIT`](crate::DAY_LIMIT).
-    Day { moves: u64 },
+    Day {
+        moves: u64,
+    },
 }
 
 /// The command of a line, or None if the line has no words or is a comment. An entry's reference is the number of
@@ -41,7 +54,7 @@ pub enum Command {
 // A part of its caller, since a command is large: a script has many lines, and each would be copied on its way.
 #[inline(always)]
 #[tactic(auto, using(crate::proofs::GrammarLemmas::skipped), unfolding(crate::specs::Grammar::IsRead, crate::specs::Grammar::line_fault))]
-pub fn read_command(line: &[u8], number: u64) -> Result<Option<Command>, LineFault>
+pub fn read_command<'a>(line: &'a [u8], number: u64) -> Result<Option<Command<'a>>, LineFault>
     ensures fault { IfErr result (λ fault. line_fault (words_of line.now) ≡ Some fault) }
     ensures sound { OnOk result (line_fault (words_of line.now) ≡ None) }
     ensures skipped { IfOk result (λ found. is_none found ≡ is_skipped (words_of line.now)) }
@@ -57,7 +70,7 @@ pub fn read_command(line: &[u8], number: u64) -> Result<Option<Command>, LineFau
 
 // The command of this name, which begins no comment.
 #[tactic(auto, using(crate::proofs::NameLemmas::commands), unfolding(crate::specs::Grammar::IsRead, crate::specs::Grammar::Spells))]
-fn read_named(name: &[u8], words: Words<'_>, line: u64) -> Result<Command, LineFault>
+fn read_named<'a>(name: &[u8], words: Words<'a>, line: u64) -> Result<Command<'a>, LineFault>
     requires { (slice_index name.now 0 == 35) ≡ false }
     ensures { IsRead (name.now ∷ words.entry) line result }
 {
@@ -91,7 +104,7 @@ fn read_named(name: &[u8], words: Words<'_>, line: u64) -> Result<Command, LineF
 
 // An entry for a station; the line's number is its reference.
 #[tactic(auto, using(crate::proofs::PostLemmas::posts), unfolding(crate::specs::Grammar::IsRead))]
-fn read_post(mut words: Words<'_>, line: u64) -> Result<Command, LineFault>
+fn read_post<'a>(mut words: Words<'a>, line: u64) -> Result<Command<'a>, LineFault>
     ensures { IsRead (codes "post" ∷ words.entry) line result }
 {
     let station = word(&mut words)?;

@@ -56,7 +56,10 @@ pub fn read_entry(kind: &[u8], words: Words<'_>, reference: Reference) -> Result
 
 // What the words behind an entry's kind write, and the entry's reference.
 #[tactic(auto, unfolding(crate::specs::Entries::FillsEntry))]
-fn with_reference<P: Places>(words: Words<'_>, reference: Reference) -> Result<(P, u64), LineFault>
+fn with_reference<'a, P: Places<'a>>(
+    words: Words<'a>,
+    reference: Reference,
+) -> Result<(P, u64), LineFault>
     ensures { IsAnswer (told_of_entry reference P.fields words.entry)
         (λ both. FillsEntry words.entry P.fields (P.values both.0) reference both.1) result }
 {
@@ -71,7 +74,7 @@ fn with_reference<P: Places>(words: Words<'_>, reference: Reference) -> Result<(
 
 // The same if the reference may be given: a number behind the other words is the reference.
 #[tactic(auto, using(crate::proofs::EntryLemmas::is_given, crate::proofs::EntryLemmas::not_given, crate::proofs::GrammarLemmas::then_told, crate::proofs::GrammarLemmas::wrong_first), unfolding(crate::specs::Entries::FillsEntry))]
-fn given_or<P: Places>(mut words: Words<'_>, line: u64) -> Result<(P, u64), LineFault>
+fn given_or<'a, P: Places<'a>>(mut words: Words<'a>, line: u64) -> Result<(P, u64), LineFault>
     ensures { IsAnswer (told_of_entry (GivenOr line) P.fields words.entry)
         (λ both. FillsEntry words.entry P.fields (P.values both.0) (GivenOr line) both.1) result }
 {

@@ -22,7 +22,7 @@ mod words;
 pub use commands::{Command, read_command};
 pub use cutting::{Cut, LINE_LIMIT, LineCutter, line_limit_in_numbers};
 pub use faults::LineFault;
-pub use numbers::Bits;
+pub use numbers::{Bits, KeptBits};
 pub use places::DAY_LIMIT;
 pub use requests::{Request, read_request};
 pub use turn_ledger::Entry;

@@ -1,5 +1,5 @@
 //! Numbers and bits as a script writes them.
-ghost use Rattle.std.specs.Prelude.{◌≡◌, ◌↔◌, ◌<◌, ◌≤◌, ◌^◌, ◌⊎◌, All, IsTrue, IfSome, SomeIff, is_some, length};
+ghost use Rattle.std.specs.Prelude.{◌≡◌, ◌↔◌, ◌<◌, ◌≤◌, ◌^◌, ◌⊎◌, All, IsTrue, IfSome, SomeIff, is_some, length, take};
 ghost use Rattle.std.specs.Str.Parse.{IsNumeral, digits_value};
 ghost use Rattle.script_grammar.specs.Script.{bits_written, is_bit_text};
 
@@ -18,44 +18,62 @@ pub fn read_number(word: &[u8]) -> Option<u64>
     }
 }
 
-/// The most bits that are kept: one more than the longest line has.
-const MOST_BITS: usize = 65;
-
-/// A list of bits, of which the first 65 are kept: more than any line of stations has.
+/// Bits as a word writes them, in the characters `0` and `1`.
+// They stay where they stand in their line: a command that had them itself would be copied with them on its way.
 #[derive(Clone, Copy, Debug)]
-pub struct Bits {
-    places: [bool; MOST_BITS],
-    count: usize,
-    ghost within: { count ≤ 65 },
+pub struct Bits<'a> {
+    word: &'a [u8],
 }
 
-impl Bits {
-    ghost use Rattle.script_grammar.specs.Bits.{bits_of};
+impl<'a> Bits<'a> {
+    ghost use Rattle.script_grammar.specs.Bits.{bits_of, kept_of};
 
-    /// The bits in order.
-    pub fn as_slice(&self) -> &[bool]
-        ensures { result.now ≡ bits_of self.now }
-    {
-        &self.places[..self.count]
-    }
-
-    /// The bits that a word writes in the characters `0` and `1`, if it has no other.
-    pub fn read(word: &[u8]) -> Option<Bits>
+    /// The bits that a word writes, if it has one character or more, and each is `0` or `1`.
+    pub fn read(word: &'a [u8]) -> Option<Bits<'a>>
         ensures some { is_some result ≡ is_bit_text word.now }
         ensures value { IfSome result (λ bits. bits_of bits ≡ bits_written word.now) }
     {
         if !has_bits_alone(word) {
             return None;
         }
-        let kept = &word[..MOST_BITS.min(word.len())];
+        Some(Bits { word })
+    }
+
+    /// The bits in order, of which the first 65 are kept: more than any line of stations has.
+    pub fn kept(&self) -> KeptBits
+        ensures { kept_of result ≡ take 65 (bits_of self.now) }
+    {
+        let word = &self.word[..MOST_BITS.min(self.word.len())];
         let mut places = [false; MOST_BITS];
-        for (place, byte) in kept.iter().enumerate() {
+        for (place, byte) in word.iter().enumerate() {
             places[place] = *byte == b'1';
         }
-        Some(Bits {
+        KeptBits {
             places,
-            count: kept.len(),
-        })
+            count: word.len(),
+        }
+    }
+}
+
+/// The most bits that are kept: one more than the longest line has.
+const MOST_BITS: usize = 65;
+
+/// A list of up to 65 bits.
+#[derive(Clone, Copy, Debug)]
+pub struct KeptBits {
+    places: [bool; MOST_BITS],
+    count: usize,
+    ghost within: { count ≤ 65 },
+}
+
+impl KeptBits {
+    ghost use Rattle.script_grammar.specs.Bits.{kept_of};
+
+    /// The bits in order.
+    pub fn as_slice(&self) -> &[bool]
+        ensures { result.now ≡ kept_of self.now }
+    {
+        &self.places[..self.count]
     }
 }
 

@@ -14,7 +14,7 @@ use std::num::NonZeroU64;
 pub const DAY_LIMIT: u64 = 100_000;
 
 /// What a word writes at one place of a line.
-pub trait Place: Copy {
+pub trait Place<'a>: Copy {
     /// Which place that is.
     ghost field: { Field };
 
@@ -22,7 +22,7 @@ pub trait Place: Copy {
     ghost value: { Self → Value };
 
     /// What the word writes, if it may stand at the place.
-    fn read(word: &[u8]) -> Result<Self, LineFault>
+    fn read(word: &'a [u8]) -> Result<Self, LineFault>
         ensures ok { IfOk result (λ this.
             (takes field word.now ≡ true) × (written field word.now ≡ value this ∷ [])) }
         ensures err { IfErr result (λ fault.
@@ -30,48 +30,48 @@ pub trait Place: Copy {
 }
 
 /// A number.
-impl Place for u64 {
+impl<'a> Place<'a> for u64 {
     ghost field = { Number };
 
     ghost value = { λ number. NumberIs number };
 
     #[tactic(auto, using(crate::proofs::TestLemmas::numeral), unfolding(crate::specs::Places::takes))]
-    fn read(word: &[u8]) -> Result<u64, LineFault> {
+    fn read(word: &'a [u8]) -> Result<u64, LineFault> {
         read_number(word).ok_or(LineFault::BadNumber)
     }
 }
 
 /// An account, a number below 2^32.
-impl Place for u32 {
+impl<'a> Place<'a> for u32 {
     ghost field = { Account };
 
     ghost value = { λ account. NumberIs account };
 
     #[tactic(auto, unfolding(crate::specs::Places::takes))]
-    fn read(word: &[u8]) -> Result<u32, LineFault> {
+    fn read(word: &'a [u8]) -> Result<u32, LineFault> {
         u32::try_from(u64::read(word)?).or(Err(LineFault::BadNumber))
     }
 }
 
 /// A number of slots, above zero.
-impl Place for NonZeroU64 {
+impl<'a> Place<'a> for NonZeroU64 {
     ghost field = { Slots };
 
     ghost value = { λ slots. NumberIs (non_zero_u64_get slots) };
 
     #[tactic(auto, unfolding(crate::specs::Places::takes))]
-    fn read(word: &[u8]) -> Result<NonZeroU64, LineFault> {
+    fn read(word: &'a [u8]) -> Result<NonZeroU64, LineFault> {
         NonZeroU64::new(u64::read(word)?).ok_or(LineFault::BadNumber)
     }
 }
 
-impl Place for Bits {
+impl<'a> Place<'a> for Bits<'a> {
     ghost field = { BitText };
 
     ghost value = { λ bits. BitsAre (bits_of bits) };
 
     #[tactic(auto, unfolding(crate::specs::Places::takes))]
-    fn read(word: &[u8]) -> Result<Bits, LineFault> {
+    fn read(word: &'a [u8]) -> Result<Bits<'a>, LineFault> {
         Bits::read(word).ok_or(LineFault::BadBits)
     }
 }
@@ -80,13 +80,13 @@ impl Place for Bits {
 #[derive(Clone, Copy, Debug)]
 pub struct Turns(pub u64);
 
-impl Place for Turns {
+impl<'a> Place<'a> for Turns {
     ghost field = { Moves };
 
     ghost value = { λ turns. NumberIs turns.0 };
 
     #[tactic(auto, unfolding(crate::specs::Places::takes))]
-    fn read(word: &[u8]) -> Result<Turns, LineFault> {
+    fn read(word: &'a [u8]) -> Result<Turns, LineFault> {
         let turns = u64::read(word)?;
         if turns == 0 || turns > DAY_LIMIT {
             return Err(LineFault::BadNumber);
@@ -96,7 +96,7 @@ impl Place for Turns {
 }
 
 /// What words write at several places, one behind another.
-pub trait Places: Copy {
+pub trait Places<'a>: Copy {
     /// Which places these are.
     ghost fields: { List Field };
 
@@ -108,7 +108,7 @@ pub trait Places: Copy {
         ensures { result ≡ length fields };
 
     /// What the next words write, as many as there are places; the first wrong one decides.
-    fn take(words: &mut Words<'_>) -> Result<Self, LineFault>
+    fn take(words: &mut Words<'a>) -> Result<Self, LineFault>
         requires { length fields ≤ length words.old }
         ensures { IsAnswer (first_wrong fields words.old)
             (λ these. AreTaken fields (values these) words.old words.new) result };
@@ -118,7 +118,7 @@ pub trait Places: Copy {
 #[derive(Clone, Copy)]
 pub struct Nothing;
 
-impl Places for Nothing {
+impl<'a> Places<'a> for Nothing {
     ghost fields = { [] };
 
     ghost values = { λ _. [] };
@@ -128,7 +128,7 @@ impl Places for Nothing {
     }
 
     #[tactic(auto, unfolding(crate::specs::Places::first_wrong))]
-    fn take(_words: &mut Words<'_>) -> Result<Nothing, LineFault> {
+    fn take(_words: &mut Words<'a>) -> Result<Nothing, LineFault> {
         Ok(Nothing)
     }
 }
@@ -137,7 +137,7 @@ impl Places for Nothing {
 #[derive(Clone, Copy)]
 pub struct One<A>(pub A);
 
-impl<A: Place> Places for One<A> {
+impl<'a, A: Place<'a>> Places<'a> for One<A> {
     ghost fields = { A.field ∷ [] };
 
     ghost values = { λ these. A.value these.0 ∷ [] };
@@ -146,7 +146,7 @@ impl<A: Place> Places for One<A> {
         1
     }
 
-    fn take(words: &mut Words<'_>) -> Result<One<A>, LineFault> {
+    fn take(words: &mut Words<'a>) -> Result<One<A>, LineFault> {
         Ok(One(next(words)?))
     }
 }
@@ -155,7 +155,7 @@ impl<A: Place> Places for One<A> {
 #[derive(Clone, Copy)]
 pub struct Two<A, B>(pub A, pub B);
 
-impl<A: Place, B: Place> Places for Two<A, B> {
+impl<'a, A: Place<'a>, B: Place<'a>> Places<'a> for Two<A, B> {
     ghost fields = { A.field ∷ B.field ∷ [] };
 
     ghost values = { λ these. A.value these.0 ∷ B.value these.1 ∷ [] };
@@ -164,7 +164,7 @@ impl<A: Place, B: Place> Places for Two<A, B> {
         2
     }
 
-    fn take(words: &mut Words<'_>) -> Result<Two<A, B>, LineFault> {
+    fn take(words: &mut Words<'a>) -> Result<Two<A, B>, LineFault> {
         Ok(Two(next(words)?, next(words)?))
     }
 }
@@ -173,7 +173,7 @@ impl<A: Place, B: Place> Places for Two<A, B> {
 #[derive(Clone, Copy)]
 pub struct Three<A, B, C>(pub A, pub B, pub C);
 
-impl<A: Place, B: Place, C: Place> Places for Three<A, B, C> {
+impl<'a, A: Place<'a>, B: Place<'a>, C: Place<'a>> Places<'a> for Three<A, B, C> {
     ghost fields = { A.field ∷ B.field ∷ C.field ∷ [] };
 
     ghost values = { λ these. A.value these.0 ∷ B.value these.1 ∷ C.value these.2 ∷ [] };
@@ -182,14 +182,14 @@ impl<A: Place, B: Place, C: Place> Places for Three<A, B, C> {
         3
     }
 
-    fn take(words: &mut Words<'_>) -> Result<Three<A, B, C>, LineFault> {
+    fn take(words: &mut Words<'a>) -> Result<Three<A, B, C>, LineFault> {
         let Two(first, second) = Two::take(words)?;
         Ok(Three(first, second, next(words)?))
     }
 }
 
 /// What the next word writes, if it may stand at the place.
-pub fn next<A: Place>(words: &mut Words<'_>) -> Result<A, LineFault>
+pub fn next<'a, A: Place<'a>>(words: &mut Words<'a>) -> Result<A, LineFault>
     requires { 0 < length words.old }
     ensures { IsAnswer (first_wrong (A.field ∷ []) words.old)
         (λ this. AreTaken (A.field ∷ []) (A.value this ∷ []) words.old words.new) result }
@@ -199,7 +199,7 @@ pub fn next<A: Place>(words: &mut Words<'_>) -> Result<A, LineFault>
 
 /// What the words that are left write, which have to be as many as there are places.
 #[tactic(auto, using(crate::proofs::GrammarLemmas::not_as_long))]
-pub fn exactly<P: Places>(mut words: Words<'_>) -> Result<P, LineFault>
+pub fn exactly<'a, P: Places<'a>>(mut words: Words<'a>) -> Result<P, LineFault>
     ensures { IsAnswer (told_of_one P.fields words.entry)
         (λ these. Fills words.entry P.fields (P.values these)) result }
 {

@@ -8,7 +8,7 @@ fn command(line: &[u8]) -> Option<Command> {
 }
 
 fn has_bits(bits: &Bits, wanted: &[bool]) -> bool {
-    bits.as_slice() == wanted
+    bits.kept().as_slice() == wanted
 }
 
 // An entry has the number of its line as its reference.

@@ -1,18 +1,6 @@
-use Rattle.std.proofs.Common.{arith, length-set, sym, Bool, ◌<◌}
-use Rattle.script_grammar.proofs.BitLemmas.{one_more, all_kept, in_kept}
+use Rattle.std.proofs.Common.{sym}
 use Rattle.script_grammar.proofs.TestLemmas.{bit_text}
 use Rattle.script_grammar.proofs.numbers.Bits.read.Goals as goal
-
-pub loop-place-preserved : goal.loop-place-preserved
-loop-place-preserved c =
-    let low : c.loop-place.place < 65 = in_kept c.args.word.now _ c.min.result c.min.ensures c.loop-place-test.true in
-    record {
-      size = omega (arith, length-set {A = Bool});
-      so_far = one_more _ _ c.loop-place.place (omega arith) c.loop-place-test.true c.loop-place.invariant.so_far;
-    }
-
-pub returns-clause-value : goal.returns-clause-value
-returns-clause-value c = all_kept _ _ c.loop-place.place c.min.result c.min.ensures (omega arith) c.loop-place.invariant.so_far
 
 pub returns-clause-some : goal.returns-clause-some
 returns-clause-some c = sym ((bit_text c.args.word.now).1 (c.has_bits_alone.ensures.0 c.if-not-has_bits_alone.false))
