@@ -27,7 +27,7 @@ pub use laws::{one_old_recovery, one_recovery, seals_are_recovered};
 pub use looking_back::{LOOK_BACK_STEP, LookBack, look_back};
 pub use migration::{MigrateRefusal, migrate, snapshot_of};
 pub use old::{Old, read_old, restore_older};
-pub use places::read_entry;
+pub use places::{post_batch, read_entry};
 pub use postings::may_hold_postings;
 pub use recovery::{Recovered, recover};
 pub use refusals::{Cause, OpenName, OpenRefusal};

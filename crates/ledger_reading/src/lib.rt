@@ -9,7 +9,6 @@
 mod any_journal;
 mod listing;
 mod numbers;
-mod posting;
 mod sound;
 
 pub use any_journal::AnyJournal;
