@@ -204,14 +204,14 @@ fn tell_opened<'a, D: Device + Drop, W: Write>(
         Ok(found) => found,
         Err((_, refusal)) => return Err(OfficeFault::NoLedger { path, refusal }),
     };
-    let next = journal.next();
-    let total = ledger.total();
+    let (next, total, slots) = (journal.next(), ledger.total(), journal.slots());
+    let device = journal.into_device();
     output.line(format_args!("opened {stations} next {next} total {total}"))?;
     output.flush()?;
-    let slots = journal.slots();
+    let line = first_line(stations)?;
     Ok(Opened {
-        device: journal.into_device(),
-        line: first_line(stations)?,
+        device,
+        line,
         slots,
     })
 }
