@@ -66,6 +66,7 @@ def owner_of(header):
         return joined(head), plain.strip()
     trait_name, _, type_name = head.partition(" for ")
     own = re.findall(r"(?:^<|, )(\w+)", without_bounds(rest[:at]))
+    trait_name = re.sub(r"<'\w+>$", "", trait_name)
     given = (word for words in re.findall(r"<(.*)>$", trait_name) for word in words.split(", "))
     parameters = "".join(joined(word) for word in given if word not in own)
     shown = re.sub(r"'\w+ ", "", without_parameters(type_name))
