@@ -198,14 +198,20 @@ exec 3>&-
 wait "$holder"
 run 0 "$wanted/check.out" "" check office
 
-# Wrong words: the program, its words, and how it begins to tell that.
-while IFS='|' read -r program words begin; do
-    status=0
-    # shellcheck disable=SC2086
-    "${!program}" $words > printed 2> told || status=$?
+# Words that a program refuses, behind the beginning of what it tells.
+refuses_words() {
+    local program=$1 begin=$2 status=0
+    shift 2
+    "${!program}" "$@" > printed 2> told || status=$?
     [ "$status" -eq 2 ] && [ ! -s printed ] && [ "$(head -c "${#begin}" told)" = "$begin" ] \
-        || { echo "$program $words: ends with status $status, and tells $(cat told)"; exit 1; }
-    echo "wrong words, $program $words: as they must be"
+        || { echo "$program $*: ends with status $status, and tells $(cat told)"; exit 1; }
+    echo "wrong words, $program $*: as they must be"
+}
+
+# Each program and its words, and how it begins to tell that they are wrong.
+while IFS='|' read -r program words begin; do
+    # shellcheck disable=SC2086
+    refuses_words "$program" "$begin" $words
 done << END
 derbyfig||error: 'derbyfig' requires a subcommand but one was not provided
 derbyfig|check|error: the following required arguments were not provided
@@ -234,6 +240,21 @@ console|--sectors x|error: invalid value 'x' for '--sectors <K>'
 console|--sectors|error: a value is required for '--sectors <K>'
 console|frob|error: unexpected argument 'frob' found
 console|--frob|error: unexpected argument '--frob' found
+END
+for program in derbyfig console; do
+    refuses_words "$program" "error: invalid UTF-8 was detected in one or more arguments" $'\xff'
+done
+
+# A script that has no end, and one that can't be read: a file, and what is told. Nothing of it is run.
+while IFS='|' read -r file line; do
+    status=0
+    "$console" < "$file" > printed 2> told || status=$?
+    [ "$status" -eq 1 ] && [ ! -s printed ] && [ "$(cat told)" = "$line" ] \
+        || { echo "a script from $file: ends with status $status, and tells $(cat told)"; exit 1; }
+    echo "a script from $file: $line"
+done << END
+/dev/zero|script too long
+.|read failed
 END
 
 # An output that is full is told. One that nobody reads any more ends what was asked for beside a ledger quietly; but a

@@ -1,10 +1,8 @@
 // What a file is asked for that is opened as a ledger or formatted. Which keep their bytes and their length is shown by
 // `checks/files.sh`.
 use crate::fake_disk::{Asked, Disk, Limits, WHOLE};
-use file_device::{Device, DeviceRefusal, FileFault, SECTOR};
-use ledger_file::{
-    Formatting, LedgerRefusal, Making, PartFault, format_ledger, open_for_script, open_ledger,
-};
+use file_device::{Device, SECTOR};
+use ledger_file::{Formatting, LedgerRefusal, Making, format_ledger, open_for_script, open_ledger};
 use std::alloc::Global;
 use std::num::NonZeroU64;
 use std::process::Abort;
@@ -38,22 +36,6 @@ fn four_slots(rt: &impl Abort) -> Formatting {
     }
 }
 
-// Sixty sectors of a ledger of 64 slots.
-#[test]
-fn a_part_of_a_ledger_is_looked_at_and_left(rt: HostRuntime) -> Result<(), Fail> {
-    let begin = superblock(3, 64);
-    let disk = disk_of(rt.alloc(), &begin, 60)?;
-    let opened = open_ledger(&disk.files(), rt.alloc(), "ledger", 400).err();
-    let short = PartFault::Short {
-        slots: 64,
-        found: 60,
-        needed: 295,
-    };
-    assert!(rt; opened == Some(LedgerRefusal::Part(short)));
-    assert!(rt; disk.take_asked().as_slice() == LOOKED_AT.as_slice());
-    Ok(())
-}
-
 // A whole ledger of four slots, and for a script anything that begins as none.
 #[test]
 fn what_may_grow_is_looked_at_first(rt: HostRuntime) -> Result<(), Fail> {
@@ -78,20 +60,6 @@ fn what_may_grow_is_looked_at_first(rt: HostRuntime) -> Result<(), Fail> {
         let device = open_for_script(&disk.files(), rt.alloc(), "ledger", 60, Making::Never)?;
         assert!(rt; device.sectors() == 60);
     }
-    Ok(())
-}
-
-#[test]
-fn a_file_with_more_sectors_than_a_file_may_have_is_not_left(rt: HostRuntime) -> Result<(), Fail> {
-    let disk = Disk::new(rt.alloc(), "ledger", ".", WHOLE);
-    let formatting = Formatting {
-        sectors: u64::MAX,
-        ..four_slots(&rt)
-    };
-    let made = format_ledger(&disk.files(), rt.alloc(), "ledger", formatting);
-    let no_room = DeviceRefusal::File(FileFault::NoRoom);
-    assert!(rt; made.err() == Some(LedgerRefusal::Device(no_room)));
-    assert!(rt; disk.take_bytes().is_none());
     Ok(())
 }
 

@@ -146,24 +146,7 @@ fn comes_to_pass(rt: &impl Abort, alloc: Global, opening: &Opening) -> Result<()
     Ok(())
 }
 
-#[test]
-fn a_file_is_locked_grown_and_synced(rt: HostRuntime) -> Result<(), Fail> {
-    comes_to_pass(&rt, rt.alloc(), &OF_A_NEW_FILE)?;
-    comes_to_pass(&rt, rt.alloc(), &OF_AN_OLD_FILE)?;
-    for (length, sectors) in [(LENGTH, SECTORS), (LENGTH + 1536, SECTORS + 3)] {
-        let opening = Opening {
-            before: Some(length),
-            outcome: Ok(sectors),
-            steps: &FULL,
-            after: Some((length, length)),
-            ..OF_AN_OLD_FILE
-        };
-        comes_to_pass(&rt, rt.alloc(), &opening)?;
-    }
-    Ok(())
-}
-
-// The file is made by the third step, and from the fifth on it is removed again.
+// The file is made by the third step, and from the fifth on it is removed again. Where no step fails it is whole.
 #[test]
 fn where_a_step_fails_no_new_file_is_left_that_grew(rt: HostRuntime) -> Result<(), Fail> {
     for fails in 0..NEW.len() {
@@ -181,7 +164,7 @@ fn where_a_step_fails_no_new_file_is_left_that_grew(rt: HostRuntime) -> Result<(
         };
         comes_to_pass(&rt, rt.alloc(), &opening)?;
     }
-    Ok(())
+    comes_to_pass(&rt, rt.alloc(), &OF_A_NEW_FILE)
 }
 
 #[test]
@@ -201,7 +184,7 @@ fn where_a_step_fails_an_old_file_keeps_its_bytes(rt: HostRuntime) -> Result<(),
         };
         comes_to_pass(&rt, rt.alloc(), &opening)?;
     }
-    Ok(())
+    comes_to_pass(&rt, rt.alloc(), &OF_AN_OLD_FILE)
 }
 
 // Each cause of a step is told: which fails, why, and how it is told.
@@ -297,22 +280,6 @@ fn the_folder_of_the_name_is_synced(rt: HostRuntime) -> Result<(), Fail> {
             ..OF_A_NEW_FILE
         };
         comes_to_pass(&rt, rt.alloc(), &opening)?;
-    }
-    Ok(())
-}
-
-// Of a file with the number of a standard stream nothing is asked but another one.
-#[test]
-fn a_file_with_the_number_of_a_stream_gets_another(rt: HostRuntime) -> Result<(), Fail> {
-    for number in 0..4 {
-        let limits = Limits { number, ..WHOLE };
-        let disk = Disk::new(rt.alloc(), "ledger", ".", limits);
-        disk.holds(vec![in rt.alloc(); 7; LENGTH]?);
-        assert!(rt; opened(&disk, "ledger") == Ok(SECTORS), "{number}");
-        let asked = disk.take_asked();
-        let moved = if number <= 2 { 3 } else { 2 };
-        assert!(rt; asked.contains(&Asked::Move) == (number <= 2), "{number}");
-        assert!(rt; asked.get(moved..) == FULL.get(2..), "{number}");
     }
     Ok(())
 }

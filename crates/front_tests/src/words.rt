@@ -1,17 +1,6 @@
 //! The words of `derbyfig`.
 use ledger_inspection::{BookTask, Locking, Task};
-use office_engine::Terminal;
-use program_front::{Request, read_request, run_derbyfig_words};
-use std::alloc::Global;
-use std::io;
-use std::io::ErrorKind;
-
-fn terminal(alloc: Global) -> Terminal<&'static [u8], Vec<u8>> {
-    Terminal {
-        input: b"".as_slice(),
-        output: Vec::new(alloc),
-    }
-}
+use program_front::{Request, read_request};
 
 #[test]
 fn a_script_and_an_office_have_their_words(rt: HostRuntime) {
@@ -133,23 +122,4 @@ fn each_command_has_its_words(rt: HostRuntime) {
         matches!(&asked, Ok(Request::Archive(archiving)) if archiving.ledger == "book"
         && archiving.folder == "books")
     );
-}
-
-#[test]
-fn a_word_that_is_no_text_is_wrong(rt: HostRuntime) {
-    let alloc = rt.alloc();
-    for (kind, wanted) in [(ErrorKind::InvalidData, 2), (ErrorKind::OutOfMemory, 3)] {
-        let given = Err(io::Error::from(kind));
-        let (mut output, mut errors) = (Vec::new(alloc), Vec::new(alloc));
-        let status = run_derbyfig_words(
-            &rt,
-            alloc,
-            given,
-            terminal(alloc),
-            &mut output,
-            &mut errors,
-            false,
-        );
-        assert!(rt; (status, output.len(), errors.is_empty()) == (wanted, 0, false));
-    }
 }

@@ -2,9 +2,8 @@
 use sector_device::Device;
 use std::alloc::Global;
 use std::process::Abort;
-use std::test::Fail;
 use test_scenes::{deposit, line};
-use turn_clerk::{Clerk, Entry, Event, Line, OpenRefusal, TurnRefusal};
+use turn_clerk::{Clerk, Entry, Line, OpenRefusal, TurnRefusal};
 
 // What the turns deposit: no two lists of batches come to the same balance.
 pub const AMOUNTS: [u64; 5] = [1, 2, 4, 8, 16];
@@ -23,11 +22,11 @@ pub const SNAPSHOT: u64 = 16 + 1;
 // and syncs a body, and then a gate. A checkpoint reads the other bank's gate, writes its head, its snapshot and two
 // slots' gates, syncs, and writes and syncs its gate. The second one finds that gate open, and writes and syncs it
 // closed first.
-pub const READS: u64 = 6 + SNAPSHOT + 1 + 1;
+const READS: u64 = 6 + SNAPSHOT + 1 + 1;
 
-pub const WRITES: u64 = 5 * 2 + (4 + SNAPSHOT) + (5 + SNAPSHOT);
+const WRITES: u64 = 5 * 2 + (4 + SNAPSHOT) + (5 + SNAPSHOT);
 
-pub const SYNCS: u64 = 1 + 5 * 2 + 2 + 3;
+const SYNCS: u64 = 1 + 5 * 2 + 2 + 3;
 
 pub const CALLS: u64 = READS + WRITES + SYNCS;
 
@@ -88,18 +87,6 @@ pub fn found_by<D: Device>(clerk: &Clerk<D>) -> Found {
         balance: clerk.opening_balance(1),
         next: clerk.opening_next(),
     }
-}
-
-// The turns from this one on, as events.
-pub fn events(alloc: Global) -> Result<Vec<Event>, Fail> {
-    let mut events = Vec::new(alloc);
-    for (place, amount) in AMOUNTS.iter().enumerate() {
-        events.push(Event {
-            station: (place % 2) as u8,
-            entries: vec![in alloc; deposit(1, *amount)]?,
-        })?;
-    }
-    Ok(events)
 }
 
 // Opens a clerk with the line on which the next batch is that of this turn, and takes the turns from it on, up to the

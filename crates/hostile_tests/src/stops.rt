@@ -1,5 +1,5 @@
 //! Courses on a device that stops at one of its calls, and then loses power.
-use crate::course::{AMOUNTS, CALLS, Course, Found, Met, events, take_course, two_stations};
+use crate::course::{AMOUNTS, CALLS, Course, Found, Met, take_course};
 use crate::power::{at_stake, outcomes_of, picks};
 use fault_injector::{Fuse, Op};
 use ledger_reading::look;
@@ -8,85 +8,18 @@ use std::alloc::Global;
 use std::process::Abort;
 use std::test::Fail;
 use test_scenes::{deposit, formatted};
-use turn_clerk::{Clerk, OpenRefusal, Reply, TurnRefusal};
-
-// How a course is taken: one turn after another, or as one run.
-#[derive(Clone, Copy, Debug, PartialEq, Eq)]
-enum By {
-    Turns,
-    Run,
-}
 
 // How many outcomes of a power loss there are for all stops: the one without a pending sector, and four for each one
 // that is pending, or for the two lowest and the two highest.
 const OUTCOMES: u32 = 8965;
 
-// What a run met, by the replies behind those that were acknowledged: the first of them tells that the device failed,
-// and each other one that the clerk is faulted.
-fn met_in(rt: &impl Abort, replies: &[Reply], acknowledged: usize) -> Met {
-    let mut met = Met::Nothing;
-    for reply in replies.iter().skip(acknowledged) {
-        let expected = if met == Met::Nothing {
-            TurnRefusal::Device
-        } else {
-            TurnRefusal::Faulted
-        };
-        assert!(rt; *reply == Err(expected));
-        met = Met::InTurn;
-    }
-    met
-}
-
-// Runs the course's events.
-fn run_events(
-    rt: &impl Abort,
-    alloc: Global,
-    clerk: &mut Clerk<Fuse<MemoryDevice>>,
-) -> Result<Course, Fail> {
-    let mut replies = Vec::new(alloc);
-    clerk.run(events(alloc)?.as_slice(), &mut replies)?;
-    let acknowledged = replies.iter().filter(|reply| reply.is_ok()).count();
-    assert!(rt; clerk.history().len() == acknowledged);
-    Ok(Course {
-        acknowledged: acknowledged as u64,
-        met: met_in(rt, replies.as_slice(), acknowledged),
-    })
-}
-
-// The course as one run on a device that stops at this call.
-fn run_course(
-    rt: &impl Abort,
-    alloc: Global,
-    device: Fuse<MemoryDevice>,
-) -> Result<(Fuse<MemoryDevice>, Course), Fail> {
-    match Clerk::open(alloc, device, two_stations(rt, false)) {
-        Ok(mut clerk) => {
-            let course = run_events(rt, alloc, &mut clerk)?;
-            Ok((clerk.into_device(), course))
-        }
-        Err((device, refusal)) => {
-            assert!(rt; refusal == OpenRefusal::Device);
-            let (acknowledged, met) = (0, Met::InOpening);
-            Ok((device, Course { acknowledged, met }))
-        }
-    }
-}
-
 // How many slots each bank has.
 const SLOTS: u64 = 2;
 
 // A course on a device that stops at this call, and what was left of it in the memory device.
-fn stopped(
-    rt: &impl Abort,
-    alloc: Global,
-    by: By,
-    at: u64,
-) -> Result<(MemoryDevice, Course), Fail> {
+fn stopped(rt: &impl Abort, alloc: Global, at: u64) -> Result<(MemoryDevice, Course), Fail> {
     let device = Fuse::new(formatted(alloc, SLOTS)?, Op::Any, at);
-    let (device, course) = match by {
-        By::Turns => take_course(rt, alloc, device, 0),
-        By::Run => run_course(rt, alloc, device)?,
-    };
+    let (device, course) = take_course(rt, alloc, device, 0);
     Ok((device.into_inner(), course))
 }
 
@@ -113,39 +46,28 @@ fn listed(rt: &impl Abort, alloc: Global, device: MemoryDevice) -> Found {
 }
 
 // Every power loss after a stop at this call: where it stopped, and how many power losses there are.
-fn lose_power(rt: &impl Abort, alloc: Global, by: By, at: u64) -> Result<(Met, u32), Fail> {
-    let (device, course) = stopped(rt, alloc, by, at)?;
+fn lose_power(rt: &impl Abort, alloc: Global, at: u64) -> Result<(Met, u32), Fail> {
+    let (device, course) = stopped(rt, alloc, at)?;
     let sectors = at_stake(rt, alloc, &device)?;
     let outcomes = outcomes_of(sectors.as_slice());
     for number in 0..outcomes {
-        let (device, course) = stopped(rt, alloc, by, at)?;
+        let (device, course) = stopped(rt, alloc, at)?;
         let device = device.crash(&picks(alloc, sectors.as_slice(), number)?);
-        assert!(rt;
-            course.allows(listed(rt, alloc, device)),
-            "{by:?} {at} {number}"
-        );
+        assert!(rt; course.allows(listed(rt, alloc, device)), "{at} {number}");
     }
     Ok((course.met, outcomes))
 }
 
-fn lose_power_everywhere(rt: &impl Abort, alloc: Global, by: By) -> Result<(), Fail> {
+#[test]
+fn a_stop_at_each_call_loses_nothing(rt: HostRuntime) -> Result<(), Fail> {
+    let alloc = rt.alloc();
     let mut all = 0u32;
     for at in 0..CALLS {
-        let (met, outcomes) = lose_power(rt, alloc, by, at)?;
+        let (met, outcomes) = lose_power(&rt, alloc, at)?;
         assert!(rt; met != Met::Nothing, "{at}");
         all = all.saturating_add(outcomes);
     }
     assert!(rt; all == OUTCOMES);
-    assert!(rt; lose_power(rt, alloc, by, CALLS)? == (Met::Nothing, 1));
+    assert!(rt; lose_power(&rt, alloc, CALLS)? == (Met::Nothing, 1));
     Ok(())
-}
-
-#[test]
-fn a_stop_at_each_call_loses_nothing(rt: HostRuntime) -> Result<(), Fail> {
-    lose_power_everywhere(&rt, rt.alloc(), By::Turns)
-}
-
-#[test]
-fn a_stop_at_each_call_of_a_run_loses_nothing(rt: HostRuntime) -> Result<(), Fail> {
-    lose_power_everywhere(&rt, rt.alloc(), By::Run)
 }

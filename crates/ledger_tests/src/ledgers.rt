@@ -1,7 +1,7 @@
 //! Worked examples: what is expected was worked out by hand from the rules.
 
 use std::test::Fail;
-use turn_ledger::{ALL_ACCOUNTS, Batch, Entry, EntryRefusal, Ledger, TOTAL_LIMIT};
+use turn_ledger::{Batch, Entry, EntryRefusal, Ledger};
 
 fn deposit(to: u32, amount: u64) -> Entry {
     Entry::Deposit {
@@ -89,15 +89,6 @@ fn the_bytes_of_an_entry(rt: HostRuntime) {
     for (entry, bytes) in table {
         assert!(rt; entry.write() == bytes, "{entry:?}");
     }
-}
-
-#[test]
-fn balances_over_the_limit_are_not_restored(rt: HostRuntime) -> Result<(), Fail> {
-    let mut ledger = Ledger::new(rt.alloc())?;
-    let mut balances = [0; ALL_ACCOUNTS];
-    (balances[0], balances[1]) = (TOTAL_LIMIT, TOTAL_LIMIT);
-    assert!(rt; !ledger.restore(&balances, &[false; ALL_ACCOUNTS]));
-    Ok(())
 }
 
 #[test]

@@ -8,8 +8,6 @@ mod archives;
 #[cfg(test)]
 mod both_banks;
 #[cfg(test)]
-mod copies;
-#[cfg(test)]
 mod listings;
 #[cfg(test)]
 mod old_devices;

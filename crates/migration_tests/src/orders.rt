@@ -45,20 +45,6 @@ fn a_superblock_is_refused_before_all_else(rt: HostRuntime) -> Result<(), Fail> 
     Ok(())
 }
 
-// Each opening answers the versions of the other one.
-#[test]
-fn a_device_of_another_layout_is_told_by_its_version(rt: HostRuntime) -> Result<(), Fail> {
-    use OpenRefusal::Version;
-    let alloc = rt.alloc();
-    let older: [Row; 2] = [
-        (&[(0, 5, 1), (0, 15, 0)], Version(1), &[0]),
-        (&[(0, 5, 2), (0, 15, 0)], Version(2), &[0]),
-    ];
-    first_live(alloc, THIRD)?.expect(&rt, alloc, &older)?;
-    let present: [Row; 1] = [(&[(0, 5, 3), (0, 15, 0)], Version(3), &[0])];
-    Scene::whole(alloc, FIRST)?.expect(&rt, alloc, &present)
-}
-
 // No bank is open; the head of one that is open alone; both heads; that of the second one; and both have one epoch.
 #[test]
 fn banks_are_refused_in_their_order(rt: HostRuntime) -> Result<(), Fail> {

@@ -5,56 +5,11 @@ use sector_device::{MemoryDevice, Sector};
 use std::alloc::Global;
 use std::process::Abort;
 use std::test::Fail;
-use test_scenes::{
-    Image, LAYOUT_1, LAYOUT_3, Rewritten, ZERO, body_of, deposit, seal, sectors_needed,
-};
-use turn_ledger::Entry;
-
-// A device isn't copied to one of so many sectors with four slots in each bank, for this reason.
-fn is_refused(
-    rt: &impl Abort,
-    alloc: Global,
-    old: MemoryDevice,
-    sectors: u64,
-    expected: MigrateRefusal,
-) -> Result<(), Fail> {
-    let mut new = MemoryDevice::new(alloc, sectors)?;
-    let (_, answer) = migrate(alloc, old, &mut new, 4);
-    assert!(rt; answer == Err(expected), "{answer:?}");
-    Ok(())
-}
+use test_scenes::{Rewritten, ZERO, body_of, deposit, sectors_needed};
 
 // What a damaged slot is told as.
 fn damaged(slot: u64, cause: Cause) -> MigrateRefusal {
     MigrateRefusal::Source(OpenRefusal::Damaged { slot, cause })
-}
-
-#[test]
-fn a_device_that_is_no_older_ledger_is_refused(rt: HostRuntime) -> Result<(), Fail> {
-    let alloc = rt.alloc();
-    let old = FIRST.device(alloc)?;
-    is_refused(&rt, alloc, old, 54, MigrateRefusal::TooSmall)?;
-    let old = LAYOUT_3.device(alloc)?;
-    is_refused(
-        &rt,
-        alloc,
-        old,
-        55,
-        MigrateRefusal::Source(OpenRefusal::Version(3)),
-    )?;
-    for (entry, cause) in [
-        (seal(1), Cause::Entry(0)),
-        (deposit(65, 1), Cause::Verdict(0)),
-    ] {
-        let records: [(u16, &[Entry]); 1] = [(0, &[entry])];
-        let image = Image {
-            records: &records,
-            ..LAYOUT_1
-        };
-        let old = image.device(alloc)?;
-        is_refused(&rt, alloc, old, 55, damaged(0, cause))?;
-    }
-    Ok(())
 }
 
 #[test]

@@ -29,8 +29,8 @@ pub fn line<const N: usize>(rt: &impl Abort) -> Line
     Line::from_bits(N as u64, &[false; N], &up).expect(rt, "a line")
 }
 
-/// A device of zeros.
-pub fn zeros(alloc: Global, sectors: u64) -> Result<MemoryDevice, Fail> {
+// A device of zeros.
+fn zeros(alloc: Global, sectors: u64) -> Result<MemoryDevice, Fail> {
     match MemoryDevice::new(alloc, sectors) {
         Ok(device) => Ok(device),
         Err(_) => Ok(MemoryDevice::new(alloc, sectors)?),

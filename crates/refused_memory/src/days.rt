@@ -1,4 +1,6 @@
-//! Days of two stations in threads. Each test holds whatever thread runs when, and where a thread isn't had, too.
+//! A day of two stations in threads. The test holds whatever thread runs when, and is run with each thread refused too:
+//! one that isn't had isn't reported as out of memory, stations run one after another, and one that waits in vain gives
+//! up.
 use crate::beginnings::{formatted, line, told};
 use office_day::{
     Day, DayRefusal, End, HeldEntries, OpenRefusal, Outcome, StationDay, TurnRefusal, run_day,
@@ -54,10 +56,9 @@ fn had<R: Abort + Print + Wait + Threads + Sync>(
     device: MemoryDevice,
     line: Line,
     held: &[HeldEntries; 2],
-    tries: u64,
 ) -> (u64, Day<MemoryDevice>) {
     assert!(rt; line.stations() == 2);
-    let (device, refusal) = match run_day(rt, alloc, device, line, held, 4, tries) {
+    let (device, refusal) = match run_day(rt, alloc, device, line, held, 4, TRIES) {
         Ok(day) => return (0, day),
         Err(refused) => refused,
     };
@@ -70,7 +71,7 @@ fn had<R: Abort + Print + Wait + Threads + Sync>(
     let clerk = found(rt, alloc, device);
     let before = clerk.ledger().total();
     assert!(rt; [(0, 0), (1, 1), (2, 3)].contains(&(clerk.next(), before)));
-    match run_day(rt, alloc, clerk.into_device(), line, held, 4, tries) {
+    match run_day(rt, alloc, clerk.into_device(), line, held, 4, TRIES) {
         Ok(day) => (before, day),
         Err((_, refusal)) => panic!(rt; "{refusal}"),
     }
@@ -116,7 +117,7 @@ fn goes_on<R: Abort + Print + Wait + Threads + Sync>(
     heard: &mut Heard,
 ) -> MemoryDevice {
     let line = clerk.line();
-    let (_, day) = had(rt, alloc, clerk.into_device(), line, held, TRIES);
+    let (_, day) = had(rt, alloc, clerk.into_device(), line, held);
     let Day {
         clerk,
         stations,
@@ -144,7 +145,7 @@ fn a_day_is_had(rt: HostRuntime) -> Result<(), Fail> {
     let alloc = rt.alloc();
     let mut held = [holding(&rt, alloc, 1)?, holding(&rt, alloc, 2)?];
     let device = formatted(&rt, alloc, 4)?;
-    let (before, day) = had(&rt, alloc, device, line::<2>(&rt), &held, TRIES);
+    let (before, day) = had(&rt, alloc, device, line::<2>(&rt), &held);
     let Day {
         clerk,
         stations,
@@ -164,38 +165,5 @@ fn a_day_is_had(rt: HostRuntime) -> Result<(), Fail> {
         goes_on(&rt, alloc, clerk, &held, &mut heard)
     };
     stands(&rt, alloc, device, before, heard);
-    Ok(())
-}
-
-// A thread that isn't had isn't reported as out of memory: stations run one after another, and one that waits in vain
-// gives up. It is run with each thread refused.
-#[test]
-fn a_day_is_had_without_a_thread(rt: HostRuntime) -> Result<(), Fail> {
-    let alloc = rt.alloc();
-    let held = [holding(&rt, alloc, 1)?, holding(&rt, alloc, 2)?];
-    let device = formatted(&rt, alloc, 4)?;
-    let (before, day) = had(&rt, alloc, device, line::<2>(&rt), &held, 1000);
-    let Day {
-        clerk,
-        stations,
-        ..
-    } = day;
-    let mut heard = Heard {
-        posted: 0,
-        undecided: 0,
-    };
-    for station in &stations {
-        hear(&rt, station, &mut heard)?;
-        let lawful = [
-            End::Reached,
-            End::Stopped,
-            End::Tries,
-            End::Refused(TurnRefusal::Memory),
-            End::Refused(TurnRefusal::Device),
-            End::Refused(TurnRefusal::Faulted),
-        ];
-        assert!(rt; lawful.contains(&station.end));
-    }
-    stands(&rt, alloc, clerk.into_device(), before, heard);
     Ok(())
 }

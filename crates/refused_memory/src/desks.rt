@@ -1,9 +1,6 @@
-//! The two sides of a desk, and the flags of a held sync.
+//! The two sides of a desk.
 use crate::beginnings::told;
-use fault_injector::HeldFlags;
 use station_desk::{Answer, Ask, Outcome, desk, reconcile};
-use std::sync::Arc;
-use std::sync::atomic::Ordering;
 use std::test::Fail;
 use test_scenes::deposit;
 
@@ -43,18 +40,5 @@ fn a_desk_is_made_and_reconciled(rt: HostRuntime) -> Result<(), Fail> {
         entry: deposit(1, amount),
     };
     assert!(rt; all.unanswered.as_slice() == [ask(2, 7), ask(3, 8)].as_slice());
-    Ok(())
-}
-
-#[test]
-fn flags_are_shared(rt: HostRuntime) -> Result<(), Fail> {
-    let flags = match Arc::new(rt.alloc(), HeldFlags::new()) {
-        Ok(flags) => flags,
-        Err(_) => {
-            told(&rt, "HeldFlags in an Arc");
-            Arc::new(rt.alloc(), HeldFlags::new()).map_err(|_| "memory")?
-        }
-    };
-    assert!(rt; !flags.begun.load(Ordering::SeqCst) && !flags.go.load(Ordering::SeqCst));
     Ok(())
 }

@@ -13,12 +13,6 @@ mod days;
 #[cfg(test)]
 mod desks;
 #[cfg(test)]
-mod devices;
-#[cfg(test)]
 mod files;
 #[cfg(test)]
 mod offices;
-#[cfg(test)]
-mod scripts;
-#[cfg(test)]
-mod upgrades;

@@ -8,8 +8,6 @@ mod bad_streams;
 #[cfg(test)]
 mod crashes;
 #[cfg(test)]
-mod cutting;
-#[cfg(test)]
 mod damage;
 #[cfg(test)]
 mod day;

@@ -1,53 +1,15 @@
-//! Devices, and what power losses leave of them.
+//! Clerks on devices, and what devices recover to.
 use journal_recovery::{Recovered, recover};
-use sector_device::{Device, MemoryDevice, Picks, SECTOR, Sector};
-use std::alloc::{AllocError, Global};
+use sector_device::{Device, MemoryDevice};
+use std::alloc::Global;
 use std::process::Abort;
-use std::test::Fail;
-use test_scenes::deposit;
-use turn_clerk::{Clerk, Entry, Line, TurnRefusal};
-
-pub const TORN: Sector = [0x77; SECTOR];
+use turn_clerk::{Clerk, Line};
 
 pub fn opened<D: Device>(rt: &impl Abort, alloc: Global, device: D, line: Line) -> Clerk<D> {
     match Clerk::open(alloc, device, line) {
         Ok(clerk) => clerk,
         Err((_, refusal)) => panic!(rt; "{refusal}"),
     }
-}
-
-// A station deposits so much in account 1, by the batch of this number.
-pub fn posts<D: Device>(
-    rt: &impl Abort,
-    clerk: &mut Clerk<D>,
-    station: u8,
-    amount: u64,
-    number: u64,
-) -> Result<(), Fail> {
-    let turn = clerk.turn(station, &[deposit(1, amount)])?;
-    assert!(rt; turn.posted == Some(number));
-    Ok(())
-}
-
-// A station's turn with these entries is refused for this reason.
-pub fn refuses<D: Device>(
-    rt: &impl Abort,
-    clerk: &mut Clerk<D>,
-    station: u8,
-    entries: &[Entry],
-    reason: TurnRefusal,
-) {
-    assert!(rt; clerk.turn(station, entries).err() == Some(reason));
-}
-
-// What a power loss leaves of a device: of the pending sectors these have these bytes.
-pub fn crashed(
-    alloc: Global,
-    device: MemoryDevice,
-    left: &[(u64, Sector)],
-) -> Result<MemoryDevice, AllocError> {
-    let list = left.to_vec(alloc)?;
-    Ok(device.crash(&Picks { list }))
 }
 
 pub fn found_on<D: Device>(rt: &impl Abort, alloc: Global, device: D) -> Recovered<D> {
@@ -61,14 +23,4 @@ pub fn found_on<D: Device>(rt: &impl Abort, alloc: Global, device: D) -> Recover
 pub fn recovered(rt: &impl Abort, alloc: Global, device: MemoryDevice) -> (Option<u64>, u64) {
     let found = found_on(rt, alloc, device);
     (found.ledger.balance(1), found.journal.next())
-}
-
-// The same after a power loss that leaves these bytes.
-pub fn recovered_with(
-    rt: &impl Abort,
-    alloc: Global,
-    device: MemoryDevice,
-    left: &[(u64, Sector)],
-) -> Result<(Option<u64>, u64), AllocError> {
-    Ok(recovered(rt, alloc, crashed(alloc, device, left)?))
 }

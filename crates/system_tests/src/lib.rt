@@ -1,9 +1,7 @@
-//! Tests that need several crates beside each other: failing devices, power losses, what is recovered then, and what is
-//! read.
+//! Tests that need several crates beside each other: a posting behind a power loss, calls without an end, what searches
+//! read, and what programmers are told.
 #![tactic(auto)]
 
-#[cfg(test)]
-mod banks;
 #[cfg(test)]
 mod devices;
 #[cfg(test)]
@@ -11,12 +9,8 @@ mod example;
 #[cfg(test)]
 mod limits;
 #[cfg(test)]
-mod reads;
-#[cfg(test)]
 mod refusals;
 #[cfg(test)]
 mod searches;
 #[cfg(test)]
 mod shown;
-#[cfg(test)]
-mod turns;

@@ -7,7 +7,7 @@ use sector_device::{Device, DeviceFault, MemoryDevice, SECTOR, Sector};
 use std::alloc::Global;
 use std::process::Abort;
 use std::test::Fail;
-use test_scenes::{ZERO, body_of, deposit, formatted, head, line, open_gate, superblock, transfer};
+use test_scenes::{ZERO, body_of, deposit, formatted, head, line, open_gate, superblock};
 use turn_clerk::{Clerk, Event};
 
 // Two stations, the bottom one privileged, over this journal.
@@ -17,49 +17,6 @@ fn two_stations(
     device: MemoryDevice,
 ) -> Result<Clerk<MemoryDevice>, Fail> {
     Ok(opened(rt, alloc, device, line([0, 0], [1, 0])?))
-}
-
-// The sector is filled with this byte, and isn't pending.
-fn is_filled(rt: &impl Abort, device: &mut MemoryDevice, at: u64, byte: u8) -> Result<(), Fail> {
-    let mut found = [0; SECTOR];
-    assert!(rt; at < device.sectors());
-    device.read(at, &mut found)?;
-    assert!(rt; found == [byte; SECTOR]);
-    assert!(rt; !device.pending(at));
-    Ok(())
-}
-
-// Writes so often to the first two sectors by turns, each time the last byte of the number of the write.
-fn write_often(
-    rt: &impl Abort,
-    device: &mut MemoryDevice,
-    writes: u32,
-    syncs_each: bool,
-) -> Result<(), Fail> {
-    for number in 0..writes {
-        assert!(rt; device.sectors() == 3);
-        device.write(u64::from(number % 2), &[number.to_le_bytes()[0]; SECTOR])?;
-        if syncs_each {
-            device.sync()?;
-        }
-    }
-    Ok(())
-}
-
-// Each write is synced by itself, and then one sync makes all of many durable.
-#[test]
-fn a_device_in_memory_takes_450_001_calls(rt: HostRuntime) -> Result<(), Fail> {
-    let mut device = MemoryDevice::new(rt.alloc(), 3)?;
-    write_often(&rt, &mut device, 125_000, true)?;
-    // 124,998 and 124,999 have the last bytes 70 and 71.
-    is_filled(&rt, &mut device, 0, 70)?;
-    is_filled(&rt, &mut device, 1, 71)?;
-    write_often(&rt, &mut device, 200_000, false)?;
-    device.sync()?;
-    // 199,998 and 199,999 have the last bytes 62 and 63.
-    is_filled(&rt, &mut device, 0, 62)?;
-    is_filled(&rt, &mut device, 1, 63)?;
-    is_filled(&rt, &mut device, 2, 0)
 }
 
 // Takes the turn of this number, with a deposit of as much. The first one deposits nothing, and is refused.
@@ -96,26 +53,6 @@ fn a_clerk_takes_300_turns_and_a_run_of_300_events(rt: HostRuntime) -> Result<()
     assert!(rt; (replies.len(), answered) == (300, 300));
     assert!(rt; (clerk.history().len(), clerk.moves().len()) == (600, 600));
     assert!(rt; recovered(&rt, alloc, clerk.into_device()) == (Some(45_150), 599));
-    Ok(())
-}
-
-// Takes a turn with 14 deposits of 7, and a transfer of them all to account 1,024.
-fn take_15_entries(rt: &impl Abort, clerk: &mut Clerk<MemoryDevice>) -> Result<(), Fail> {
-    let mut entries = [deposit(1, 7); 15];
-    entries[14] = transfer(1, 1024, 98);
-    let turn = clerk.turn(0, &entries)?;
-    assert!(rt; (turn.entries.len(), turn.verdicts.accepted()) == (15, 15));
-    assert!(rt; turn.posted == Some(0));
-    Ok(())
-}
-
-#[test]
-fn a_turn_takes_15_accepted_entries(rt: HostRuntime) -> Result<(), Fail> {
-    let mut clerk = two_stations(&rt, rt.alloc(), formatted(rt.alloc(), 1)?)?;
-    take_15_entries(&rt, &mut clerk)?;
-    assert!(rt; clerk.ledger().balance(1024) == Some(98));
-    let ledger = found_on(&rt, rt.alloc(), clerk.into_device()).ledger;
-    assert!(rt; (ledger.balance(1), ledger.balance(1024)) == (Some(0), Some(98)));
     Ok(())
 }
 

@@ -1,6 +1,6 @@
 //! The texts of refusals that name a number or hold another refusal, and of a search that isn't answered.
 use gate_journal::{FormatRefusal, JournalCause, JournalRefusal};
-use journal_recovery::{Cause, OpenRefusal};
+use journal_recovery::OpenRefusal;
 use office_day::{CloseRefusal, DayRefusal};
 use std::alloc::Global;
 use std::fmt::Display;
@@ -41,22 +41,6 @@ fn refusals_of_a_journal_name_the_number(rt: HostRuntime) -> Result<(), Fail> {
         "a bank has at most 1000000 slots",
     );
     read_as(&rt, rt.alloc(), &[many])
-}
-
-#[test]
-fn damages_that_recovery_meets_name_the_place(rt: HostRuntime) -> Result<(), Fail> {
-    let table = [
-        (
-            Cause::Entry(14),
-            "damage at 3: place 14 of a record is no entry",
-        ),
-        (
-            Cause::Verdict(0),
-            "damage at 3: the entry at place 0 of a record breaks a rule of the ledger",
-        ),
-    ];
-    let told = table.map(|(cause, text)| (OpenRefusal::Damaged { slot: 3, cause }, text));
-    read_as(&rt, rt.alloc(), &told)
 }
 
 #[test]

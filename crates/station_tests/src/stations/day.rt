@@ -1,8 +1,8 @@
 //! Days as a library has them.
 use super::TRIES;
-use fault_injector::{OneFault, Op};
 use line_lock::Line;
-use office_day::{Ask, Day, Device, End, HeldEntries, Outcome, StationDay, TurnRefusal, run_day};
+use office_day::{Ask, Day, End, HeldEntries, Outcome, StationDay, run_day};
+use sector_device::MemoryDevice;
 use std::alloc::Global;
 use std::process::Abort;
 use std::sync::Wait;
@@ -11,14 +11,14 @@ use std::thread::Threads;
 use test_scenes::{deposit, formatted, line};
 
 // A day of stations that each hold a deposit of their amount to account 1, or nothing for 0.
-pub(super) fn day_of<D: Device + Send + Drop, R: Abort + Wait + Threads + Sync>(
+pub(super) fn day_of<R: Abort + Wait + Threads + Sync>(
     rt: &R,
     alloc: Global,
-    device: D,
+    device: MemoryDevice,
     line: Line,
     amounts: &[u64],
     moves: u64,
-) -> Result<Day<D>, Fail> {
+) -> Result<Day<MemoryDevice>, Fail> {
     let mut held = Vec::new(alloc);
     for amount in amounts {
         let mut one = HeldEntries::new(alloc)?;
@@ -53,36 +53,6 @@ fn a_day_accounts_for_each_request(rt: HostRuntime) -> Result<(), Fail> {
     assert!(rt; (clerk.ledger().balance(1), stations.len()) == (Some(11), 2));
     answered(&rt, &stations[0], End::Reached, Outcome::Posted(0));
     answered(&rt, &stations[1], End::Reached, Outcome::Posted(1));
-    Ok(())
-}
-
-// The station was told of the fault, or found it, and its deposit has no answer.
-fn unanswered(rt: &impl Abort, station: &StationDay, amount: u64) {
-    let ends = [End::Stopped, End::Refused(TurnRefusal::Faulted)];
-    assert!(rt; ends.contains(&station.end) && station.answers.is_empty());
-    let ask = Ask {
-        ticket: 0,
-        entry: deposit(1, amount),
-    };
-    assert!(rt; station.unanswered.as_slice() == [ask].as_slice());
-}
-
-// The opening syncs once, and then the body of the first record is synced: its gate is never written.
-#[test]
-fn a_station_on_a_failed_device_stops_the_others(rt: HostRuntime) -> Result<(), Fail> {
-    let alloc = rt.alloc();
-    let device = OneFault::new(formatted(alloc, 4)?, Op::Sync, 1);
-    let line = line([0, 0, 0], [1, 0, 0])?;
-    let Day {
-        clerk,
-        stations,
-        ..
-    } = day_of(&rt, alloc, device, line, &[5, 6, 7], 8)?;
-    assert!(rt; clerk.history().is_empty() && clerk.is_faulted() && stations.len() == 3);
-    let failed = End::Refused(TurnRefusal::Device);
-    answered(&rt, &stations[0], failed, Outcome::Undecided);
-    unanswered(&rt, &stations[1], 6);
-    unanswered(&rt, &stations[2], 7);
     Ok(())
 }
 
