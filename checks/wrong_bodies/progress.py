@@ -1,12 +1,13 @@
 """How far a build of the libraries is that runs beside this program."""
 import re
 
-PROVED = re.compile(r"^rt: (\w+) proved$", re.MULTILINE)
+PROVED = re.compile(r"^rt: (\w+) (?:proved$|is kept: )", re.MULTILINE)
 ENDED = re.compile(r"^\d+ passed, \d+ failed$", re.MULTILINE)
 
 
 class Progress:
-    """What a build has proved so far, by what it writes. Without such a file everything is built."""
+    """What a build has proved so far or had kept from an earlier one, by what it writes. Without such a file everything is
+    built."""
 
     def __init__(self, log=None):
         self.log = log
