@@ -1,9 +1,10 @@
 #!/usr/bin/env bash
 # Runs the commands of derbyfig that look at a ledger on files that scripts made, on older and on damaged ones, and
 # compares what they print with what stands in checks/inspections. Looks at their statuses, at what they tell of wrong
-# words and of outputs that fail, at their progress, at the memory that they take on banks of 1,000 and 100,000 slots,
-# and at the options that the man pages and --help name; and compares their balances with those that hledger and ledger
-# find in what is printed for them, if both are on the machine. One line for each, and status 1 at the first difference.
+# words, of scripts that can't be read and of outputs that fail, at their progress, at the memory that they take on banks
+# of 1,000 and 100,000 slots, and at the options that the man pages and --help name; and compares their balances with
+# those that hledger and ledger find in what is printed for them, if both are on the machine. One line for each, and
+# status 1 at the first difference.
 # Words: the built turn_console, and the built derbyfig.
 set -euo pipefail
 console=$(realpath "${1:?the first word is the built turn_console}")
