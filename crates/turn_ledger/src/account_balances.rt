@@ -1,6 +1,4 @@
 //! The accounts of a ledger, one after another.
-ghost use Rattle.std.specs.Prelude.{◌≡◌};
-ghost use Rattle.turn_ledger.specs.AccountList.{accounts_of};
 
 use crate::Ledger;
 use std::marker::Model;
@@ -9,9 +7,9 @@ use std::marker::Model;
 /// [`Ledger::accounts`] gives it.
 #[derive(Debug, Drop)]
 pub struct AccountBalances<'a> {
-    ledger: &'a Ledger,
+    pub(crate) ledger: &'a Ledger,
     // the account that comes next
-    next: u32,
+    pub(crate) next: u32,
 }
 
 impl<'a> Model for AccountBalances<'a> {
@@ -24,15 +22,6 @@ impl<'a> Model for AccountBalances<'a> {
     ghost view = { λ all. accounts_from all.ledger.now all.next };
 
     ghost invariant = { λ all. (1 ≤ all.next) × (all.next ≤ ACCOUNTS + 1) };
-}
-
-impl<'a> AccountBalances<'a> {
-    // All accounts of the ledger.
-    pub(crate) fn of(ledger: &'a Ledger) -> AccountBalances<'a>
-        ensures { result ≡ accounts_of ledger.now }
-    {
-        AccountBalances { ledger, next: 1 }
-    }
 }
 
 impl<'a> Iterator for AccountBalances<'a> {

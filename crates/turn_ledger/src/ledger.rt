@@ -119,7 +119,10 @@ impl Ledger {
     pub fn accounts(&self) -> AccountBalances<'_>
         ensures { result ≡ accounts_of self.now }
     {
-        AccountBalances::of(self)
+        AccountBalances {
+            ledger: self,
+            next: 1,
+        }
     }
 
     /// What all accounts hold together: at most [`TOTAL_LIMIT`].
