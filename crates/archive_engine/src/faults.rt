@@ -11,7 +11,7 @@ use std::fmt;
 use thiserror::Error;
 
 /// Why an archive's folder can't be had.
-#[derive(Clone, Copy, Debug, PartialEq, Eq, Error)]
+#[derive(Clone, Copy, Debug, Error)]
 pub enum FolderFault {
     /// There is none.
     #[error("there is no such folder; make it first")]
@@ -28,7 +28,7 @@ pub enum FolderFault {
 }
 
 /// What is wrong with an archive's newest ledger.
-#[derive(Clone, Copy, Debug, PartialEq, Eq, Error)]
+#[derive(Clone, Copy, Debug, Error)]
 pub enum NewestFault {
     /// It can't be looked at.
     #[error("{0}")]
@@ -42,7 +42,7 @@ pub enum NewestFault {
 }
 
 /// A ledger of an archive, whose name is the number of its first batch in twenty digits.
-#[derive(Clone, Copy, Debug, PartialEq, Eq)]
+#[derive(Clone, Copy, Debug)]
 pub struct Volume<'a> {
     pub folder: &'a str,
     pub base: u64,
@@ -55,7 +55,7 @@ impl fmt::Display for Volume<'_> {
 }
 
 /// Why an archive doesn't have all that its ledger lists, or can't be read. What was added before stands.
-#[derive(Clone, Copy, Debug, PartialEq, Eq, Error)]
+#[derive(Clone, Copy, Debug, Error)]
 pub enum ArchiveFault<'a> {
     /// There is no memory.
     #[error("out of memory")]
