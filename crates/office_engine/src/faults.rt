@@ -17,7 +17,7 @@ use std::fmt;
 use thiserror::Error;
 
 /// A counter's pipe that can't be used.
-#[derive(Clone, Copy, Debug, PartialEq, Eq)]
+#[derive(Clone, Copy, Debug)]
 pub struct PipeFault<'a> {
     /// The counter's folder.
     pub folder: &'a str,
@@ -41,7 +41,7 @@ impl fmt::Display for PipeFault<'_> {
 }
 
 /// Why an office was closed by a fault, or never opened.
-#[derive(Clone, Copy, Debug, PartialEq, Eq, Error)]
+#[derive(Clone, Copy, Debug, Error)]
 pub enum OfficeFault<'a> {
     /// There is no memory.
     #[error("out of memory")]

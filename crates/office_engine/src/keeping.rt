@@ -74,24 +74,58 @@ pub fn serve<
     let counters = open_counters(rt, alloc, serving, terminal)?;
     let mut output = Output::new(alloc, writer)?;
     let device = open_device(rt, alloc, serving, plan.formatting, &mut output)?;
-    if !are_threads_granted(rt, alloc, plan.stations, counters.len())? {
+    let office = Unopened { device, counters };
+    serve_on(rt, alloc, serving, plan.stations, office, &mut output)
+}
+
+// What an office is opened on.
+#[derive(Drop)]
+struct Unopened<I: Read, O: Write> {
+    device: FileDevice,
+    counters: Vec<AnyCounter<I, O>>,
+}
+
+// The same on an open device, for counters whose pipes are open.
+fn serve_on<
+    'a,
+    R: Runtime,
+    I: Read + Send + Drop + 'static,
+    O: Write + Send + Drop + 'static,
+    W: Write,
+>(
+    rt: &R,
+    alloc: Global,
+    serving: &Serving<'a>,
+    stations: u64,
+    office: Unopened<I, O>,
+    output: &mut Output<'_, W>,
+) -> Result<(), OfficeFault<'a>> {
+    if !are_threads_granted(rt, alloc, stations, office.counters.len())? {
         return Err(OfficeFault::Threads);
     }
     let mut archivist = Archivist::open(rt, alloc, serving)?;
+    let Unopened { device, counters } = office;
     let (device, _) = archivist.add(device)?;
-    let opened = tell_opened(alloc, serving.path, device, plan.stations, &mut output)?;
+    let opened = tell_opened(alloc, serving.path, device, stations, output)?;
     let Opened {
         device,
         line,
         slots,
     } = opened;
     let moves = turns_of_span(slots, serving.archive.is_some());
-    let kept = keep_open(rt, alloc, device, line, counters, moves, archivist);
-    let (closed, mut archivist) = match kept {
-        Ok(both) => both,
-        Err((_, refusal)) => return Err(OfficeFault::from(refusal)),
-    };
-    let device = tell_closed(closed, &mut output)?;
+    match keep_open(rt, alloc, device, line, counters, moves, archivist) {
+        Ok((closed, archivist)) => end(closed, archivist, output),
+        Err((_, refusal)) => Err(OfficeFault::from(refusal)),
+    }
+}
+
+// Tells how the office ended, and adds to its archive what that lacks.
+fn end<'a, R: Runtime, W: Write>(
+    closed: Closed<FileDevice>,
+    mut archivist: Archivist<'a, '_, R>,
+    output: &mut Output<'_, W>,
+) -> Result<(), OfficeFault<'a>> {
+    let device = tell_closed(closed, output)?;
     if let Some(fault) = archivist.fault() {
         return Err(OfficeFault::from(fault));
     }

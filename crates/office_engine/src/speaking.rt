@@ -13,7 +13,7 @@ use std::time::Clock;
 use thiserror::Error;
 
 /// Why an office isn't spoken at, or doesn't do what it is asked.
-#[derive(Clone, Copy, Debug, PartialEq, Eq, Error)]
+#[derive(Clone, Copy, Debug, Error)]
 pub enum ControlFault<'a> {
     /// The counter's pipe can't be used.
     #[error("{0}")]

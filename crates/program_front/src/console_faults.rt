@@ -18,7 +18,7 @@ pub struct RefusedDisk<'a> {
 }
 
 /// Why the program ended before its script did.
-#[derive(Clone, Copy, Debug, PartialEq, Eq, Error)]
+#[derive(Clone, Copy, Debug, Error)]
 pub enum ProgramFault<'a> {
     /// The file that is the device couldn't be opened, made or grown.
     #[error("device failed")]

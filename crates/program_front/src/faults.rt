@@ -37,7 +37,7 @@ impl fmt::Display for MigrationFault {
 }
 
 /// Why a command of `derbyfig` ended before it was done.
-#[derive(Clone, Copy, Debug, PartialEq, Eq, Error)]
+#[derive(Clone, Copy, Debug, Error)]
 pub enum Fault<'a> {
     /// The script ended early, or there is no memory, or the output can't be written.
     #[error("{0}")]
