@@ -17,7 +17,7 @@ from places import path_at
 from stubs import leave_out
 
 # So few edits are tried at once that no processor is left alone with many of them.
-MOST_AT_ONCE = 30
+MOST_AT_ONCE = 40
 
 
 @dataclass(frozen=True)
