@@ -1,4 +1,4 @@
-use Rattle.std.proofs.Common.{◌≡◌, ◌≢◌, ◌∙◌, ap, subst, rules}
+use Rattle.std.proofs.Common.{◌≡◌, ◌≢◌, ◌∙◌, ap, subst}
 use Rattle.sector_device.specs.Image.{Image}
 use Rattle.gate_journal.specs.OldLayouts.{OldRefuses}
 use Rattle.gate_journal.specs.declared.refusals.JournalRefusal.TheVariants.{Device}
@@ -11,7 +11,7 @@ use Rattle.ledger_reading.proofs.sound.look_at_old.Goals as goal
 pub returns-in-Ok-open-clause-recovers : goal.returns-in-Ok-open-clause-recovers
 returns-in-Ok-open-clause-recovers g c honest =
     let image = (g.D.Device.state c.args.device).reads in
-    let recovers : OldRecoversTo (old_state c.in-Ok.found) image = search rules in
+    let recovers : OldRecoversTo (old_state c.in-Ok.found) image = rw c.in-Ok.is at (c.read_old-device.ensures.recovers honest) in
     let still : (g.D.Device.state c.read_old-device.result.0).honest = c.read_old-device.ensures.call.stays_honest honest in
     let same : (g.D.Device.state c.in-Ok-open.journal.device).reads ≡ image = (c.in-Ok-open.ensures.looks still).reads ∙ (c.read_old-device.ensures.looks honest).reads in
     let some = c.in-Ok-open.ensures.found still in
@@ -21,7 +21,7 @@ returns-in-Ok-open-clause-recovers g c honest =
 pub returns-in-Ok-open-clause-holds : goal.returns-in-Ok-open-clause-holds
 returns-in-Ok-open-clause-holds g c honest =
     let image = (g.D.Device.state c.args.device).reads in
-    let recovers : OldRecoversTo (old_state c.in-Ok.found) image = search rules in
+    let recovers : OldRecoversTo (old_state c.in-Ok.found) image = rw c.in-Ok.is at (c.read_old-device.ensures.recovers honest) in
     let still : (g.D.Device.state c.read_old-device.result.0).honest = c.read_old-device.ensures.call.stays_honest honest in
     let same : (g.D.Device.state c.in-Ok-open.journal.device).reads ≡ image = (c.in-Ok-open.ensures.looks still).reads ∙ (c.read_old-device.ensures.looks honest).reads in
     let some = c.in-Ok-open.ensures.found still in
@@ -31,7 +31,7 @@ returns-in-Ok-open-clause-holds g c honest =
 pub returns-in-Err-open-clause-refused : goal.returns-in-Err-open-clause-refused
 returns-in-Err-open-clause-refused g c honest no_memory other =
     let image = (g.D.Device.state c.args.device).reads in
-    let recovers : OldRecoversTo (old_state c.in-Ok.found) image = search rules in
+    let recovers : OldRecoversTo (old_state c.in-Ok.found) image = rw c.in-Ok.is at (c.read_old-device.ensures.recovers honest) in
     let still : (g.D.Device.state c.read_old-device.result.0).honest = c.read_old-device.ensures.call.stays_honest honest in
     let not_device : c.in-Err-open.refusal ≢ Device = λ is. other (c.from.ensures ∙ ap refusal_of is) in
     let refuses : OldRefuses image c.in-Err-open.refusal = subst (λ (sectors : Image). OldRefuses sectors c.in-Err-open.refusal) (c.read_old-device.ensures.looks honest).reads
