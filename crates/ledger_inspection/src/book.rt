@@ -61,7 +61,7 @@ impl BookTask {
 }
 
 /// A ledger of a book.
-#[derive(Clone, Copy, Debug, PartialEq, Eq)]
+#[derive(Clone, Copy, Debug)]
 pub(crate) enum Part<'a> {
     /// In a file or on a disk.
     File(&'a str),
