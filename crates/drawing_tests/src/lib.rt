@@ -9,8 +9,4 @@ mod drawings;
 #[cfg(test)]
 mod images;
 #[cfg(test)]
-mod older;
-#[cfg(test)]
 mod slots;
-#[cfg(test)]
-mod superblocks;

@@ -1,6 +1,6 @@
 // What an opening asks of a block device, and which it refuses.
 use crate::fake_disk::{Asked, Disk, Limits, WHOLE};
-use file_device::{Device, DeviceNumber, DeviceRefusal, DiskFault, FileFault, FileRefusal, SECTOR};
+use file_device::{Device, DeviceNumber, DeviceRefusal, DiskFault, FileFault, SECTOR};
 use std::alloc::Global;
 use std::process::Abort;
 use std::test::Fail;
@@ -52,14 +52,16 @@ fn bytes_of(alloc: Global, held: Held) -> Result<Vec<u8>, Fail> {
     Ok(bytes)
 }
 
-// Opens such a disk with at least 300 sectors, and gives how many it has and what was asked of it. It keeps its bytes.
-fn opened(
+// Such a disk is opened, to be written over or not, with at least 300 sectors. That comes to how many it has, or to a
+// refusal; where steps are given they were asked of it; and it keeps its bytes.
+fn is_answered(
     rt: &impl Abort,
     alloc: Global,
     held: Held,
-    limits: Limits,
-    overwrite: bool,
-) -> Result<(Result<u64, DeviceRefusal>, Vec<Asked>), Fail> {
+    (limits, overwrite): (Limits, bool),
+    wanted: Result<u64, DeviceRefusal>,
+    steps: Option<&[Asked]>,
+) -> Result<(), Fail> {
     let disk = Disk::new(alloc, "/dev/ledger", "/dev", limits);
     disk.holds(bytes_of(alloc, held)?);
     let device = if overwrite {
@@ -69,9 +71,9 @@ fn opened(
     };
     let outcome = device.map(|device| device.sectors());
     let asked = disk.take_asked();
-    let kept = disk.take_bytes().expect(rt, "the disk");
-    assert!(rt; kept == bytes_of(alloc, held)?);
-    Ok((outcome, asked))
+    assert!(rt; outcome == wanted && asked.as_slice() == steps.unwrap_or(asked.as_slice()));
+    assert!(rt; disk.take_bytes() == Some(bytes_of(alloc, held)?));
+    Ok(())
 }
 
 const BLANK: Held<'static> = Held {
@@ -80,12 +82,21 @@ const BLANK: Held<'static> = Held {
     rest: 0,
 };
 
+// Where no step fails it is locked, looked at and synced.
 #[test]
-fn a_disk_is_locked_looked_at_and_synced(rt: HostRuntime) -> Result<(), Fail> {
-    let (outcome, asked) = opened(&rt, rt.alloc(), BLANK, WHOLE_DISK, false)?;
-    assert!(rt; (outcome, asked.as_slice()) == (Ok(400), LOOKED_AT.as_slice()));
-    let (outcome, asked) = opened(&rt, rt.alloc(), BLANK, WHOLE_DISK, true)?;
-    assert!(rt; (outcome, asked.as_slice()) == (Ok(400), OVERWRITTEN.as_slice()));
+fn where_a_step_fails_a_disk_is_refused(rt: HostRuntime) -> Result<(), Fail> {
+    let alloc = rt.alloc();
+    for fails in 0..=LOOKED_AT.len() {
+        let limits = Limits {
+            fails,
+            ..WHOLE_DISK
+        };
+        let (wanted, steps) = match LOOKED_AT.get(..=fails) {
+            Some(steps) => (Err(DeviceRefusal::File(FileFault::Failed)), steps),
+            None => (Ok(400), LOOKED_AT.as_slice()),
+        };
+        is_answered(&rt, alloc, BLANK, (limits, false), wanted, Some(steps))?;
+    }
     Ok(())
 }
 
@@ -106,33 +117,34 @@ fn a_disk_is_taken_where_it_holds_a_ledger_or_nothing(rt: HostRuntime) -> Result
             begin,
             rest,
         };
-        let (outcome, _asked) = opened(&rt, rt.alloc(), held, WHOLE_DISK, false)?;
-        assert!(rt; outcome == wanted, "{sectors} {rest}");
-        let (outcome, _asked) = opened(&rt, rt.alloc(), held, WHOLE_DISK, true)?;
-        let enough = if sectors < 300 {
-            Err(TOO_SMALL)
-        } else {
-            Ok(300)
-        };
-        assert!(rt; outcome == enough, "{sectors} {rest}");
+        is_answered(&rt, rt.alloc(), held, (WHOLE_DISK, false), wanted, None)?;
     }
     Ok(())
 }
 
+// Whatever it holds, but for one that is too small.
 #[test]
-fn where_a_step_fails_a_disk_is_refused(rt: HostRuntime) -> Result<(), Fail> {
-    for fails in 0..LOOKED_AT.len() {
-        let limits = Limits {
-            fails,
-            ..WHOLE_DISK
-        };
-        let (outcome, asked) = opened(&rt, rt.alloc(), BLANK, limits, false)?;
-        assert!(rt; outcome == Err(DeviceRefusal::File(FileFault::Failed)));
-        assert!(rt;
-            Some(asked.as_slice()) == LOOKED_AT.get(..=fails),
-            "{fails}"
-        );
+fn a_disk_alone_is_written_over(rt: HostRuntime) -> Result<(), Fail> {
+    let full = Held {
+        sectors: 300,
+        begin: b"TLDF",
+        rest: 7,
+    };
+    let small = Held {
+        sectors: 299,
+        ..full
+    };
+    let no_disk = DeviceRefusal::Disk(DiskFault::NoDisk);
+    for (held, limits, wanted, steps) in [
+        (full, WHOLE_DISK, Ok(300), Some(OVERWRITTEN.as_slice())),
+        (small, WHOLE_DISK, Err(TOO_SMALL), None),
+        (full, WHOLE, Err(no_disk), OVERWRITTEN.get(..4)),
+    ] {
+        is_answered(&rt, rt.alloc(), held, (limits, true), wanted, steps)?;
     }
+    let disk = Disk::new(rt.alloc(), "ledger", ".", WHOLE);
+    let missing = DeviceRefusal::File(FileFault::Missing);
+    assert!(rt; disk.overwrite(300).err() == Some(missing) && disk.take_bytes().is_none());
     Ok(())
 }
 
@@ -154,21 +166,8 @@ fn a_disk_that_is_mounted_is_refused(rt: HostRuntime) -> Result<(), Fail> {
             mounts,
             ..WHOLE_DISK
         };
-        let (outcome, _asked) = opened(&rt, rt.alloc(), BLANK, limits, false)?;
-        assert!(rt; outcome == wanted);
+        is_answered(&rt, rt.alloc(), BLANK, (limits, false), wanted, None)?;
     }
-    Ok(())
-}
-
-#[test]
-fn what_is_no_disk_is_not_written_over(rt: HostRuntime) -> Result<(), Fail> {
-    let no_disk = DeviceRefusal::Disk(DiskFault::NoDisk);
-    let (outcome, asked) = opened(&rt, rt.alloc(), BLANK, WHOLE, true)?;
-    assert!(rt; (outcome, Some(asked.as_slice())) == (Err(no_disk), OVERWRITTEN.get(..4)));
-    let disk = Disk::new(rt.alloc(), "ledger", ".", WHOLE);
-    let missing = DeviceRefusal::File(FileFault::Missing);
-    assert!(rt; disk.overwrite(300).err() == Some(missing));
-    assert!(rt; disk.take_bytes().is_none());
     Ok(())
 }
 
@@ -184,32 +183,6 @@ fn a_number_is_printed_as_the_system_does(rt: HostRuntime) -> Result<(), Fail> {
     for (word, text) in table {
         let number = DeviceNumber::from(word);
         assert!(rt; number.to_string(rt.alloc())?.as_str() == text);
-    }
-    Ok(())
-}
-
-#[test]
-fn faults_of_disks_have_texts(rt: HostRuntime) -> Result<(), Fail> {
-    let table = [
-        (
-            DiskFault::Denied,
-            "it is a disk that may not be read and written",
-        ),
-        (DiskFault::InUse, "it is a disk that is in use"),
-        (DiskFault::TooSmall, "it is a disk with too few sectors"),
-        (
-            DiskFault::NoLedger,
-            "it is a disk that holds no ledger; --overwrite takes it all the same",
-        ),
-        (
-            DiskFault::NoDisk,
-            "it is no disk, and --overwrite is for disks alone",
-        ),
-    ];
-    for (fault, text) in table {
-        let refusal = DeviceRefusal::Disk(fault);
-        assert!(rt; refusal.to_string(rt.alloc())?.as_str() == text);
-        assert!(rt; FileRefusal::from(refusal) == FileRefusal::File);
     }
     Ok(())
 }

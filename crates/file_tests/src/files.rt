@@ -1,5 +1,5 @@
 //! Real files.
-use file_device::{Device, DeviceFault, FileDevice, FileRefusal, SECTOR, Sector};
+use file_device::{Device, DeviceFault, FileDevice, SECTOR, Sector};
 use std::fs;
 use std::fs::{File, Files};
 use std::os::unix::fs::FileExt;
@@ -97,22 +97,5 @@ fn a_file_is_made_and_grown_and_never_cut(rt: HostRuntime) -> Result<(), Fail> {
         assert!(rt; fs::metadata(&rt, GROWN)?.len() == found * 512);
     }
     fs::remove_dir_all(&rt, "file_device_grown")?;
-    Ok(())
-}
-
-fn is_refused<R: Files<File = File> + AllocGlobal + Abort>(rt: &R, path: &str, sectors: u64) {
-    let refused = FileDevice::open(rt, rt.alloc(), path, sectors).err();
-    assert!(rt; refused == Some(FileRefusal::File), "{path:?}");
-}
-
-#[test]
-fn what_can_not_be_made_is_refused(rt: HostRuntime) -> Result<(), Fail> {
-    make_folder(&rt, "file_device_unmade")?;
-    is_refused(&rt, "file_device_unmade/missing/sectors", 1);
-    is_refused(&rt, "file_device_unmade/huge", 1 << 54);
-    is_refused(&rt, "file_device_unmade/most", u64::MAX);
-    is_refused(&rt, "", 1);
-    assert!(rt; !fs::exists(&rt, "file_device_unmade/huge")?);
-    fs::remove_dir_all(&rt, "file_device_unmade")?;
     Ok(())
 }

@@ -15,23 +15,34 @@ fn with_five(alloc: Global, limits: Limits) -> Result<Disk<'static>, Fail> {
     Ok(disk)
 }
 
-fn expect_asked(rt: &impl Abort, disk: &Disk, steps: &[Asked]) {
-    assert!(rt; disk.take_asked().as_slice() == steps);
+// A look at a file of five sectors comes to this, and asks for these steps.
+fn looks(
+    rt: &impl Abort,
+    alloc: Global,
+    (limits, locking): (Limits, Locking),
+    wanted: Result<u64, FileFault>,
+    steps: Option<&[Asked]>,
+) -> Result<(), Fail> {
+    let disk = with_five(alloc, limits)?;
+    let outcome = disk.look(locking).map(|device| device.sectors());
+    assert!(rt; outcome == wanted && Some(disk.take_asked().as_slice()) == steps);
+    Ok(())
 }
 
 #[test]
 fn a_look_locks_and_asks_for_nothing_else(rt: HostRuntime) -> Result<(), Fail> {
-    let disk = with_five(rt.alloc(), WHOLE)?;
-    assert!(rt; disk.look(Locking::Shared)?.sectors() == 5);
-    expect_asked(&rt, &disk, &STEPS);
-    assert!(rt; disk.look(Locking::Unlocked)?.sectors() == 5);
-    expect_asked(&rt, &disk, &[Asked::OpenToRead, Asked::Look]);
-    disk.limit(Limits {
+    let disk = Limits {
         is_disk: true,
         ..WHOLE
-    });
-    assert!(rt; disk.look(Locking::Unlocked)?.sectors() == 5);
-    expect_asked(&rt, &disk, &[Asked::OpenToRead, Asked::Look, Asked::End]);
+    };
+    let of_a_disk = [Asked::OpenToRead, Asked::Look, Asked::End];
+    for (limits, locking, steps) in [
+        (WHOLE, Locking::Shared, Some(STEPS.as_slice())),
+        (WHOLE, Locking::Unlocked, of_a_disk.get(..2)),
+        (disk, Locking::Unlocked, Some(of_a_disk.as_slice())),
+    ] {
+        looks(&rt, rt.alloc(), (limits, locking), Ok(5), steps)?;
+    }
     Ok(())
 }
 
@@ -50,12 +61,8 @@ fn each_failed_step_of_a_look_is_told(rt: HostRuntime) -> Result<(), Fail> {
             reason,
             ..WHOLE
         };
-        let disk = with_five(rt.alloc(), limits)?;
-        assert!(rt;
-            disk.look(Locking::Shared).err() == Some(refusal),
-            "{fails}"
-        );
-        expect_asked(&rt, &disk, STEPS.get(..asked).unwrap_or(&[]));
+        let how = (limits, Locking::Shared);
+        looks(&rt, rt.alloc(), how, Err(refusal), STEPS.get(..asked))?;
     }
     Ok(())
 }

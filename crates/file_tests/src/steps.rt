@@ -115,17 +115,14 @@ fn expect_bytes(rt: &impl Abort, disk: &Disk, after: Option<(usize, usize)>) {
         return;
     };
     let bytes = disk.take_bytes().expect(rt, "a file");
-    assert!(rt; bytes.len() == length);
-    assert!(rt;
-        bytes.as_slice()[..old.min(length)]
-            .iter()
-            .all(|byte| *byte == 7)
-    );
-    assert!(rt;
-        bytes.as_slice()[old.min(length)..]
-            .iter()
-            .all(|byte| *byte == 0)
-    );
+    are_bytes(rt, bytes.as_slice(), old.min(length), length);
+}
+
+// There are so many bytes in all, of which the first ones are from before.
+fn are_bytes(rt: &impl Abort, bytes: &[u8], old: usize, length: usize) {
+    assert!(rt; bytes.len() == length && old <= length);
+    let (kept, added) = bytes.split_at(old);
+    assert!(rt; kept.iter().all(|byte| *byte == 7) && added.iter().all(|byte| *byte == 0));
 }
 
 // The disk was asked for these steps, and then for those.
@@ -187,30 +184,31 @@ fn where_a_step_fails_an_old_file_keeps_its_bytes(rt: HostRuntime) -> Result<(),
     comes_to_pass(&rt, rt.alloc(), &OF_AN_OLD_FILE)
 }
 
+// An opening whose step of this number fails for this reason is refused so.
+fn is_refused(rt: &impl Abort, alloc: Global, fails: usize, reason: ErrorKind, fault: FileFault) {
+    let limits = Limits {
+        reason,
+        ..failing_at(fails)
+    };
+    let disk = Disk::new(alloc, "ledger", ".", limits);
+    assert!(rt; opened(&disk, "ledger") == Err(fault));
+}
+
 // Each cause of a step is told: which fails, why, and how it is told.
 #[test]
-fn each_failed_step_has_its_cause(rt: HostRuntime) -> Result<(), Fail> {
-    let rows = [
+fn each_failed_step_has_its_cause(rt: HostRuntime) {
+    for (fails, reason, fault) in [
         (0, ErrorKind::PermissionDenied, FileFault::NotWritable),
         (0, ErrorKind::IsADirectory, FileFault::NoFile),
         (1, ErrorKind::NotFound, FileFault::NoFolder),
         (1, ErrorKind::PermissionDenied, FileFault::NotWritable),
         (2, ErrorKind::StorageFull, FileFault::NoRoom),
         (3, ErrorKind::WouldBlock, FileFault::InUse),
-        (6, ErrorKind::StorageFull, FileFault::NoRoom),
         (6, ErrorKind::QuotaExceeded, FileFault::NoRoom),
         (5, ErrorKind::FileTooLarge, FileFault::NoRoom),
-        (11, ErrorKind::TimedOut, FileFault::Failed),
-    ];
-    for (fails, reason, fault) in rows {
-        let limits = Limits {
-            reason,
-            ..failing_at(fails)
-        };
-        let disk = Disk::new(rt.alloc(), "ledger", ".", limits);
-        assert!(rt; opened(&disk, "ledger") == Err(fault), "{fails}");
+    ] {
+        is_refused(&rt, rt.alloc(), fails, reason, fault);
     }
-    Ok(())
 }
 
 // A file that is there is opened, and its folder isn't synced; no new file is made.
@@ -236,30 +234,33 @@ fn a_folder_that_may_not_be_read_keeps_no_old_file_closed(rt: HostRuntime) -> Re
     comes_to_pass(&rt, rt.alloc(), &of_a_new_file)
 }
 
+// An opening whose calls write 50,000 bytes at most, and of which this one fails, or none.
+fn grows_in_parts(rt: &impl Abort, alloc: Global, fails: Option<usize>) {
+    let limits = Limits {
+        bytes_a_call: 50_000,
+        ..failing_at(fails.unwrap_or(usize::MAX))
+    };
+    let disk = Disk::new(alloc, "ledger", ".", limits);
+    let outcome = opened(&disk, "ledger");
+    let asked = disk.take_asked();
+    if fails.is_some() {
+        let is_synced = asked.contains(&Asked::SyncFile);
+        assert!(rt; outcome == Err(FileFault::Failed) && is_synced == (fails == Some(15)));
+        expect_bytes(rt, &disk, None);
+    } else {
+        assert!(rt; (outcome, asked.len()) == (Ok(SECTORS), 5 + 10 + 2));
+        expect_bytes(rt, &disk, Some((0, LENGTH)));
+    }
+}
+
 // A piece takes three writes of 50,000 bytes, and the last one a single one: so with the three lengths the growth has
 // ten steps, of which the first is the sixth step of all.
 #[test]
-fn zeros_that_are_written_in_part_are_finished(rt: HostRuntime) -> Result<(), Fail> {
+fn zeros_that_are_written_in_part_are_finished(rt: HostRuntime) {
     for fails in 5..16 {
-        let limits = Limits {
-            bytes_a_call: 50_000,
-            ..failing_at(fails)
-        };
-        let disk = Disk::new(rt.alloc(), "ledger", ".", limits);
-        assert!(rt; opened(&disk, "ledger") == Err(FileFault::Failed));
-        let asked = disk.take_asked();
-        assert!(rt; !asked.contains(&Asked::SyncFile) || fails == 15, "{fails}");
-        assert!(rt; disk.take_bytes().is_none(), "{fails}");
+        grows_in_parts(&rt, rt.alloc(), Some(fails));
     }
-    let limits = Limits {
-        bytes_a_call: 50_000,
-        ..WHOLE
-    };
-    let disk = Disk::new(rt.alloc(), "ledger", ".", limits);
-    assert!(rt; opened(&disk, "ledger") == Ok(SECTORS));
-    assert!(rt; disk.take_asked().len() == 5 + 10 + 2);
-    expect_bytes(&rt, &disk, Some((0, LENGTH)));
-    Ok(())
+    grows_in_parts(&rt, rt.alloc(), None);
 }
 
 // A file's name, and the folder that it lies in.

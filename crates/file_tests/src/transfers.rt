@@ -73,47 +73,50 @@ fn shows_two_sectors(rt: &impl Abort, file: &mut SectorFile<Opened>) -> Result<(
 }
 
 // Each call is one call of the system, and where that moves only a part, the rest is asked for.
-#[test]
-fn what_is_moved_in_part_is_finished(rt: HostRuntime) -> Result<(), Fail> {
-    let disk = Disk::new(rt.alloc(), "ledger", ".", WHOLE);
-    let mut file = new_sectors(&disk)?;
-    one_call_of_each(&rt, &mut file)?;
+fn moves_all(rt: &impl Abort, disk: &Disk, file: &mut SectorFile<Opened>) -> Result<(), Fail> {
+    one_call_of_each(rt, file)?;
     let expected = [
         Asked::Write(1024, 512),
         Asked::Read(512, 512),
         Asked::SyncData,
         Asked::Read(0, 2560),
     ];
-    was_asked(&rt, &disk, &expected);
+    was_asked(rt, disk, &expected);
     disk.limit(in_parts(usize::MAX));
-    write_at(&rt, &mut file, 1, &sector_of(1))?;
-    was_asked(&rt, &disk, &WRITES);
-    expect_sector(&rt, &mut file, 1, &sector_of(1))?;
-    was_asked(&rt, &disk, &READS);
-    shows_two_sectors(&rt, &mut file)?;
+    write_at(rt, file, 1, &sector_of(1))?;
+    was_asked(rt, disk, &WRITES);
+    expect_sector(rt, file, 1, &sector_of(1))?;
+    was_asked(rt, disk, &READS);
+    shows_two_sectors(rt, file)?;
+    let _ = disk.take_asked();
     Ok(())
 }
 
 // A write and a read take six calls, all five sectors 26.
-#[test]
-fn a_part_that_fails_is_told(rt: HostRuntime) -> Result<(), Fail> {
-    let disk = Disk::new(rt.alloc(), "ledger", ".", WHOLE);
-    let mut file = new_sectors(&disk)?;
+fn tells_of_faults(rt: &impl Abort, disk: &Disk, file: &mut SectorFile<Opened>) {
     for fails in 0..6 {
         disk.limit(in_parts(fails));
-        assert!(rt; write_at(&rt, &mut file, 1, &sector_of(1)).is_err());
-        was_asked(&rt, &disk, &WRITES[..=fails]);
-        assert!(rt; read_at(&rt, &mut file, 1).is_err());
-        was_asked(&rt, &disk, &READS[..=fails]);
+        assert!(rt; write_at(rt, file, 1, &sector_of(1)).is_err());
+        was_asked(rt, disk, &WRITES[..=fails]);
+        assert!(rt; read_at(rt, file, 1).is_err());
+        was_asked(rt, disk, &READS[..=fails]);
     }
     let mut all = [[1; SECTOR]; 5];
     for fails in 0..26 {
         disk.limit(in_parts(fails));
-        assert!(rt; read_all(&rt, &mut file, &mut all).is_err(), "{fails}");
+        assert!(rt; read_all(rt, file, &mut all).is_err(), "{fails}");
         assert!(rt; disk.take_asked().len() == fails + 1);
     }
     disk.limit(in_parts(0));
     assert!(rt; file.sync().is_err());
-    was_asked(&rt, &disk, &[Asked::SyncData]);
+    was_asked(rt, disk, &[Asked::SyncData]);
+}
+
+#[test]
+fn what_is_moved_in_part_is_finished_or_told(rt: HostRuntime) -> Result<(), Fail> {
+    let disk = Disk::new(rt.alloc(), "ledger", ".", WHOLE);
+    let mut file = new_sectors(&disk)?;
+    moves_all(&rt, &disk, &mut file)?;
+    tells_of_faults(&rt, &disk, &mut file);
     Ok(())
 }

@@ -1,6 +1,6 @@
 //! Images in which several things were changed at random, beside the plain program of the format.
 use crate::course::opened;
-use crate::images::{found, holds, settled, told};
+use crate::images::{found, settled, told};
 use crate::plain::{Plain, sector};
 use gate_journal::format;
 use journal_recovery::{Cause, OpenRefusal};
@@ -21,7 +21,7 @@ const IMAGES: u32 = 100_000;
 const FIELDS: [u8; 6] = [0, 1, 2, 3, 4, 0xff];
 
 // How many answers there were of each kind.
-#[derive(Clone, Copy, Debug, Default)]
+#[derive(Clone, Copy, Default)]
 struct Kinds {
     ledgers: u32,
     unformatted: u32,
@@ -292,7 +292,6 @@ fn compare(
     }
     let (device, answer) = found(alloc, device);
     assert!(rt; answer == told(image.as_slice()));
-    holds(rt, &device, image.as_slice());
     Ok((settled(alloc, device), answer))
 }
 
@@ -314,6 +313,6 @@ fn images_with_several_changes_are_read_as_the_format_says(rt: HostRuntime) -> R
         device = after;
         kinds.count(&answer);
     }
-    assert!(rt; kinds.all().iter().all(|count| 0 < *count), "{kinds:?}");
+    assert!(rt; kinds.all().iter().all(|count| 0 < *count));
     Ok(())
 }

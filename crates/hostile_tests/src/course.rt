@@ -3,16 +3,13 @@ use sector_device::Device;
 use std::alloc::Global;
 use std::process::Abort;
 use test_scenes::{deposit, line};
-use turn_clerk::{Clerk, Entry, Line, OpenRefusal, TurnRefusal};
+use turn_clerk::{Clerk, Line, OpenRefusal, TurnRefusal};
 
 // What the turns deposit: no two lists of batches come to the same balance.
 pub const AMOUNTS: [u64; 5] = [1, 2, 4, 8, 16];
 
 // What they come to, after 0 to 5 of them.
 const BALANCES: [u64; 6] = [0, 1, 3, 7, 15, 31];
-
-// The bits of the two stations' line after 0 to 3 moves of a legitimate run from zeros; then it comes round.
-const LINES: [[u8; 2]; 4] = [[0, 0], [1, 0], [1, 1], [0, 1]];
 
 // The sectors of a snapshot: sixteen of balances, and one of marks.
 pub const SNAPSHOT: u64 = 16 + 1;
@@ -35,12 +32,6 @@ pub fn two_stations(rt: &impl Abort, top: bool) -> Line {
     line([u8::from(top), 0], [1, 0]).expect(rt, "a line")
 }
 
-// The two stations' line after so many moves.
-fn line_after(rt: &impl Abort, moves: usize) -> Line {
-    let x = LINES.get(moves % 4).copied().unwrap_or([0, 0]);
-    line(x, [1, 0]).expect(rt, "a line")
-}
-
 // A clerk of the two stations, the bottom one privileged.
 pub fn opened<D: Device>(rt: &impl Abort, alloc: Global, device: D) -> Clerk<D> {
     match Clerk::open(alloc, device, two_stations(rt, false)) {
@@ -50,7 +41,7 @@ pub fn opened<D: Device>(rt: &impl Abort, alloc: Global, device: D) -> Clerk<D> 
 }
 
 // Where a course met a fault.
-#[derive(Clone, Copy, Debug, PartialEq, Eq)]
+#[derive(Clone, Copy, PartialEq, Eq)]
 pub enum Met {
     Nothing,
     InOpening,
@@ -58,14 +49,14 @@ pub enum Met {
 }
 
 // What the accounts of a device hold: the balance of account 1, and how many batches stand.
-#[derive(Clone, Copy, Debug, PartialEq, Eq)]
+#[derive(Clone, Copy)]
 pub struct Found {
     pub balance: Option<u64>,
     pub next: u64,
 }
 
 // How a course ended: after how many turns, counted from the first course on, and where it met a fault.
-#[derive(Clone, Copy, Debug, PartialEq, Eq)]
+#[derive(Clone, Copy)]
 pub struct Course {
     pub acknowledged: u64,
     pub met: Met,
@@ -122,7 +113,6 @@ fn take_turns<D: Device>(rt: &impl Abort, clerk: &mut Clerk<D>, first: usize) ->
             }
             Err(refusal) => {
                 assert!(rt; refusal == TurnRefusal::Device);
-                stands_still(rt, clerk, first, place);
                 let met = Met::InTurn;
                 return Course { acknowledged, met };
             }
@@ -130,45 +120,4 @@ fn take_turns<D: Device>(rt: &impl Abort, clerk: &mut Clerk<D>, first: usize) ->
     }
     let met = Met::Nothing;
     Course { acknowledged, met }
-}
-
-// The device failed in the turn of that place, of those from `first` on: its deposit is in flight, all else is as the
-// turns before it left it, and whoever asks is told that the clerk is faulted.
-fn stands_still<D: Device>(rt: &impl Abort, clerk: &mut Clerk<D>, first: usize, place: usize) {
-    has_in_flight(rt, clerk, AMOUNTS.get(place).copied().unwrap_or(0));
-    assert!(rt; clerk.ledger().balance(1) == BALANCES.get(place).copied());
-    let taken = place.saturating_sub(first);
-    assert!(rt; clerk.history().len() == taken);
-    assert!(rt; clerk.line() == line_after(rt, (first % 2).saturating_add(taken)));
-    is_faulted(rt, clerk, (place % 2) as u8);
-}
-
-// A deposit of so much is in flight.
-fn has_in_flight<D: Device>(rt: &impl Abort, clerk: &Clerk<D>, amount: u64) {
-    let in_flight = clerk.in_flight().expect(rt, "a batch in flight");
-    assert!(rt; (in_flight.len(), in_flight.get(0)) == (1, Some(deposit(1, amount))));
-}
-
-// The clerk is faulted: the station whose turn it is is told so, and one that there isn't.
-fn is_faulted<D: Device>(rt: &impl Abort, clerk: &mut Clerk<D>, station: u8) {
-    assert!(rt; clerk.is_faulted());
-    refuses(
-        rt,
-        clerk,
-        station,
-        &[deposit(1, 1); 15],
-        TurnRefusal::Faulted,
-    );
-    refuses(rt, clerk, 9, &[], TurnRefusal::Faulted);
-}
-
-// A station's turn with these entries is refused for this reason.
-fn refuses<D: Device>(
-    rt: &impl Abort,
-    clerk: &mut Clerk<D>,
-    station: u8,
-    entries: &[Entry],
-    reason: TurnRefusal,
-) {
-    assert!(rt; clerk.turn(station, entries).err() == Some(reason));
 }

@@ -1,12 +1,12 @@
 //! Days of station threads on devices that fail, and what clients were told. Each test holds whatever thread runs when.
 use crate::course::{Found, SNAPSHOT, two_stations};
 use crate::power::{at_stake, outcomes_of, picks, recovered};
-use fault_injector::{Fuse, OneFault, Op};
+use fault_injector::{OneFault, Op};
 use office_day::{
     Answer, Day, DayRefusal, End, HeldEntries, OpenRefusal, Outcome, StationDay, TurnRefusal,
     run_day,
 };
-use sector_device::{Device, MemoryDevice};
+use sector_device::MemoryDevice;
 use std::alloc::Global;
 use std::process::Abort;
 use std::sync::Wait;
@@ -87,7 +87,7 @@ fn is_accounted_for(rt: &impl Abort, station: &StationDay) {
     match station.end {
         End::Refused(TurnRefusal::Device) => assert!(rt; unanswered == 0),
         End::Reached | End::Stopped | End::Refused(TurnRefusal::Faulted) => {}
-        end => panic!(rt; "{end:?}"),
+        _ => panic!(rt; "another end"),
     }
 }
 
@@ -99,17 +99,20 @@ fn two_deposits(alloc: Global) -> Result<[HeldEntries; 2], Fail> {
     Ok(held)
 }
 
-// A day of two stations, each with a deposit, for four turns: the device, and what clients were told.
-fn day_on<D: Device + Drop + Send, R: Abort + Wait + Threads + Sync>(
+// A device that fails once.
+type Faulty = OneFault<MemoryDevice>;
+
+// A day of two stations for four turns: the device, and what clients were told.
+fn day_on<R: Abort + Wait + Threads + Sync>(
     rt: &R,
     alloc: Global,
-    device: D,
-) -> Result<(D, Told), Fail> {
-    let held = two_deposits(alloc)?;
+    device: Faulty,
+    held: &[HeldEntries; 2],
+) -> (Faulty, Told) {
     let mut told = Told::nothing();
     let line = two_stations(rt, false);
     assert!(rt; held.len() == line.stations() as usize);
-    match run_day(rt, alloc, device, line, &held, 4, TRIES) {
+    match run_day(rt, alloc, device, line, held, 4, TRIES) {
         Ok(
             Day {
                 clerk,
@@ -118,158 +121,62 @@ fn day_on<D: Device + Drop + Send, R: Abort + Wait + Threads + Sync>(
             },
         ) => {
             told.hear_all(rt, stations.as_slice());
-            Ok((clerk.into_device(), told))
+            (clerk.into_device(), told)
         }
         Err((device, refusal)) => {
             assert!(rt; refusal == DayRefusal::Opening(OpenRefusal::Device));
-            Ok((device, told))
+            (device, told)
         }
     }
 }
 
-// How a device fails: from this call of a kind on, or at it alone.
-#[derive(Clone, Copy, Debug, PartialEq, Eq)]
-enum Fails {
-    From(Op, u64),
-    Once(Op, u64),
-}
-
-// A day on such a device, and what is left of it in the memory device.
+// Such a day, each station with a deposit, on a device that fails at this call: what is left of it in the memory
+// device.
 fn failed_day<R: Abort + Wait + Threads + Sync>(
     rt: &R,
     alloc: Global,
-    fails: Fails,
+    at: u64,
 ) -> Result<(MemoryDevice, Told), Fail> {
-    let device = formatted(alloc, 1)?;
-    match fails {
-        Fails::From(op, at) => {
-            let (device, told) = day_on(rt, alloc, Fuse::new(device, op, at))?;
-            Ok((device.into_inner(), told))
-        }
-        Fails::Once(op, at) => {
-            let (device, told) = day_on(rt, alloc, OneFault::new(device, op, at))?;
-            Ok((device.into_inner(), told))
-        }
-    }
+    let device = OneFault::new(formatted(alloc, 1)?, Op::Any, at);
+    let (device, told) = day_on(rt, alloc, device, &two_deposits(alloc)?);
+    Ok((device.into_inner(), told))
 }
 
-// Every power loss after a day on such a device: how many there are.
+// The power losses after such a day in which each sector at stake is left in the same way: how many there are.
 fn lose_power<R: Abort + Wait + Threads + Sync>(
     rt: &R,
     alloc: Global,
-    fails: Fails,
+    at: u64,
 ) -> Result<u32, Fail> {
-    let (device, _) = failed_day(rt, alloc, fails)?;
+    let (device, _) = failed_day(rt, alloc, at)?;
     let sectors = at_stake(rt, alloc, &device)?;
-    let outcomes = outcomes_of(sectors.as_slice());
-    for number in 0..outcomes {
-        let (device, told) = failed_day(rt, alloc, fails)?;
+    let last = outcomes_of(sectors.as_slice()).saturating_sub(1);
+    let ways = if last == 0 { 1 } else { 4 };
+    for way in 0..ways {
+        // each digit of this number is the way
+        let number = (last / 3).saturating_mul(way);
+        let (device, told) = failed_day(rt, alloc, at)?;
         let device = device.crash(&picks(alloc, sectors.as_slice(), number)?);
-        assert!(rt;
-            told.allows(recovered(rt, alloc, device)),
-            "{fails:?} {number}"
-        );
+        assert!(rt; told.allows(recovered(rt, alloc, device)), "{at} {way}");
     }
-    Ok(outcomes)
+    Ok(ways)
 }
 
-// A day whose device never fails: both deposits are posted, and nothing is pending.
+// Nothing is pending at the reads, at the opening's sync and at six writes: at the first three, and at the last three,
+// of which the first opens the gate of the checkpoint. Each other call has four outcomes.
+const OUTCOMES: u32 = (READS + 1 + 6 + 4 * (WRITES - 6 + SYNCS - 1)) as u32;
+
+// Where none fails both deposits are posted, and nothing is pending.
 #[test]
-fn a_day_without_a_fault_posts_all(rt: HostRuntime) -> Result<(), Fail> {
+fn what_clients_were_told_outlives_a_fault_at_each_call(rt: HostRuntime) -> Result<(), Fail> {
     let alloc = rt.alloc();
-    for fails in [Fails::From(Op::Any, CALLS), Fails::Once(Op::Any, CALLS)] {
-        let (device, told) = failed_day(&rt, alloc, fails)?;
-        assert!(rt; (told.posted, told.undecided, told.batches) == (3, 0, 2));
-        assert!(rt; at_stake(&rt, alloc, &device)?.is_empty());
-    }
-    Ok(())
-}
-
-impl Fails {
-    // The same at another call.
-    fn at(self, call: u64) -> Fails {
-        match self {
-            Fails::From(op, _) => Fails::From(op, call),
-            Fails::Once(op, _) => Fails::Once(op, call),
-        }
-    }
-}
-
-// How many outcomes there are of devices that fail like this one, from the first of these calls up to the second.
-fn outcomes<R: Abort + Wait + Threads + Sync>(
-    rt: &R,
-    alloc: Global,
-    fails: Fails,
-    (first, behind): (u64, u64),
-) -> Result<u32, Fail> {
     let mut all = 0u32;
-    for call in first..behind {
-        all = all.saturating_add(lose_power(rt, alloc, fails.at(call))?);
+    for at in 0..CALLS {
+        all = all.saturating_add(lose_power(&rt, alloc, at)?);
     }
-    Ok(all)
-}
-
-const STOPS: Fails = Fails::From(Op::Any, 0);
-
-// Each pending sector is left in four ways, and of more than four the two lowest and the two highest are: so 256
-// outcomes are the most. The checkpoint's head is write 2 and call 28. Four sectors are pending from write 6 and call
-// 32 on, up to its sync, which is call 47. Before that there are 119 outcomes of a stop, and behind it 15.
-const MOST: u32 = 256;
-
-#[test]
-fn what_clients_were_told_outlives_a_stop_at_calls_0_to_35(rt: HostRuntime) -> Result<(), Fail> {
-    assert!(rt; outcomes(&rt, rt.alloc(), STOPS, (0, 36))? == 119 + 4 * MOST);
-    Ok(())
-}
-
-#[test]
-fn what_clients_were_told_outlives_a_stop_at_calls_36_to_39(rt: HostRuntime) -> Result<(), Fail> {
-    assert!(rt; outcomes(&rt, rt.alloc(), STOPS, (36, 40))? == 4 * MOST);
-    Ok(())
-}
-
-#[test]
-fn what_clients_were_told_outlives_a_stop_at_calls_40_to_43(rt: HostRuntime) -> Result<(), Fail> {
-    assert!(rt; outcomes(&rt, rt.alloc(), STOPS, (40, 44))? == 4 * MOST);
-    Ok(())
-}
-
-#[test]
-fn what_clients_were_told_outlives_a_stop_from_call_44_on(rt: HostRuntime) -> Result<(), Fail> {
-    assert!(rt; outcomes(&rt, rt.alloc(), STOPS, (44, CALLS))? == 4 * MOST + 15);
-    Ok(())
-}
-
-// Nothing is pending at a read or at the opening's sync. Of the other syncs five have one sector pending.
-#[test]
-fn what_clients_were_told_outlives_a_fault_of_a_read_or_a_sync(
-    rt: HostRuntime,
-) -> Result<(), Fail> {
-    let (reads, syncs) = (Fails::Once(Op::Read, 0), Fails::Once(Op::Sync, 0));
-    assert!(rt; outcomes(&rt, rt.alloc(), reads, (0, READS))? == READS as u32);
-    assert!(rt; outcomes(&rt, rt.alloc(), syncs, (0, SYNCS))? == 1 + 5 * 4 + MOST);
-    Ok(())
-}
-
-const WRITE_FAULTS: Fails = Fails::Once(Op::Write, 0);
-
-// At the first six writes 0, 0, 0, 1, 2 and 3 sectors are pending.
-#[test]
-fn what_clients_were_told_outlives_a_fault_of_writes_0_to_8(rt: HostRuntime) -> Result<(), Fail> {
-    let expected = 3 + 4 + 16 + 64 + 3 * MOST;
-    assert!(rt; outcomes(&rt, rt.alloc(), WRITE_FAULTS, (0, 9))? == expected);
-    Ok(())
-}
-
-#[test]
-fn what_clients_were_told_outlives_a_fault_of_writes_9_to_13(rt: HostRuntime) -> Result<(), Fail> {
-    assert!(rt; outcomes(&rt, rt.alloc(), WRITE_FAULTS, (9, 14))? == 5 * MOST);
-    Ok(())
-}
-
-// Nothing is pending at the last three, of which the first opens the gate of the checkpoint.
-#[test]
-fn what_clients_were_told_outlives_a_fault_from_write_14_on(rt: HostRuntime) -> Result<(), Fail> {
-    assert!(rt; outcomes(&rt, rt.alloc(), WRITE_FAULTS, (14, WRITES))? == 7 * MOST + 3);
+    assert!(rt; all == OUTCOMES);
+    let (device, told) = failed_day(&rt, alloc, CALLS)?;
+    assert!(rt; (told.posted, told.undecided, told.batches) == (3, 0, 2));
+    assert!(rt; at_stake(&rt, alloc, &device)?.is_empty());
     Ok(())
 }

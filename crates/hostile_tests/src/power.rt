@@ -52,7 +52,7 @@ pub fn outcomes_of(sectors: &[u64]) -> u32 {
     outcomes
 }
 
-// One outcome, by the digits of its number: for the digit 0 a sector keeps what was written.
+// One outcome, by the digits of its number: for the digit 3 a sector keeps what was written.
 pub fn picks(alloc: Global, sectors: &[u64], number: u32) -> Result<Picks, AllocError> {
     let mut list = Vec::new(alloc);
     let mut digits = number;

@@ -1,9 +1,6 @@
-//! Two images of which each byte is replaced, beside the plain program of the format. The tests are cut by sectors,
-//! since each value of each byte of a sector that isn't zero is 131,072 images.
-use crate::images::{
-    after_one_deposit, behind_a_checkpoint, found, has_sector, holds, settled, told,
-};
-use sector_device::{Device, MemoryDevice, SECTOR, Sector};
+//! Two images of which each byte is replaced by four values, beside the plain program of the format.
+use crate::images::{after_one_deposit, behind_a_checkpoint, found, settled, told};
+use sector_device::{MemoryDevice, SECTOR, Sector};
 use std::alloc::Global;
 use std::process::Abort;
 use std::test::Fail;
@@ -99,28 +96,11 @@ fn refused_at(table: &[Row], at: usize) -> u32 {
     }
 }
 
-// How many values a byte takes: each of them, or the four that are counted.
-#[derive(Clone, Copy, PartialEq, Eq)]
-enum Values {
-    All,
-    Four,
-}
-
-const FOUR: [u8; 4] = [0x00, 0x01, 0xa5, 0xff];
-
-// Which values the byte at a place of a sector takes: of one that is all zero four, but for its first byte, which is
-// that of a gate, and of any other one all.
-fn values_at(sector: &Sector, place: usize) -> Values {
-    if place > 0 && *sector == [0; SECTOR] {
-        Values::Four
-    } else {
-        Values::All
-    }
-}
+// What a byte becomes.
+const VALUES: [u8; 4] = [0x00, 0x01, 0xa5, 0xff];
 
 // Puts a value at one place, and compares what recovery finds with what the plain program tells: the device, and
-// whether it is refused. The device comes back as it was: with one of the four values all of it is looked at, with
-// another the sector that was replaced.
+// whether it is refused.
 fn replace_by(
     rt: &impl Abort,
     alloc: Global,
@@ -137,37 +117,10 @@ fn replace_by(
         answer == told(image),
         "sector {at} byte {place} as {value}"
     );
-    if FOUR.contains(&value) {
-        holds(rt, &after, image);
-    } else {
-        has_sector(rt, &after, at, &image[at]);
-    }
     Ok((after, answer.is_err()))
 }
 
-// Puts each value at one place: the device, and how many of the four values are refused.
-fn replace_byte(
-    rt: &impl Abort,
-    alloc: Global,
-    mut device: MemoryDevice,
-    image: &mut [Sector],
-    place: (usize, usize),
-    values: Values,
-) -> Result<(MemoryDevice, u32), Fail> {
-    let mut refused = 0u32;
-    for value in 0..=u8::MAX {
-        let is_counted = FOUR.contains(&value);
-        if !is_counted && values == Values::Four {
-            continue;
-        }
-        let (after, is_refused) = replace_by(rt, alloc, device, image, place, value)?;
-        device = after;
-        refused = refused.saturating_add(u32::from(is_counted && is_refused));
-    }
-    Ok((device, refused))
-}
-
-// Replaces each byte of a sector in turn.
+// Replaces each byte of a sector in turn: the device, as it was, and how many images are refused.
 fn replace_sector(
     rt: &impl Abort,
     alloc: Global,
@@ -179,10 +132,11 @@ fn replace_sector(
     assert!(rt; at < image.len());
     let sound = image[at];
     for place in 0..SECTOR {
-        let values = values_at(&sound, place);
-        let (after, count) = replace_byte(rt, alloc, device, image, (at, place), values)?;
-        device = after;
-        refused = refused.saturating_add(count);
+        for value in VALUES {
+            let (after, is_refused) = replace_by(rt, alloc, device, image, (at, place), value)?;
+            device = after;
+            refused = refused.saturating_add(u32::from(is_refused));
+        }
         assert!(rt; at < image.len());
         image[at] = sound;
     }
@@ -190,17 +144,15 @@ fn replace_sector(
     Ok((settled(alloc, device), refused))
 }
 
-// Replaces each byte of each of these sectors, and compares how many images are refused.
+// Replaces each byte of a device, and compares how many images of each sector are refused.
 fn replace_each(
     rt: &impl Abort,
     alloc: Global,
     mut device: MemoryDevice,
     expected: &[Row],
-    (first, behind): (u64, u64),
 ) -> Result<(), Fail> {
     let mut image = image_of(alloc, &device)?;
-    assert!(rt; first < behind && behind <= device.sectors());
-    for at in first as usize..behind as usize {
+    for at in 0..image.len() {
         let (after, refused) = replace_sector(rt, alloc, device, image.as_mut_slice(), at)?;
         assert!(rt; refused == refused_at(expected, at), "sector {at}");
         device = after;
@@ -208,82 +160,14 @@ fn replace_each(
     Ok(())
 }
 
-// Replaces each byte from one sector up to another, of the image after one deposit.
-fn after_one_deposit_replaced(rt: &impl Abort, alloc: Global, of: (u64, u64)) -> Result<(), Fail> {
-    let device = after_one_deposit(rt, alloc)?;
-    replace_each(rt, alloc, device, &refused_after_one_deposit(), of)
+#[test]
+fn each_byte_after_one_deposit_is_replaced(rt: HostRuntime) -> Result<(), Fail> {
+    let device = after_one_deposit(&rt, rt.alloc())?;
+    replace_each(&rt, rt.alloc(), device, &refused_after_one_deposit())
 }
 
 #[test]
-fn after_one_deposit_each_byte_before_the_slots_is_replaced(rt: HostRuntime) -> Result<(), Fail> {
-    after_one_deposit_replaced(&rt, rt.alloc(), (0, FIRST.body(0)))
-}
-
-#[test]
-fn after_one_deposit_each_byte_of_its_record_is_replaced(rt: HostRuntime) -> Result<(), Fail> {
-    after_one_deposit_replaced(&rt, rt.alloc(), (FIRST.body(0), FIRST.slot_gate(0)))
-}
-
-#[test]
-fn after_one_deposit_each_byte_behind_its_record_is_replaced(rt: HostRuntime) -> Result<(), Fail> {
-    after_one_deposit_replaced(&rt, rt.alloc(), (FIRST.slot_gate(0), 55))
-}
-
-// Replaces each byte from one sector up to another, of the image behind a checkpoint.
-fn behind_a_checkpoint_replaced(
-    rt: &impl Abort,
-    alloc: Global,
-    of: (u64, u64),
-) -> Result<(), Fail> {
-    let device = behind_a_checkpoint(rt, alloc)?;
-    replace_each(rt, alloc, device, &refused_behind_a_checkpoint(), of)
-}
-
-#[test]
-fn behind_a_checkpoint_each_byte_up_to_the_older_head_is_replaced(
-    rt: HostRuntime,
-) -> Result<(), Fail> {
-    behind_a_checkpoint_replaced(&rt, rt.alloc(), (0, FIRST.balances()))
-}
-
-#[test]
-fn behind_a_checkpoint_each_byte_of_the_older_snapshot_is_replaced(
-    rt: HostRuntime,
-) -> Result<(), Fail> {
-    behind_a_checkpoint_replaced(&rt, rt.alloc(), (FIRST.balances(), FIRST.body(0)))
-}
-
-#[test]
-fn behind_a_checkpoint_each_byte_of_the_older_record_is_replaced(
-    rt: HostRuntime,
-) -> Result<(), Fail> {
-    behind_a_checkpoint_replaced(&rt, rt.alloc(), (FIRST.body(0), FIRST.slot_gate(0)))
-}
-
-#[test]
-fn behind_a_checkpoint_each_byte_of_the_gates_between_them_is_replaced(
-    rt: HostRuntime,
-) -> Result<(), Fail> {
-    behind_a_checkpoint_replaced(&rt, rt.alloc(), (FIRST.slot_gate(0), second(1).head()))
-}
-
-#[test]
-fn behind_a_checkpoint_each_byte_of_the_live_head_and_balances_is_replaced(
-    rt: HostRuntime,
-) -> Result<(), Fail> {
-    behind_a_checkpoint_replaced(&rt, rt.alloc(), (second(1).head(), second(1).marks()))
-}
-
-#[test]
-fn behind_a_checkpoint_each_byte_of_the_live_marks_is_replaced(
-    rt: HostRuntime,
-) -> Result<(), Fail> {
-    behind_a_checkpoint_replaced(&rt, rt.alloc(), (second(1).marks(), second(1).body(0)))
-}
-
-#[test]
-fn behind_a_checkpoint_each_byte_of_the_live_record_is_replaced(
-    rt: HostRuntime,
-) -> Result<(), Fail> {
-    behind_a_checkpoint_replaced(&rt, rt.alloc(), (second(1).body(0), 43))
+fn each_byte_behind_a_checkpoint_is_replaced(rt: HostRuntime) -> Result<(), Fail> {
+    let device = behind_a_checkpoint(&rt, rt.alloc())?;
+    replace_each(&rt, rt.alloc(), device, &refused_behind_a_checkpoint())
 }

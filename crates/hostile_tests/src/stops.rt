@@ -53,7 +53,7 @@ fn lose_power(rt: &impl Abort, alloc: Global, at: u64) -> Result<(Met, u32), Fai
     for number in 0..outcomes {
         let (device, course) = stopped(rt, alloc, at)?;
         let device = device.crash(&picks(alloc, sectors.as_slice(), number)?);
-        assert!(rt; course.allows(listed(rt, alloc, device)), "{at} {number}");
+        assert!(rt; course.allows(listed(rt, alloc, device)));
     }
     Ok((course.met, outcomes))
 }
@@ -64,10 +64,9 @@ fn a_stop_at_each_call_loses_nothing(rt: HostRuntime) -> Result<(), Fail> {
     let mut all = 0u32;
     for at in 0..CALLS {
         let (met, outcomes) = lose_power(&rt, alloc, at)?;
-        assert!(rt; met != Met::Nothing, "{at}");
+        assert!(rt; met != Met::Nothing);
         all = all.saturating_add(outcomes);
     }
-    assert!(rt; all == OUTCOMES);
-    assert!(rt; lose_power(&rt, alloc, CALLS)? == (Met::Nothing, 1));
+    assert!(rt; all == OUTCOMES && lose_power(&rt, alloc, CALLS)? == (Met::Nothing, 1));
     Ok(())
 }

@@ -9,7 +9,7 @@ use std::process::Abort;
 use std::test::Fail;
 
 /// What reaches a device: a run has its first sector, and how many it is of.
-#[derive(Clone, Copy, Debug, PartialEq, Eq)]
+#[derive(Clone, Copy, PartialEq, Eq)]
 enum Asked {
     Run(u64, usize),
     Read(u64),
@@ -129,10 +129,7 @@ fn expect<R: Abort + AllocGlobal>(
     };
     let mut device = ReadAhead::new(noted, ReadBuffer::new(rt.alloc())?);
     for call in calls {
-        assert!(rt;
-            ask(rt, &mut device, *call) == fails.fails(*call),
-            "{call:?}"
-        );
+        assert!(rt; ask(rt, &mut device, *call) == fails.fails(*call));
     }
     assert!(rt; device.into_inner().asked.as_slice() == expected);
     Ok(())

@@ -1,12 +1,14 @@
 //! Counters of an office in memory.
 use crate::keepers::Sample;
 use fault_injector::{OneFault, Op};
-use live_office::{Counter, Kind, keep_open};
-use office_day::End;
+use live_office::{Closed, Counter, Kind, keep_open};
+use office_day::{End, Line};
+use sector_device::MemoryDevice;
 use std::alloc::Global;
 use std::fs::Files;
 use std::io;
 use std::io::{ErrorKind, PipeReader, Read};
+use std::process::Abort;
 use std::sync::Wait;
 use std::test::Fail;
 use std::thread::Threads;
@@ -14,7 +16,7 @@ use std::time::Clock;
 use test_scenes::{formatted, line};
 
 // Whether these are the next bytes of the answers.
-pub(crate) fn are_told(answers: &mut PipeReader, wanted: &[u8]) -> io::Result<bool> {
+fn are_told(answers: &mut PipeReader, wanted: &[u8]) -> io::Result<bool> {
     for byte in wanted {
         let mut told = [0];
         answers.read_exact(&mut told)?;
@@ -117,6 +119,46 @@ last 8 2
 closing
 ";
 
+// A device of which a read may fail.
+type Faulty = OneFault<MemoryDevice>;
+
+// An office with one counter that says this and is told by a pipe; none if it can't be opened.
+fn kept<R: Files + Threads + Wait + Clock + Sync + Send + Clone + Drop + 'static>(
+    rt: &R,
+    alloc: Global,
+    device: Faulty,
+    (line, moves): (Line, u64),
+    said: &'static [u8],
+) -> Result<Option<(PipeReader, Closed<Faulty>)>, Fail> {
+    let (answers, output) = io::pipe(rt)?;
+    let counter = Counter {
+        input: InPieces {
+            rest: said,
+            is_interrupted: false,
+        },
+        output,
+        kind: Kind::Pipes,
+        awaits_hello: false,
+    };
+    let counters = vec![in alloc; counter]?;
+    let keeper = Sample { copies: 0 };
+    match keep_open(rt, alloc, device, line, counters, moves, keeper) {
+        Ok((closed, _)) => Ok(Some((answers, closed))),
+        Err(_) => Ok(None),
+    }
+}
+
+// The office was closed once its stations had taken all turns, or were sent home.
+fn is_over(rt: &impl Abort, closed: &Closed<Faulty>, stations: usize, moves: u64) {
+    assert!(rt; closed.clerk.history().len() as u64 <= moves && closed.turns >= 5);
+    assert!(rt; closed.clerk.ledger().balance(1) == Some(300));
+    assert!(rt; closed.stations.len() == stations);
+    for station in &closed.stations {
+        let is_over = station.end == End::Closed || moves == 2 && station.end == End::Reached;
+        assert!(rt; is_over && station.unanswered.is_empty());
+    }
+}
+
 // In one span, and in an office that is closed and opened again after each second turn.
 #[test]
 fn a_counter_is_answered_in_order(rt: HostRuntime) -> Result<(), Fail> {
@@ -126,39 +168,11 @@ fn a_counter_is_answered_in_order(rt: HostRuntime) -> Result<(), Fail> {
         (line([1, 0, 1], [1, 1, 0])?, 2),
     ];
     for (line, moves) in offices {
-        let (mut answers, output) = io::pipe(&rt)?;
-        let counter = Counter {
-            input: InPieces {
-                rest: REQUESTS,
-                is_interrupted: false,
-            },
-            output,
-            kind: Kind::Pipes,
-            awaits_hello: false,
-        };
-        let counters = vec![in alloc; counter]?;
-        let device = formatted(alloc, 4)?;
-        let kept = keep_open(
-            &rt,
-            alloc,
-            device,
-            line,
-            counters,
-            moves,
-            Sample { copies: 0 },
-        );
-        let closed = match kept {
-            Ok((closed, _)) => closed,
-            Err((_, refusal)) => panic!(rt; "{refusal}"),
-        };
+        let device = OneFault::new(formatted(alloc, 4)?, Op::Read, u64::MAX);
+        let kept = kept(&rt, alloc, device, (line, moves), REQUESTS)?;
+        let (mut answers, closed) = kept.ok_or("an office")?;
         assert!(rt; are_told(&mut answers, RESPONSES)?);
-        assert!(rt; closed.clerk.history().len() as u64 <= moves && closed.turns >= 5);
-        assert!(rt; closed.clerk.ledger().balance(1) == Some(300));
-        assert!(rt; closed.stations.len() == line.stations() as usize);
-        for station in &closed.stations {
-            let is_over = station.end == End::Closed || moves == 2 && station.end == End::Reached;
-            assert!(rt; is_over && station.unanswered.is_empty());
-        }
+        is_over(&rt, &closed, line.stations() as usize, moves);
     }
     Ok(())
 }
@@ -176,45 +190,32 @@ fn read_line(answers: &mut PipeReader, told: &mut String) -> Result<(), Fail> {
     Ok(())
 }
 
+// The lines up to the last one.
+fn read_lines(alloc: Global, answers: &mut PipeReader) -> Result<String, Fail> {
+    let mut told = String::new(alloc);
+    for _ in 0..5 {
+        read_line(answers, &mut told)?;
+        if told.as_str().ends_with("closing\n") {
+            break;
+        }
+    }
+    Ok(told)
+}
+
 // What a counter that says this is told of an office on a device, of which the read of that number fails; none if it
 // can't be opened.
 fn told_beside_a_fault<R: Files + Threads + Wait + Clock + Sync + Send + Clone + Drop + 'static>(
     rt: &R,
     alloc: Global,
     read: u64,
-    input: &'static [u8],
+    said: &'static [u8],
 ) -> Result<Option<String>, Fail> {
-    let device = OneFault::new(formatted(alloc, 4)?, Op::Read, read);
-    let (mut answers, output) = io::pipe(rt)?;
-    let counter = Counter {
-        input,
-        output,
-        kind: Kind::Pipes,
-        awaits_hello: false,
-    };
-    let counters = vec![in alloc; counter]?;
     let line = line([0, 0], [1, 0])?;
-    if keep_open(
-        rt,
-        alloc,
-        device,
-        line,
-        counters,
-        1_000,
-        Sample { copies: 0 },
-    )
-    .is_err()
-    {
-        return Ok(None);
+    let device = OneFault::new(formatted(alloc, 4)?, Op::Read, read);
+    match kept(rt, alloc, device, (line, 1_000), said)? {
+        Some((mut answers, _)) => Ok(Some(read_lines(alloc, &mut answers)?)),
+        None => Ok(None),
     }
-    let mut told = String::new(alloc);
-    for _ in 0..5 {
-        read_line(&mut answers, &mut told)?;
-        if told.as_str().ends_with("closing\n") {
-            break;
-        }
-    }
-    Ok(Some(told))
 }
 
 // A search whose read fails is told so, and isn't made again: the office goes on, since no turn met the fault. So is a

@@ -2,8 +2,6 @@
 #![tactic(auto)]
 
 #[cfg(test)]
-mod askers;
-#[cfg(test)]
 mod counters;
 #[cfg(test)]
 mod keepers;

@@ -14,25 +14,44 @@ const RECORDS: u64 = 3000;
 
 const FIRST: u64 = 2000;
 
-// A ledger whose records each bring 1 into account 1, from sequence 7 on.
-fn ledger(rt: &impl Abort, alloc: Global) -> Result<MemoryDevice, Fail> {
+// A record that brings 1 into account 1.
+fn one() -> Result<Record, Fail> {
     let mut payload = [0; 480];
     payload.copy_from_slice(&body_of(0, 0, &[deposit(1, 1)])[32..]);
-    let record = Record::new(0, 1, payload).ok_or("a record")?;
+    Ok(Record::new(0, 1, payload).ok_or("a record")?)
+}
+
+// A new journal on this device, with no record, from sequence 7 on.
+fn begun(rt: &impl Abort, device: MemoryDevice) -> Filling<MemoryDevice> {
     let empty = Snapshot {
         balances: [0; 1024],
         sealed: [false; 1024],
     };
-    let device = MemoryDevice::new(alloc, sectors_needed(RECORDS))?;
-    let Ok(mut filling) = Filling::begin(device, RECORDS, 7, &empty) else {
-        panic!(rt; "a new journal")
-    };
+    match Filling::begin(device, RECORDS, 7, &empty) {
+        Ok(filling) => filling,
+        Err((_, refusal)) => panic!(rt; "{refusal}"),
+    }
+}
+
+// It with one record more.
+fn longer(
+    rt: &impl Abort,
+    filling: Filling<MemoryDevice>,
+    added: &Record,
+) -> Filling<MemoryDevice> {
+    assert!(rt; filling.room() >= 1 && filling.next() < u64::MAX);
+    match filling.put(added) {
+        Ok(filling) => filling,
+        Err((_, fault)) => panic!(rt; "{fault}"),
+    }
+}
+
+// A ledger of as many such records.
+fn ledger(rt: &impl Abort, alloc: Global) -> Result<MemoryDevice, Fail> {
+    let record = one()?;
+    let mut filling = begun(rt, MemoryDevice::new(alloc, sectors_needed(RECORDS))?);
     for _ in 0..RECORDS {
-        assert!(rt; filling.room() >= 1 && filling.next() < u64::MAX);
-        filling = match filling.put(&record) {
-            Ok(filling) => filling,
-            Err((_, fault)) => panic!(rt; "{fault}"),
-        };
+        filling = longer(rt, filling, &record);
     }
     match filling.finish() {
         Ok(device) => Ok(device),

@@ -5,13 +5,13 @@ use sector_device::{MemoryDevice, SECTOR, Sector};
 use std::alloc::{AllocError, Global};
 use std::process::Abort;
 use std::test::Fail;
-use test_scenes::{Image, Layout, Live, device_of, image_of, sectors_needed};
+use test_scenes::{Image, Layout, device_of, image_of, sectors_needed};
 
 /// A byte that is changed: its sector, its place there, and what it becomes.
 pub type Change = (u64, usize, u8);
 
-/// What is changed in a sound image, what it is refused as then, and the sectors that are read until then.
-pub type Row<'a> = (&'a [Change], OpenRefusal, &'a [u64]);
+/// What is changed in a sound image, what it is refused as then, if it is, and the sectors that are read until then.
+pub type Row<'a> = (&'a [Change], Option<OpenRefusal>, &'a [u64]);
 
 /// More calls than an opening makes here, so that a call too many is noted.
 const ROOM: usize = 64;
@@ -19,12 +19,12 @@ const ROOM: usize = 64;
 /// A device that notes the calls that reach it, and fails one.
 pub type Faulty = OneFault<Noting<MemoryDevice>>;
 
-/// How a device is opened.
+// How a device is opened.
 #[derive(Clone, Copy)]
-pub enum Opens {
-    /// As a ledger of layout 3.
+enum Opens {
+    // as a ledger of layout 3
     Recover,
-    /// As one of layout 1 or 2 that is copied.
+    // as one of layout 1 or 2 that is copied
     Migrate,
 }
 
@@ -56,10 +56,10 @@ impl Opens {
 /// A sound image, and the calls of its opening before the reads of the sectors that a row names.
 #[derive(Drop)]
 pub struct Scene {
-    pub opens: Opens,
+    opens: Opens,
     image: Vec<Sector>,
     before: Vec<Call>,
-    /// How many sectors behind those that a row names its own ones stand.
+    // how many sectors behind those that a row names its own ones stand
     shift: u64,
 }
 
@@ -78,14 +78,12 @@ impl Scene {
         })
     }
 
-    /// An image with four slots in each bank, whose rows name sectors of the live bank as if that were the first one.
-    /// Before them the superblock is read, both gates and both heads, and in layout 3 the snapshot.
+    /// An image with four slots in each bank whose second bank is live. Rows name its sectors as if it were the first
+    /// one. Before them the superblock is read, both gates and both heads, and in layout 3 the snapshot.
     pub fn of_bank(alloc: Global, image: Image) -> Result<Scene, Fail> {
         let mut scene = Scene::whole(alloc, image)?;
         let second = image.layout.second(4).gate;
-        if image.live == Live::Second {
-            scene.shift = second.saturating_sub(1);
-        }
+        scene.shift = second.saturating_sub(1);
         for at in [0, 1, second, 2, second.saturating_add(1)] {
             scene.before.push(Call::Read(at))?;
         }
@@ -129,8 +127,8 @@ impl Scene {
         Ok(calls)
     }
 
-    /// Each row is refused as it says, behind one sync and the reads that it names; and whichever of these calls fails
-    /// is the last one, and told as the device's fault.
+    /// Each row is refused as it says, or isn't, behind one sync and the reads that it names; and whichever of these
+    /// calls fails is the last one, and told as the device's fault.
     pub fn expect(&self, rt: &impl Abort, alloc: Global, rows: &[Row]) -> Result<(), Fail> {
         for (changes, refusal, reads) in rows {
             let image = self.changed(rt, alloc, changes)?;
@@ -140,24 +138,11 @@ impl Scene {
                 alloc,
                 self.opens,
                 image.as_slice(),
-                Some(*refusal),
+                *refusal,
                 calls.as_slice(),
             )?;
         }
         Ok(())
-    }
-
-    /// The image as it is isn't refused, behind one sync and these reads; each of the calls failed too.
-    pub fn expect_sound(&self, rt: &impl Abort, alloc: Global, reads: &[u64]) -> Result<(), Fail> {
-        let calls = self.calls(alloc, reads)?;
-        expect_calls(
-            rt,
-            alloc,
-            self.opens,
-            self.image.as_slice(),
-            None,
-            calls.as_slice(),
-        )
     }
 }
 
@@ -167,8 +152,8 @@ pub fn failing_at(alloc: Global, image: &[Sector], number: usize) -> Result<Faul
     Ok(OneFault::new(noting, Op::Any, number as u64))
 }
 
-/// What an image is refused as, and the calls until then. The call that fails isn't noted.
-pub fn expect_calls(
+// What an image is refused as, and the calls until then. The call that fails isn't noted.
+fn expect_calls(
     rt: &impl Abort,
     alloc: Global,
     opens: Opens,
@@ -185,10 +170,7 @@ pub fn expect_calls(
             refusal
         };
         let noted = device.into_inner();
-        assert!(rt;
-            told == expected && noted.calls() == &calls[..number],
-            "{refusal:?} {number}"
-        );
+        assert!(rt; told == expected && noted.calls() == &calls[..number]);
     }
     Ok(())
 }

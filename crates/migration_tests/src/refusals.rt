@@ -12,16 +12,6 @@ fn damaged(slot: u64, cause: Cause) -> MigrateRefusal {
     MigrateRefusal::Source(OpenRefusal::Damaged { slot, cause })
 }
 
-#[test]
-fn a_refusal_tells_what_it_holds(rt: HostRuntime) -> Result<(), Fail> {
-    let refusal = MigrateRefusal::Source(OpenRefusal::Version(3));
-    let told = format!(in rt.alloc(); "{refusal}")?;
-    assert!(rt;
-        told.as_str() == "the old device wasn't read: its ledger has version 3, which isn't known"
-    );
-    Ok(())
-}
-
 // A device isn't copied of which a sector has these bytes from its second reading on, for this reason, if any.
 fn is_refused_changed(
     rt: &impl Abort,

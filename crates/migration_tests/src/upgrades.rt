@@ -5,7 +5,7 @@ use sector_device::{Device, MemoryDevice};
 use std::alloc::Global;
 use std::process::Abort;
 use std::test::Fail;
-use test_scenes::{Image, LAYOUT_1, sectors_needed};
+use test_scenes::{Image, sectors_needed};
 
 // What a device recovers to.
 fn recovered(rt: &impl Abort, alloc: Global, device: MemoryDevice) -> Recovered<MemoryDevice> {
@@ -15,7 +15,7 @@ fn recovered(rt: &impl Abort, alloc: Global, device: MemoryDevice) -> Recovered<
     }
 }
 
-// The device that an older one is copied onto, and that one.
+// The older device is copied to so many slots: it, and the new one.
 fn migrated(
     rt: &impl Abort,
     alloc: Global,
@@ -29,38 +29,28 @@ fn migrated(
     Ok((old, new))
 }
 
-// A full device is copied to as many slots. Neither of the two may be written over then.
-fn thousand_come_over(
-    rt: &impl Abort,
-    alloc: Global,
-    old: MemoryDevice,
-    (total, next): (u64, u64),
-) -> Result<(), Fail> {
-    let (old, new) = migrated(rt, alloc, old, 1_000)?;
+// Neither of the two may be written over then.
+fn hold_a_thousand(rt: &impl Abort, alloc: Global, old: MemoryDevice, new: MemoryDevice) {
     let (_, old) = may_hold_postings(alloc, old);
     let (new, postings) = may_hold_postings(alloc, new);
     assert!(rt; (new.sectors(), old, postings) == (4_039, Ok(true), Ok(true)));
     let found = recovered(rt, alloc, new);
-    assert!(rt; (found.ledger.balance(1), found.ledger.total()) == (Some(total), total));
+    assert!(rt; (found.ledger.balance(1), found.ledger.total()) == (Some(5_009), 5_009));
     let journal = (found.journal.base(), found.journal.room());
-    assert!(rt; journal == (next, 1_000));
-    Ok(())
+    assert!(rt; journal == (1_007, 1_000));
 }
 
+// A full device is copied to as many slots.
 #[test]
 fn a_thousand_full_slots_come_over(rt: HostRuntime) -> Result<(), Fail> {
     let alloc = rt.alloc();
     let full = Image {
         slots: 1_000,
-        records: &[FIVE; 1_000],
-        ..LAYOUT_1
-    };
-    thousand_come_over(&rt, alloc, full.device(alloc)?, (5_000, 1_000))?;
-    let full = Image {
-        slots: 1_000,
         held: 9,
-        records: full.records,
+        records: &[FIVE; 1_000],
         ..SECOND
     };
-    thousand_come_over(&rt, alloc, full.device(alloc)?, (5_009, 1_007))
+    let (old, new) = migrated(&rt, alloc, full.device(alloc)?, 1_000)?;
+    hold_a_thousand(&rt, alloc, old, new);
+    Ok(())
 }

@@ -1,5 +1,4 @@
 //! Offices that are opened, take turns and are closed.
-mod closing;
 mod lent;
 mod many;
 mod turns;

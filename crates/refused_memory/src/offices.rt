@@ -12,50 +12,20 @@ use std::test::Fail;
 use test_scenes::deposit;
 
 // How far an office came.
-#[derive(Clone, Copy, Debug, Drop, PartialEq, Eq)]
+#[derive(Clone, Copy, Drop, PartialEq, Eq)]
 enum Came {
     ToTheEnd,
     // its device had no memory in a turn
     ToAFault,
 }
 
-// Two seats, that of the bottom station and that of the top one, which isn't privileged.
+// The work of two seats, that of the bottom station and that of the top one.
 #[derive(Drop)]
 struct TwoSeats<'a, R> {
     rt: &'a R,
 }
 
-// A seat as it was handed out.
-fn is_new<L: Count>(rt: &impl Abort, seat: &Seat<L>) {
-    assert!(rt; (seat.turns().len(), seat.denied(), seat.reached()) == (0, None, 0));
-}
-
-// Running out of memory for a place in a seat's list comes before every other refusal, and leaves the seat as it was.
-fn asks_in_vain<L: Count + OpenedOn, R: Abort + Wait + Print>(
-    rt: &R,
-    office: &Office<Noted, L>,
-    bottom: &mut Seat<L>,
-    top: &mut Seat<L>,
-) {
-    let sixteen = [deposit(1, 5); 16];
-    let mut answer = office.turn(rt, top, &sixteen);
-    if answer == Err(TurnRefusal::Memory) {
-        told(rt, "Office::turn");
-        is_new(rt, top);
-        answer = office.turn(rt, top, &sixteen);
-    }
-    assert!(rt; answer == Err(TurnRefusal::NotPrivileged));
-    assert!(rt; top.denied() == Some(0));
-    let mut refusal = office.turn_within(rt, bottom, &sixteen, 0).err();
-    if refusal == Some(WithinRefusal::Turn(TurnRefusal::Memory)) {
-        told(rt, "Office::turn_within");
-        is_new(rt, bottom);
-        refusal = office.turn_within(rt, bottom, &sixteen, 0).err();
-    }
-    assert!(rt; refusal == Some(WithinRefusal::Reached));
-}
-
-// A turn of a seat with a place in its list: under the lock there may be no memory for the history, or for the device.
+// A turn of a seat: there may be no memory for its list, or under the lock for the history or for the device.
 fn takes_a_turn<L: Count + OpenedOn, R: Abort + Wait + Print>(
     rt: &R,
     office: &Office<Noted, L>,
@@ -66,7 +36,7 @@ fn takes_a_turn<L: Count + OpenedOn, R: Abort + Wait + Print>(
     let before = seat.turns().len();
     let mut refusal = office.turn_within(rt, seat, &entries, limit).err();
     if refusal == Some(WithinRefusal::Turn(TurnRefusal::Memory)) {
-        told(rt, "Office::turn_within, under the lock");
+        told(rt, "Office::turn_within");
         assert!(rt; seat.turns().len() == before);
         refusal = office.turn_within(rt, seat, &entries, limit).err();
     }
@@ -90,9 +60,11 @@ fn takes_a_turn<L: Count + OpenedOn, R: Abort + Wait + Print>(
 fn takes_turns<L: Count + OpenedOn, R: Abort + Wait + Print>(
     rt: &R,
     office: &Office<Noted, L>,
-    bottom: &mut Seat<L>,
-    top: &mut Seat<L>,
+    seats: &mut [Seat<L>],
 ) -> Came {
+    let [bottom, top] = seats else {
+        panic!(rt; "two seats");
+    };
     for _ in 0..3u64 {
         if takes_a_turn(rt, office, bottom, 6) == Came::ToAFault {
             return Came::ToAFault;
@@ -115,12 +87,7 @@ impl<'a, R: Abort + Wait + Print> OfficeWork<Noted> for TwoSeats<'a, R> {
         mut seats: Vec<Seat<L>>,
     ) -> Result<(Vec<Seat<L>>, Came), Infallible> {
         let TwoSeats { rt } = self;
-        assert!(rt; seats.len() == 2);
-        let [bottom, top] = seats.as_mut_slice() else {
-            panic!(rt; "two seats");
-        };
-        asks_in_vain(rt, office, bottom, top);
-        let came = takes_turns(rt, office, bottom, top);
+        let came = takes_turns(rt, office, seats.as_mut_slice());
         Ok((seats, came))
     }
 }

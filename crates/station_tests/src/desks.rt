@@ -40,8 +40,6 @@ fn a_turn_answers_what_was_gathered(rt: HostRuntime) -> Result<(), Fail> {
         let _ = feed.submit(entry);
     }
     let turn = clerk.turn(0, desk.gather())?;
-    let shown = format!(in rt.alloc(); "{feed:?} {desk:?}")?;
-    assert!(rt; shown.as_str() == "Feed { next: 3, .. } Desk { held: 3, .. }");
     desk.settle(&turn);
     assert!(rt; desk.gather() == [].as_slice());
     tells_of_three(&rt, &mut feed);

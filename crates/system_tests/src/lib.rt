@@ -1,5 +1,5 @@
-//! Tests that need several crates beside each other: a posting behind a power loss, calls without an end, what searches
-//! read, and what programmers are told.
+//! Tests that need several crates beside each other: a posting behind a power loss, calls without an end, and what
+//! searches read.
 #![tactic(auto)]
 
 #[cfg(test)]
@@ -9,8 +9,4 @@ mod example;
 #[cfg(test)]
 mod limits;
 #[cfg(test)]
-mod refusals;
-#[cfg(test)]
 mod searches;
-#[cfg(test)]
-mod shown;

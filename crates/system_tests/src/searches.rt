@@ -1,7 +1,6 @@
 //! What searches read, and what they tell if somebody else wrote the device.
 use crate::devices::opened;
 use fault_injector::{Call, Noting};
-use gate_journal::{Journal, ReadRefusal};
 use sector_device::{Device, MemoryDevice, SECTOR};
 use std::alloc::{AllocError, Global};
 use std::process::Abort;
@@ -86,6 +85,13 @@ fn a_search_reads_the_records_of_its_step_alone(rt: HostRuntime) -> Result<(), F
     let alloc = rt.alloc();
     let device = posted(&rt, alloc, formatted(alloc, 258)?, 258)?;
     let (mut clerk, from) = noted(&rt, alloc, device)?;
+    find_all(&rt, &mut clerk)?;
+    let steps = [(0, 256), (256, 257), (250, 256), (2, 258), (0, 6)];
+    expect_reads(&rt, clerk.into_device().calls(), from, 258, &steps);
+    Ok(())
+}
+
+fn find_all(rt: &impl Abort, clerk: &mut Clerk<Noting<MemoryDevice>>) -> Result<(), FindRefusal> {
     let searches = [
         (256, 0, u64::MAX, further(256, 258)),
         (256, 256, 257, at(256, 257)),
@@ -96,81 +102,27 @@ fn a_search_reads_the_records_of_its_step_alone(rt: HostRuntime) -> Result<(), F
     for (reference, first, end, found) in searches {
         assert!(rt; clerk.find(reference, first, end)? == found);
     }
-    let device = clerk.into_device();
-    let steps = [(0, 256), (256, 257), (250, 256), (2, 258), (0, 6)];
-    expect_reads(&rt, device.calls(), from, 258, &steps);
     Ok(())
 }
 
-// How many calls a clerk makes for searches: the reference of each, where it begins, and what it has to tell. Before
-// them the clerk takes a turn if it is asked to.
-fn calls_of(
-    rt: &impl Abort,
-    alloc: Global,
-    device: MemoryDevice,
-    takes_turn: bool,
-    searches: &[(u64, u64, Found)],
-) -> Result<usize, Fail> {
-    let (mut clerk, from) = noted(rt, alloc, device)?;
-    if takes_turn {
-        clerk.turn(0, &[with_reference(2)])?;
-    }
-    for (reference, first, found) in searches {
-        assert!(rt; clerk.find(*reference, *first, u64::MAX)? == *found);
-    }
-    Ok(clerk.into_device().calls().len().saturating_sub(from))
-}
-
-// The records of both banks are found: by a clerk that made the checkpoint, which knows that they belong together and
-// reads the records alone, and by one that was opened behind it. That one looks at the other bank first, and once.
-#[test]
-fn a_search_behind_a_checkpoint_reads_both_banks(rt: HostRuntime) -> Result<(), Fail> {
-    let alloc = rt.alloc();
-    let searches = [
-        (0, 0, at(0, 3)),
-        (2, 1, at(2, 3)),
-        (2, 3, Found::Nowhere(0)),
-    ];
-    let turn = calls_of(
-        &rt,
-        alloc,
-        posted(&rt, alloc, formatted(alloc, 2)?, 2)?,
-        true,
-        &[],
-    )?;
-    let device = posted(&rt, alloc, formatted(alloc, 2)?, 2)?;
-    // two slots of the earlier bank, a gate and a body each, and a record of the live one
-    assert!(rt; calls_of(&rt, alloc, device, true, &searches)?.saturating_sub(turn) == 5);
-
-    let device = posted(&rt, alloc, formatted(alloc, 2)?, 3)?;
-    // a gate and a head, a snapshot and the two slots, the live snapshot; and the same records
-    assert!(rt; calls_of(&rt, alloc, device, false, &searches)? == 2 + 17 + 4 + 17 + 5);
-    Ok(())
-}
-
-// How far back records are in sight is found out 256 slots at a time.
-#[test]
-fn a_search_looks_back_in_steps(rt: HostRuntime) -> Result<(), Fail> {
-    let alloc = rt.alloc();
-    let device = posted(&rt, alloc, formatted(alloc, 258)?, 259)?;
-    let searches = [
-        (257, 0, Found::LookingBack),
-        (257, 0, further(256, 259)),
-        (257, 256, at(257, 259)),
-        (300, 256, Found::Nowhere(0)),
-    ];
-    let looking_back = 2 + 17 + 2 * 258 + 17;
-    let searching = 2 * 256 + 2 * 2 + 2 * 2 + 1;
-    assert!(rt; calls_of(&rt, alloc, device, false, &searches)? == looking_back + searching);
-    Ok(())
-}
-
-// The latest posting of a station is looked for in the same steps, and each record is read once in each.
+// How far back records are in sight is found out 256 slots at a time. The latest posting of a station is looked for in
+// the same steps, and each record is read once in each.
 #[test]
 fn a_latest_posting_is_looked_for_in_steps(rt: HostRuntime) -> Result<(), Fail> {
     let alloc = rt.alloc();
     let device = posted(&rt, alloc, formatted(alloc, 258)?, 259)?;
     let (mut clerk, from) = noted(&rt, alloc, device)?;
+    look_for_all(&rt, &mut clerk)?;
+    let calls = clerk.into_device().calls().len().saturating_sub(from);
+    let looking_back = 2 + 17 + 2 * 258 + 17;
+    assert!(rt; calls == looking_back + 2 * (2 * 256 + 2 * 2 + 1));
+    Ok(())
+}
+
+fn look_for_all(
+    rt: &impl Abort,
+    clerk: &mut Clerk<Noting<MemoryDevice>>,
+) -> Result<(), FindRefusal> {
     let searches = [
         (0, u64::MAX, 0, None, Reached::LookingBack),
         (0, u64::MAX, 0, Some(254), Reached::Further(256)),
@@ -178,17 +130,14 @@ fn a_latest_posting_is_looked_for_in_steps(rt: HostRuntime) -> Result<(), Fail> 
         (1, 100, 0, Some(99), Reached::Further(256)),
         (1, 100, 256, None, Reached::All(0)),
     ];
-    for (station, limit, first, number, reached) in &searches {
-        let latest = clerk.latest(*station, *limit, *first)?;
+    for (station, limit, first, number, reached) in searches {
+        let latest = clerk.latest(station, limit, first)?;
         let told = latest
             .posting
             .map(|posting| (posting.number, posting.entry));
         let expected = number.map(|number| (number, with_reference(number)));
-        assert!(rt; (told, latest.reached) == (expected, *reached));
+        assert!(rt; (told, latest.reached) == (expected, reached));
     }
-    let calls = clerk.into_device().calls().len().saturating_sub(from);
-    let looking_back = 2 + 17 + 2 * 258 + 17;
-    assert!(rt; calls == looking_back + 2 * (2 * 256 + 2 * 2 + 1));
     Ok(())
 }
 
@@ -212,21 +161,16 @@ fn with_another_byte(
     Ok(Rewritten::new(inner, at, bytes))
 }
 
-// What a clerk finds of the references 7 and 8, and whether the journal reads a record.
+// What a clerk finds of the references 7 and 8.
 fn told(
     rt: &impl Abort,
     alloc: Global,
     place: usize,
     byte: u8,
-) -> Result<([Result<Found, FindRefusal>; 2], Option<ReadRefusal>), Fail> {
+) -> Result<[Result<Found, FindRefusal>; 2], Fail> {
     let device = with_another_byte(rt, alloc, place, byte)?;
     let mut clerk = opened(rt, alloc, device, line([0, 0], [1, 0])?);
-    let found = [clerk.find(7, 0, u64::MAX), clerk.find(8, 0, u64::MAX)];
-    let Ok(mut journal) = Journal::open(with_another_byte(rt, alloc, place, byte)?) else {
-        panic!(rt; "not opened");
-    };
-    assert!(rt; (journal.base(), journal.next()) == (2, 3));
-    Ok((found, journal.read_record(2).err()))
+    Ok([clerk.find(7, 0, u64::MAX), clerk.find(8, 0, u64::MAX)])
 }
 
 // A record that is none any more is told, and never taken for one without the reference: its mark, its sequence, its
@@ -236,22 +180,17 @@ fn told(
 fn a_record_that_was_changed_is_told(rt: HostRuntime) -> Result<(), Fail> {
     let changed = Err(FindRefusal::Changed);
     let posted = Ok(at(2, 3));
-    let no_record = Some(ReadRefusal::Changed);
-    let table = [
-        (0, 0, [changed, changed], no_record),
-        (5, 64, [changed, changed], no_record),
-        (7, 0, [changed, changed], no_record),
-        (15, 1, [changed, changed], no_record),
-        (96, 1, [changed, changed], no_record),
-        (32, 9, [changed, changed], None),
-        (64, 9, [posted, changed], None),
-        (0, 0x54, [posted, posted], None),
-    ];
-    for (place, byte, found, read) in table {
-        assert!(rt;
-            told(&rt, rt.alloc(), place, byte)? == (found, read),
-            "{place}"
-        );
+    for (place, byte, found) in [
+        (0, 0, [changed, changed]),
+        (5, 64, [changed, changed]),
+        (7, 0, [changed, changed]),
+        (15, 1, [changed, changed]),
+        (96, 1, [changed, changed]),
+        (32, 9, [changed, changed]),
+        (64, 9, [posted, changed]),
+        (0, 0x54, [posted, posted]),
+    ] {
+        assert!(rt; told(&rt, rt.alloc(), place, byte)? == found);
     }
     Ok(())
 }

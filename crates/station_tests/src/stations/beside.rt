@@ -2,13 +2,16 @@
 
 use super::TRIES;
 use fault_injector::{Held, HeldFlags};
-use office_day::{Closing, run_office};
-use station_desk::{Gate, Outcome, desk};
+use line_lock::Line;
+use office_day::run_office;
+use sector_device::MemoryDevice;
+use station_desk::{Desk, Feed, Gate, Outcome, desk};
 use std::alloc::Global;
-use std::sync::Arc;
+use std::process::Abort;
 use std::sync::atomic::{AtomicBool, Ordering};
+use std::sync::{Arc, Wait};
 use std::test::Fail;
-use std::thread::yield_now;
+use std::thread::{Threads, yield_now};
 use test_scenes::{deposit, formatted, line};
 
 // Gives leave to the held sync when station 1 has gathered for the first time, and then looks until it has begun.
@@ -40,9 +43,34 @@ impl Gate for BesideSync {
     fn answered(&self, _station: u8) {}
 }
 
+// The feed of the bottom one of two stations, at which a deposit is submitted, and both desks.
+fn two_desks(rt: &impl Abort, alloc: Global) -> Result<(Feed, Vec<Desk>), Fail> {
+    let (mut feed, bottom) = desk(alloc, 4)?;
+    let (_, top) = desk(alloc, 4)?;
+    assert!(rt; feed.submit(deposit(1, 5)) == Ok(0));
+    Ok((feed, vec![in alloc; bottom, top]?))
+}
+
+// One turn of the two stations on this device: what account 1 holds then.
+fn one_turn<R: Abort + Threads + Wait + Sync>(
+    rt: &R,
+    alloc: Global,
+    device: Held<MemoryDevice>,
+    line: Line,
+    desks: Vec<Desk>,
+    gate: &BesideSync,
+) -> Option<u64> {
+    assert!(rt; desks.len() == line.stations() as usize);
+    match run_office(rt, alloc, device, line, desks, gate, 1, TRIES) {
+        Ok((closing, _)) => closing.clerk.ledger().balance(1),
+        Err((_, refusal)) => panic!(rt; "{refusal}"),
+    }
+}
+
 #[test]
 fn gather_runs_beside_sync(rt: HostRuntime) -> Result<(), Fail> {
     let alloc = rt.alloc();
+    let line = line([0, 0], [1, 0])?;
     let flags = Arc::new(alloc, HeldFlags::new())?;
     let device = Held::new(formatted(alloc, 4)?, 1, Arc::try_clone(&flags)?);
     let gate = BesideSync {
@@ -50,23 +78,10 @@ fn gather_runs_beside_sync(rt: HostRuntime) -> Result<(), Fail> {
         asked: AtomicBool::new(false),
         seen: AtomicBool::new(false),
     };
-    let (mut feed, bottom) = desk(alloc, 4)?;
-    let (_, top) = desk(alloc, 4)?;
-    assert!(rt; feed.submit(deposit(1, 5)) == Ok(0));
-    let mut desks = Vec::new(alloc);
-    desks.push(bottom)?;
-    desks.push(top)?;
-    let line = line([0, 0], [1, 0])?;
-    let run = run_office(&rt, alloc, device, line, desks, &gate, 1, TRIES);
-    let (closing, left) = match run {
-        Ok(run) => run,
-        Err((_, refusal)) => panic!(rt; "{refusal}"),
-    };
-    assert!(rt; gate.seen.load(Ordering::SeqCst));
-    assert!(rt; left.len() == 2);
-    let answer = feed.answer().ok_or("an answer")?;
-    assert!(rt; answer.outcome == Outcome::Posted(0));
-    let Closing { clerk, .. } = closing;
-    assert!(rt; clerk.ledger().balance(1) == Some(5));
+    let (mut feed, desks) = two_desks(&rt, alloc)?;
+    let balance = one_turn(&rt, alloc, device, line, desks, &gate);
+    assert!(rt; balance == Some(5) && gate.seen.load(Ordering::SeqCst));
+    let outcome = feed.answer().map(|answer| answer.outcome);
+    assert!(rt; outcome == Some(Outcome::Posted(0)));
     Ok(())
 }
