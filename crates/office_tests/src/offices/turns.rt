@@ -16,7 +16,7 @@ struct OneTurnAfterTheOther<'a, R> {
 }
 
 impl<'a, R: Abort + Wait> OfficeWork<MemoryDevice> for OneTurnAfterTheOther<'a, R> {
-    type Answer = [Turn; 2];
+    type Answer = (Turn, Turn);
 
     type Failure = TurnRefusal;
 
@@ -24,7 +24,7 @@ impl<'a, R: Abort + Wait> OfficeWork<MemoryDevice> for OneTurnAfterTheOther<'a, 
         self,
         office: &Office<MemoryDevice, L>,
         mut seats: Vec<Seat<L>>,
-    ) -> Result<(Vec<Seat<L>>, [Turn; 2]), TurnRefusal> {
+    ) -> Result<(Vec<Seat<L>>, (Turn, Turn)), TurnRefusal> {
         let OneTurnAfterTheOther { rt } = self;
         let turns = take_turns(rt, office, seats.as_mut_slice())?;
 
@@ -51,7 +51,7 @@ fn take_turns<L: Count + OpenedOn, R: Abort + Wait>(
     rt: &R,
     office: &Office<MemoryDevice, L>,
     seats: &mut [Seat<L>],
-) -> Result<[Turn; 2], TurnRefusal> {
+) -> Result<(Turn, Turn), TurnRefusal> {
     let [bottom, top] = seats else {
         panic!(rt; "two seats");
     };
@@ -62,7 +62,7 @@ fn take_turns<L: Count + OpenedOn, R: Abort + Wait>(
     let second = office.turn(rt, top, &[])?;
     assert!(rt; (second.index, second.rule, second.posted) == (1, Rule::Top, None));
     assert!(rt; bottom.turns() == [first].as_slice() && top.turns() == [second].as_slice());
-    Ok([first, second])
+    Ok((first, second))
 }
 
 // The clerk lists two turns, of which the first posted a deposit of 5.
@@ -75,8 +75,8 @@ fn turns_are_listed_and_refusals_noted(rt: HostRuntime) -> Result<(), Fail> {
     let alloc = rt.alloc();
     let work = OneTurnAfterTheOther { rt: &rt };
     match with_office(alloc, formatted(alloc, 4)?, line([0, 0], [1, 0])?, work) {
-        Ok((Closing { clerk, audit }, turns)) => {
-            lists(&rt, &clerk, &turns);
+        Ok((Closing { clerk, audit }, (first, second))) => {
+            lists(&rt, &clerk, &[first, second]);
             assert!(rt; (audit.last, audit.first_legitimate) == (line([1, 1], [1, 0])?, Some(0)));
             Ok(())
         }
