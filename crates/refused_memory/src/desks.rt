@@ -1,12 +1,19 @@
 //! The two sides of a desk.
 use crate::beginnings::told;
-use station_desk::{Answer, Ask, Desk, Feed, Outcome, desk, reconcile};
-use std::process::Abort;
+use station_desk::{Answer, Ask, Outcome, desk, reconcile};
 use std::test::Fail;
 use test_scenes::deposit;
 
-// Four deposits are submitted: one is answered, one is told as undecided and not collected, and two have no answer.
-fn submits_four(rt: &impl Abort, feed: &mut Feed, desk: &mut Desk) {
+#[test]
+fn a_desk_is_made_and_reconciled(rt: HostRuntime) -> Result<(), Fail> {
+    let alloc = rt.alloc();
+    let (mut feed, mut desk) = match desk(alloc, 2) {
+        Ok(sides) => sides,
+        Err(_) => {
+            told(&rt, "desk");
+            desk(alloc, 2)?
+        }
+    };
     assert!(rt; feed.submit(deposit(1, 5)) == Ok(0));
     assert!(rt; feed.submit(deposit(1, 6)) == Ok(1));
     assert!(rt; desk.gather().len() == 2);
@@ -20,19 +27,6 @@ fn submits_four(rt: &impl Abort, feed: &mut Feed, desk: &mut Desk) {
     assert!(rt; feed.submit(deposit(1, 7)) == Ok(2));
     assert!(rt; desk.gather() == [deposit(1, 7)].as_slice());
     assert!(rt; feed.submit(deposit(1, 8)) == Ok(3));
-}
-
-#[test]
-fn a_desk_is_made_and_reconciled(rt: HostRuntime) -> Result<(), Fail> {
-    let alloc = rt.alloc();
-    let (mut feed, mut desk) = match desk(alloc, 2) {
-        Ok(sides) => sides,
-        Err(_) => {
-            told(&rt, "desk");
-            desk(alloc, 2)?
-        }
-    };
-    submits_four(&rt, &mut feed, &mut desk);
     let all = match reconcile(alloc, feed, desk) {
         Ok(all) => all,
         Err((feed, desk, _)) => {
