@@ -1,5 +1,5 @@
 //! Lines and their moves: worked examples.
-use four_state::{Line, Rule};
+use four_state::{Line, LineRefusal, Rule};
 use std::process::Abort;
 
 // The line that this text shows: the bits x, a slash, and the bits up, station 0 first.
@@ -12,6 +12,64 @@ pub fn line(rt: &impl Abort, text: &[u8]) -> Line {
         up[s] = text[n + 1 + s] == b'1';
     }
     Line::from_bits(n as u64, &x[..n], &up[..n]).expect(rt, "a line")
+}
+
+// Each of these moves is the only privilege at its place, and leaves this line.
+fn pass(rt: &impl Abort, start: Line, moves: &[(u8, Rule, &[u8])]) {
+    let mut at = start;
+    for (station, rule, next) in moves {
+        assert!(rt; at.is_legitimate() && *station < at.stations());
+        assert!(rt; at.privilege(*station) == Some(*rule));
+        assert!(rt; at.enabled(*station, *rule));
+        at.make_move(*station, *rule);
+        assert!(rt; at == line(rt, next));
+    }
+}
+
+#[test]
+fn two_and_three_stations_take_turns(rt: HostRuntime) {
+    let two: [(u8, Rule, &[u8]); 4] = [
+        (0, Rule::Bottom, b"10/10"),
+        (1, Rule::Top, b"11/10"),
+        (0, Rule::Bottom, b"01/10"),
+        (1, Rule::Top, b"00/10"),
+    ];
+    pass(&rt, line(&rt, b"00/10"), &two);
+    let three: [(u8, Rule, &[u8]); 8] = [
+        (0, Rule::Bottom, b"100/100"),
+        (1, Rule::Raise, b"110/110"),
+        (2, Rule::Top, b"111/110"),
+        (1, Rule::Lower, b"111/100"),
+        (0, Rule::Bottom, b"011/100"),
+        (1, Rule::Raise, b"001/110"),
+        (2, Rule::Top, b"000/110"),
+        (1, Rule::Lower, b"000/100"),
+    ];
+    pass(&rt, line(&rt, b"000/100"), &three);
+}
+
+#[test]
+fn bits_that_are_no_line_are_refused_and_the_ends_of_up_are_set(rt: HostRuntime) {
+    let set = line(&rt, b"00/01");
+    assert!(rt; set == line(&rt, b"00/10") && 1 < set.stations());
+    assert!(rt; (set.x(0), set.up(0), set.up(1)) == (false, true, false));
+    let bits = [false; 65];
+    assert!(rt; Line::from_bits(1, &bits[..1], &bits[..1]) == Err(LineRefusal::Stations));
+    assert!(rt; Line::from_bits(65, &bits, &bits) == Err(LineRefusal::Stations));
+    assert!(rt; Line::from_bits(2, &bits[..3], &bits[..2]) == Err(LineRefusal::Length));
+}
+
+#[test]
+fn a_middle_station_may_have_two_privileges(rt: HostRuntime) {
+    let both = line(&rt, b"011/110");
+    assert!(rt; both.enabled(1, Rule::Raise) && both.enabled(1, Rule::Lower));
+    assert!(rt; both.privileges() == 2 && !both.is_legitimate());
+    assert!(rt; 1 < both.stations() && both.privilege(1) == Some(Rule::Raise));
+    let (mut raised, mut lowered) = (both, both);
+    raised.make_move(1, Rule::Raise);
+    lowered.make_move(1, Rule::Lower);
+    assert!(rt; (raised, lowered) == (line(&rt, b"001/110"), line(&rt, b"011/100")));
+    assert!(rt; raised.is_legitimate() && lowered.is_legitimate());
 }
 
 #[test]

@@ -67,27 +67,24 @@ const BEFORE_THE_ENDS: &str =
 const AFTER_THE_ENDS: &str =
     "answer 1 0 undecided\nanswer 1 1 undecided\nheld 1 1\nheld 2 2\nrefused Faulted\nrefused Faulted\ntotal 0\n";
 
-const ENDS: [&str; 4] = [
-    "station 0 Stopped\nstation 1 Device\nstation 2 Stopped\n",
-    "station 0 Stopped\nstation 1 Device\nstation 2 Faulted\n",
-    "station 0 Faulted\nstation 1 Device\nstation 2 Stopped\n",
-    "station 0 Faulted\nstation 1 Device\nstation 2 Faulted\n",
-];
-
 // Station 1 has the privilege and meets the fault: its answers are undecided. The others were told of it, or found it,
 // and what they held stays held.
 #[test]
 fn a_day_on_a_device_that_fails(rt: HostRuntime) -> Result<(), Fail> {
-    let output = told_with_a_fault(&rt, rt.alloc(), 2, FAULTY_DAY)?;
-    let rest = output
-        .as_slice()
-        .strip_prefix(BEFORE_THE_ENDS.as_bytes())
-        .unwrap_or(b"");
-    let after = AFTER_THE_ENDS.as_bytes();
-    assert!(rt;
-        ENDS.iter()
-            .any(|ends| rest.strip_prefix(ends.as_bytes()) == Some(after))
-    );
+    let alloc = rt.alloc();
+    let output = told_with_a_fault(&rt, alloc, 2, FAULTY_DAY)?;
+    let mut is_wanted = false;
+    for (first, last) in [
+        ("Stopped", "Stopped"),
+        ("Stopped", "Faulted"),
+        ("Faulted", "Stopped"),
+        ("Faulted", "Faulted"),
+    ] {
+        let ends = format!(in alloc; "station 0 {first}\nstation 1 Device\nstation 2 {last}\n")?;
+        let wanted = format!(in alloc; "{BEFORE_THE_ENDS}{ends}{AFTER_THE_ENDS}")?;
+        is_wanted = is_wanted || output.as_slice() == wanted.as_str().as_bytes();
+    }
+    assert!(rt; is_wanted);
     Ok(())
 }
 
@@ -103,23 +100,41 @@ fn a_day_that_can_not_begin(rt: HostRuntime) -> Result<(), Fail> {
     Ok(())
 }
 
-// Whichever station moves first.
+// Of a day whose line never became legitimate.
+const NEVER: u64 = u64::MAX;
+
+// The index from which the one day of this output, of so many turns, is legitimate.
+fn legitimate_at(output: &[u8], turns: &str) -> Option<u64> {
+    let text = std::str::from_utf8(output).ok()?;
+    let line = text.lines().find(|line| line.starts_with("day "))?;
+    let (day, index) = line.split_once(" legitimate ")?;
+    if day.strip_prefix("day ") != Some(turns) {
+        return None;
+    }
+    if index == "never" {
+        return Some(NEVER);
+    }
+    index.strip_prefix("at ")?.parse().ok()
+}
+
+// Whichever station moves first: one privilege alone is left after so many turns, or after 7 of 26 at most.
 #[test]
 fn a_day_tells_when_its_line_became_legitimate(rt: HostRuntime) -> Result<(), Fail> {
     let table = [
-        (
-            "format 4\nopen 3 011 110\nday 5\n",
-            "\nday 5 legitimate at 1\n",
-        ),
-        (
-            "format 4\nopen 5 01111 11110\nday 2\n",
-            "\nday 2 legitimate never\n",
-        ),
+        ("3 011 110", "5", 1, 1),
+        ("4 0111 1110", "5", 2, 2),
+        ("5 01111 11110", "4", 3, 3),
+        ("5 01111 11110", "2", NEVER, NEVER),
+        ("4 0101 1000", "1", NEVER, NEVER),
+        ("4 0101 1000", "26", 0, 7),
     ];
-    for (script, line) in table {
-        let (output, end) = told(&rt, rt.alloc(), script)?;
-        let text = std::str::from_utf8(output.as_slice()).unwrap_or("");
-        assert!(rt; end == Ok(()) && text.contains(line));
+    let alloc = rt.alloc();
+    for (line, turns, least, most) in table {
+        let script = format!(in alloc; "format 4\nopen {line}\nday {turns}\n")?;
+        let (output, end) = told(&rt, alloc, script.as_str())?;
+        assert!(rt; end == Ok(()), "{script}");
+        let index = legitimate_at(output.as_slice(), turns).ok_or("a day")?;
+        assert!(rt; least <= index && index <= most, "{script}");
     }
     Ok(())
 }

@@ -4,11 +4,15 @@
 #![tactic(auto)]
 
 #[cfg(test)]
+mod bad_streams;
+#[cfg(test)]
 mod crashes;
 #[cfg(test)]
 mod damage;
 #[cfg(test)]
 mod day;
+#[cfg(test)]
+mod fakes;
 #[cfg(test)]
 mod grammar;
 #[cfg(test)]

@@ -1,12 +1,8 @@
 //! Scripts that are read, and what is printed, also beside a reader or a writer that pauses or fails.
-use console_engine::{MemoryDevice, ScriptFault, run_script};
 use fakes::{Giving, Interrupted, Taking};
 use script_streams::{Output, StreamFault, read_script, write_all};
 use std::alloc::Global;
-use std::process::Abort;
-use std::sync::Wait;
 use std::test::Fail;
-use std::thread::Threads;
 
 mod fakes;
 
@@ -108,37 +104,4 @@ fn lines_are_gathered_to_65536_bytes(rt: HostRuntime) -> Result<(), Fail> {
     assert!(rt; last.len() == 1_024 + 14);
     assert!(rt; last.as_slice().ends_with(b"\naccount 1 500\n"));
     Ok(())
-}
-
-// The one call that the writer takes ends with these lines, and then it is refused.
-fn hands_over<R: Abort + Threads + Wait + Sync>(
-    rt: &R,
-    alloc: Global,
-    script: &str,
-    last: &str,
-) -> Result<(), Fail> {
-    let device = MemoryDevice::new(alloc, 64)?;
-    let mut writer = Taking::for_calls(alloc, 1);
-    let mut reader = script.as_bytes();
-    let end = run_script(rt, alloc, &mut reader, &mut writer, device);
-    let is_last = match writer.pieces() {
-        [piece] => piece.as_slice().ends_with(last.as_bytes()),
-        _ => false,
-    };
-    assert!(rt; end == Err(ScriptFault::Write) && is_last);
-    Ok(())
-}
-
-// The lines of a turn and of a day are handed to the writer before the next line runs.
-#[test]
-fn turns_and_days_are_acknowledged_at_once(rt: HostRuntime) -> Result<(), Fail> {
-    let turn = "format 4\nopen 2 00 10\npost 0 deposit 1 5\nturn 0\nbalances\n";
-    hands_over(&rt, rt.alloc(), turn, "posted 0\nentry 0 ok\n")?;
-    let day = "format 4\nopen 2 00 10\npost 0 deposit 1 5\nday 1\nbits\n";
-    hands_over(
-        &rt,
-        rt.alloc(),
-        day,
-        "station 1 Reached\nanswer 0 0 posted 0\n",
-    )
 }

@@ -26,24 +26,15 @@ impl<'a, R: Abort + Wait> OfficeWork<MemoryDevice> for SeventyThousandTurnsEach<
         mut seats: Vec<Seat<L>>,
     ) -> Result<(Vec<Seat<L>>, ()), TurnRefusal> {
         let SeventyThousandTurnsEach { rt } = self;
-        take_turns(rt, office, seats.as_mut_slice())?;
+        let [bottom, top] = seats.as_mut_slice() else {
+            panic!(rt; "two seats");
+        };
+        for _ in 0..TURNS {
+            office.turn(rt, bottom, &[])?;
+            office.turn(rt, top, &[])?;
+        }
         Ok((seats, ()))
     }
-}
-
-fn take_turns<L: Count + OpenedOn, R: Abort + Wait>(
-    rt: &R,
-    office: &Office<MemoryDevice, L>,
-    seats: &mut [Seat<L>],
-) -> Result<(), TurnRefusal> {
-    let [bottom, top] = seats else {
-        panic!(rt; "two seats");
-    };
-    for _ in 0..TURNS {
-        office.turn(rt, bottom, &[])?;
-        office.turn(rt, top, &[])?;
-    }
-    Ok(())
 }
 
 #[test]
