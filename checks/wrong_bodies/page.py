@@ -1,49 +1,36 @@
-"""The document of the wrong bodies, made from what became of them when all were tried."""
-import re
-from collections import defaultdict
+"""The document of the wrong bodies, made from the lines that tell what refused them."""
+from itertools import groupby
 from pathlib import Path
-
-from edits import edits_below
-from trials import aimed_at
 
 DOCUMENT = Path("docs/WRONG_BODIES.md")
 TOP = """# Wrong bodies
 
-Each line is a body that was made wrong on purpose, in a file of `crates/*/must-fail`: the name says what it does, then comes what was changed, and what the prover can't prove of it then. The gate tries each of them, and fails where one is taken; `python3 checks/wrong_bodies CRATE` tries those of a crate. This page is made by `python3 checks/wrong_bodies --page`.
+Each line is a body that was made wrong on purpose, in a file of `crates/*/must-fail`: the name says what it does, then comes what was changed, and what the prover can't prove of it then. `python3 checks/wrong_bodies CRATE` tries those of a crate. The merge gate tries those whose sources have changed, and a tenth of the others. This page is made by `python3 checks/wrong_bodies --write`.
 """
 HEAD = ["| The wrong body | In | Not proved |", "|---|---|---|"]
-ROW = re.compile(r"^\| (.*?) \| `(.*?)` \| (.*?) \|$", re.MULTILINE)
 
 
-def row(name, shown, told):
-    return f"| {name.replace('_', ' ')} | `{shown}` | {told} |"
-
-
-def write(outcomes):
-    """Writes the document of what became of all edits."""
-    by_crate = defaultdict(list)
-    for outcome in sorted(outcomes, key=lambda it: str(it.aimed.edit)):
-        by_crate[outcome.aimed.edit.crate].append(row(outcome.aimed.edit.name, outcome.aimed.shown, outcome.told))
+def text(aimed, lines):
+    """The document for these edits and lines."""
     parts = [TOP]
-    for crate, rows in by_crate.items():
+    for crate, ones in groupby(sorted(aimed, key=lambda one: one.key), key=lambda one: one.edit.crate):
+        rows = [row(one, lines[one.key]) for one in ones if one.key in lines]
         parts.append("\n".join([f"## `{crate}`", "", *HEAD, *rows, ""]))
-    DOCUMENT.write_text("\n".join(parts), encoding="utf-8")
+    return "\n".join(parts)
 
 
-def listed():
-    """The edits that the document lists: the crate, the name and what was changed."""
-    crate = ""
-    for line in DOCUMENT.read_text(encoding="utf-8").splitlines():
-        if line.startswith("## "):
-            crate = line[3:].strip("`")
-        elif found := ROW.match(line):
-            yield crate, found[1], found[2]
+def row(one, line):
+    """What the document says of an edit: three goals at most."""
+    return f"| {one.edit.name.replace('_', ' ')} | `{one.shown}` | {', '.join(line.goals[:3])} |"
 
 
-def fault(tree):
-    """Why the document isn't that of the edits that are there, or None."""
-    there = set()
-    for edit in edits_below("crates"):
-        there.add((edit.crate, edit.name.replace("_", " "), aimed_at(edit, tree).shown))
-    differing = sorted(there ^ set(listed()))
-    return f"{DOCUMENT} doesn't list the edits that are there: {differing[:3]}" if differing else None
+def write(aimed, lines):
+    DOCUMENT.write_text(text(aimed, lines), encoding="utf-8")
+
+
+def fault(aimed, lines):
+    """Why the lines or the document aren't those of the edits that are there, or None."""
+    keys = {one.key for one in aimed}
+    if differing := sorted("/".join(key) for key in keys ^ lines.keys()):
+        return f"these have no line in checks/wrong_bodies/refused, or aren't there: {', '.join(differing[:3])}"
+    return None if DOCUMENT.read_text(encoding="utf-8") == text(aimed, lines) else f"{DOCUMENT} isn't what is told of the wrong bodies"

@@ -42,9 +42,11 @@ def left_out(lines, room, file, aims):
 
 def body_from(lines, start, indent):
     """The first line of the body of the function that begins here, or None where it has none."""
+    depth = 0
     for number in range(start, len(lines)):
         line = lines[number].rstrip()
-        if line.endswith(";") or line.endswith("{}"):
+        depth += line.count("{") - line.count("}")
+        if depth == 0 and line.endswith((";", "{}")):
             return None
         if line.endswith("{") and line.startswith(indent) and not line[len(indent)].isspace():
             return number + 1

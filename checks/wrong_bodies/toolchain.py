@@ -1,7 +1,11 @@
 """The toolchain's checker, and how it is called on a crate of a tree whose libraries were built."""
+import shutil
 import subprocess
 from functools import cache
 from pathlib import Path
+
+# What the checker reads of a crate.
+PARTS = ("src", "specs", "proofs")
 
 
 @cache
@@ -12,9 +16,17 @@ def kit():
 
 
 @cache
-def version():
-    """The toolchain's name, and that of its logic."""
-    return subprocess.run(["rt", "version"], check=True, capture_output=True, text=True).stdout
+def logic():
+    """The name of the toolchain's logic."""
+    told = subprocess.run(["rt", "version"], check=True, capture_output=True, text=True)
+    return told.stdout.split("logic ")[1].strip()
+
+
+def copy_crate(folder, to):
+    """Copies what the checker reads of a crate."""
+    for part in PARTS:
+        if (folder / part).is_dir():
+            shutil.copytree(folder / part, to / part)
 
 
 @cache

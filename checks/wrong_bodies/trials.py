@@ -29,6 +29,11 @@ class Aimed:
     items: tuple
 
     @property
+    def key(self):
+        """What tells the edit from all others: its crate and its name."""
+        return self.edit.crate, self.edit.name
+
+    @property
     def shown(self):
         return ", ".join([*(function.shown for function in self.functions), *self.items])
 
@@ -40,14 +45,13 @@ class Aimed:
 
 @dataclass
 class Outcome:
-    """What became of an edit: refused at these goals, or why not, in how many seconds, and whether an earlier run saw it."""
+    """What became of an edit: refused at these goals, or why not, and in how many seconds."""
 
     aimed: Aimed
     is_refused: bool
     told: str
     seconds: float
     by_whole_crate: bool = False
-    is_recalled: bool = False
 
 
 @dataclass
@@ -118,9 +122,8 @@ def batches(aimed, tree):
 
 
 def reasons(goals):
-    """The goals in a reader's words: each once, three at most."""
-    words = list(dict.fromkeys(verdicts.shown(goal) for goal in goals))
-    return ", ".join(words[:3])
+    """The goals in a reader's words, each once: clauses first."""
+    return ", ".join(sorted({verdicts.shown(goal) for goal in goals}))
 
 
 def linked(file, to):
@@ -170,9 +173,7 @@ class Trial:
         aims = [] if is_whole else [path for one in batch.edits for path in one.judges]
         start = time.monotonic()
         with tempfile.TemporaryDirectory(dir=self.folder) as room:
-            for part in ("src", "specs", "proofs"):
-                if (crate / part).is_dir():
-                    shutil.copytree(crate / part, Path(room) / part)
+            toolchain.copy_crate(crate, Path(room))
             for file, text in batch.texts.items():
                 (Path(room) / file).write_text(text, encoding="utf-8")
             if aims:
