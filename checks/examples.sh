@@ -1,6 +1,6 @@
 #!/usr/bin/env bash
-# Runs each example, and compares what it prints with the file NAME.out beside it, and of one the bytes of its first
-# record: one line for each, and status 1 at the first difference. Word: the program that was built.
+# Runs each example, and compares what it prints with the file NAME.out beside it, and of two scripts the bytes of their
+# first record: one line for each, and status 1 at the first difference. Word: the program that was built.
 set -euo pipefail
 program=$(realpath "${1:?the word is the program that was built}")
 cd "$(dirname "$0")/.."
@@ -39,6 +39,11 @@ example healing
 example two_stations
 example three_stations
 example sealed --device "$work/sealed"
+"$program" --device "$work/batch" --sectors 55 < checks/scripts/a_batch_of_three_kinds > /dev/null
+# of station 0, with two entries: the deposit of line 3, and the transfer of line 5
+record batch 544c4231 0000 0002 0000000000000000 0000000000000000 0000000000000000 \
+    01000000 00000000 00000001 00000000 0000000000000064 0000000000000003 \
+    03000000 00000001 00000002 00000000 0000000000000028 0000000000000005
 # of station 0, with two entries: the deposit of line 3, and the seal of line 4
 record sealed 544c4231 0000 0002 0000000000000000 0000000000000000 0000000000000000 \
     01000000 00000000 00000001 00000000 000000000000000a 0000000000000003 \

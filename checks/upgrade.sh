@@ -91,6 +91,12 @@ put bad 9 544c4231 0001 0001 0000000000000001 0000000000000000 0000000000000000 
     01000000 00000000 00000041 00000000 0000000000000005 0000000000000001
 run 1 "account 65 of layout 2" nothing nothing "migrate refused Source Damaged 0 Verdict 0" --migrate bad --device other \
     --slots 1
+printf 'open 2 00 10\n' > opening
+printf 'refused Version 1\n' > refused
+run 0 "a file of layout 1, as it is" opening refused "" --device first
+cmp first kept || { echo "an older file was changed by a script"; exit 1; }
+truncate -s 511 short
+run 1 "a file of broken sectors" nothing nothing "device failed" --device short
 run 1 "no folder" nothing nothing "device failed" --migrate none/old --device never --slots 1
 [ ! -e never ] || { echo "a new file is made where the older one can't be opened"; exit 1; }
 ln first first_too
