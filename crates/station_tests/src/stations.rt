@@ -4,5 +4,7 @@ mod beside;
 mod day;
 mod limits;
 mod moments;
+mod runs;
+mod tries;
 
 const TRIES: u64 = 100_000_000;

@@ -14,7 +14,10 @@ use std::test::Fail;
 use std::thread::{Threads, yield_now};
 use test_scenes::{deposit, formatted, line};
 
-// Gives leave to the held sync when station 1 has gathered for the first time, and then looks until it has begun.
+// How often the gate looks at most. Now and then it lets other threads run, so that a busy machine gets to them.
+const LOOKS: u32 = 10_000_000;
+
+// Gives leave to the held sync when station 1 has gathered for the first time, and then looks whether it has begun.
 #[derive(Drop)]
 struct BesideSync {
     flags: Arc<HeldFlags, Global>,
@@ -24,12 +27,11 @@ struct BesideSync {
 
 impl Gate for BesideSync {
     fn gathered(&self, station: u8) {
-        if station != 1 || self.asked.load(Ordering::SeqCst) {
+        if station != 1 || self.asked.swap(true, Ordering::SeqCst) {
             return;
         }
-        self.asked.store(true, Ordering::SeqCst);
         self.flags.go.store(true, Ordering::SeqCst);
-        for look in 0..u64::MAX {
+        for look in 0..LOOKS {
             if self.flags.begun.load(Ordering::SeqCst) {
                 self.seen.store(true, Ordering::SeqCst);
                 return;
