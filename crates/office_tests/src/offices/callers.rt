@@ -24,7 +24,7 @@ fn take_turns<D: Device, L: Count + OpenedOn, R: Wait>(
 ) {
     let mut taken = 0;
     for _ in 0..MOST_REFUSALS + TURNS {
-        if taken == TURNS || stop.load(Ordering::SeqCst) {
+        if taken >= TURNS || stop.load(Ordering::SeqCst) {
             return;
         }
         match office.turn(rt, seat, &[]) {
