@@ -44,6 +44,11 @@ impl Tally {
             }
         }
     }
+
+    // Whether an answer was collected.
+    fn has_any(&self) -> bool {
+        self.posted > 0 || self.others > 0
+    }
 }
 
 #[derive(Drop)]
@@ -91,7 +96,7 @@ impl Client {
                 Some(answer) => self.tally.count(answer),
                 None => yield_now(),
             }
-            if self.tally.posted > 0 && self.tally.submitted > PLACES {
+            if self.tally.has_any() && self.tally.submitted > PLACES {
                 pace.submitted_more();
             }
         }
@@ -104,9 +109,9 @@ fn work_all<R: Wait + Threads + Sync>(rt: &R, clients: &mut [Client], pace: &Pac
     for_each_mut(rt, clients, 2, &|_, client| client.work(rt, pace));
 }
 
-// What the threads know of each other. Each of two stations sleeps until the other one has taken its turn, and amid all
-// turns until a client has collected an answer and submitted more requests than there was room for before the run: so
-// that one is answered, however long the clients take. The stations go on once one has ended.
+// What the threads know of each other. Each of two stations sleeps until the other one has taken its turn. After half of
+// the turns both sleep until a client has collected an answer and submitted more than its ring has places: the turns
+// that follow answer that request, however slow the client is. Both go on once a station has ended.
 #[derive(Drop)]
 struct Pace {
     turns: AtomicU64,
