@@ -1,8 +1,11 @@
 //! Two threads of a caller.
-use line_lock::{
-    Closing, Count, Office, OfficeWork, OpenedOn, Seat, Turn, TurnRefusal, with_office,
-};
+ghost use Rattle.sector_device.specs.MemoryDevice.{memory_device_state};
+ghost use Rattle.line_lock.specs.OpenedOn.{Names};
+
+use line_lock::{Blank, Closing, Count, Line, Office, OpenedOn, Seat, Turn, TurnRefusal};
 use sector_device::{Device, MemoryDevice};
+use std::alloc::Global;
+use std::marker::Brand;
 use std::process::Abort;
 use std::sync::Wait;
 use std::sync::atomic::{AtomicBool, Ordering};
@@ -50,27 +53,6 @@ fn take_all_turns<D: Device + Send, L: Count + OpenedOn + Send + Sync, R: Wait +
     );
 }
 
-#[derive(Drop)]
-struct FiftyTurnsEach<'a, R> {
-    rt: &'a R,
-}
-
-impl<'a, R: Wait + Threads + Sync> OfficeWork<MemoryDevice> for FiftyTurnsEach<'a, R> {
-    type Answer = ();
-
-    type Failure = TurnRefusal;
-
-    fn work<L: Count + OpenedOn + Send + Sync>(
-        self,
-        office: &Office<MemoryDevice, L>,
-        mut seats: Vec<Seat<L>>,
-    ) -> Result<(Vec<Seat<L>>, ()), TurnRefusal> {
-        let FiftyTurnsEach { rt } = self;
-        take_all_turns(rt, office, seats.as_mut_slice());
-        Ok((seats, ()))
-    }
-}
-
 // The two stations have taken their turns one after the other.
 fn took_turns(rt: &impl Abort, history: &[Turn]) {
     assert!(rt; history.len() == 2 * TURNS);
@@ -79,16 +61,34 @@ fn took_turns(rt: &impl Abort, history: &[Turn]) {
     }
 }
 
-#[test]
-fn two_callers(rt: HostRuntime) -> Result<(), Fail> {
-    let alloc = rt.alloc();
-    let work = FiftyTurnsEach { rt: &rt };
-    match with_office(alloc, formatted(alloc, 4)?, line([0, 0], [1, 0])?, work) {
-        Ok((Closing { clerk, audit }, _)) => {
-            took_turns(&rt, clerk.history());
+fn two_callers_in<L: Count + OpenedOn + Send + Sync, R: Abort + Wait + Threads + Sync>(
+    rt: &R,
+    alloc: Global,
+    device: MemoryDevice,
+    line: Line,
+    blank: Blank,
+) -> Result<(), Fail>
+    requires { Names L.name L.parts L.device L.line blank (memory_device_state device) line }
+{
+    let (office, mut seats) = match Office::<MemoryDevice, L>::open(alloc, device, line, blank) {
+        Ok(opened) => opened,
+        Err((_, refusal)) => panic!(rt; "{refusal}"),
+    };
+    take_all_turns(rt, &office, seats.as_mut_slice());
+    match office.close(seats) {
+        Ok(Closing { clerk, audit }) => {
+            took_turns(rt, clerk.history());
             assert!(rt; audit.first_legitimate == Some(0));
             Ok(())
         }
-        Err((_, refusal)) => panic!(rt; "{refusal}"),
+        Err((_, _, refusal)) => panic!(rt; "{refusal}"),
     }
+}
+
+#[test]
+fn two_callers(rt: HostRuntime) -> Result<(), Fail> {
+    let alloc = rt.alloc();
+    let line = line([0, 0], [1, 0])?;
+    let blank = Blank::new(line.stations() as u64);
+    two_callers_in::<Brand, _>(&rt, alloc, formatted(alloc, 4)?, line, blank)
 }

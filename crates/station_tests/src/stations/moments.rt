@@ -1,23 +1,14 @@
 //! What a station does when, as a gate sees it.
 use super::runs::{PartRun, desks, played};
+use super::wait_for;
 use station_desk::{End, Feed, Gate, Turn, desk};
 use std::alloc::Global;
 use std::process::Abort;
 use std::sync::atomic::{AtomicU64, Ordering};
 use std::sync::{Mutex, Wait};
 use std::test::Fail;
-use std::thread::{Threads, yield_now};
+use std::thread::Threads;
 use test_scenes::{deposit, line};
-
-// Waits until there are so many, however long other threads take.
-fn wait_for(count: &AtomicU64, many: u64) {
-    for _ in 0..u64::MAX {
-        if count.load(Ordering::SeqCst) >= many {
-            return;
-        }
-        yield_now();
-    }
-}
 
 // Stands at the feed of a station: submits one more deposit each time that the station has gathered, and counts the
 // answers that it finds then and when it is told of a turn, or else when the station has answered.
