@@ -15,8 +15,8 @@ use std::thread::Threads;
 use std::time::Clock;
 use test_scenes::{formatted, line};
 
-// Whether these are the next bytes of the answers.
-fn are_told(answers: &mut PipeReader, wanted: &[u8]) -> io::Result<bool> {
+/// Whether these are the next bytes of the answers.
+pub(crate) fn are_told(answers: &mut PipeReader, wanted: &[u8]) -> io::Result<bool> {
     for byte in wanted {
         let mut told = [0];
         answers.read_exact(&mut told)?;

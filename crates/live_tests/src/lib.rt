@@ -2,6 +2,8 @@
 #![tactic(auto)]
 
 #[cfg(test)]
+mod askers;
+#[cfg(test)]
 mod counters;
 #[cfg(test)]
 mod keepers;

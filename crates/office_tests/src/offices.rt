@@ -1,4 +1,5 @@
 //! Offices that are opened, take turns and are closed.
+mod callers;
 mod closing;
 mod lent;
 mod many;

@@ -1,42 +1,73 @@
 //! Threads at once: a station gathers while another one's sync is under way.
 
-use super::TRIES;
+use super::{TRIES, wait_for};
 use fault_injector::{Held, HeldFlags};
 use line_lock::Line;
 use office_day::run_office;
 use sector_device::MemoryDevice;
-use station_desk::{Desk, Feed, Gate, Outcome, desk};
+use station_desk::{Desk, Errand, Feed, Gate, Outcome, desk};
 use std::alloc::Global;
 use std::process::Abort;
-use std::sync::atomic::{AtomicBool, Ordering};
+use std::sync::atomic::{AtomicBool, AtomicU64, Ordering};
 use std::sync::{Arc, Wait};
 use std::test::Fail;
 use std::thread::{Threads, yield_now};
 use test_scenes::{deposit, formatted, line};
 
-// Gives leave to the held sync when station 1 has gathered for the first time, and then looks until it has begun.
+// How often the gate looks at most, once the sync has its leave. It lets other threads run each time, which a busy
+// machine needs.
+const LOOKS: u32 = 10_000_000;
+
+// How often station 1 looks whether the sync has begun, before it gathers.
+const FIRST_LOOKS: u32 = 100_000;
+
+// Gives leave to the held sync when station 1 has gathered for the first time, and then looks whether it has begun. The
+// sync waits for a while only, so station 0 begins once the other one's thread runs. Station 1 mostly gathers when the
+// sync has begun; where it is early, it waits then.
 #[derive(Drop)]
 struct BesideSync {
     flags: Arc<HeldFlags, Global>,
+    arrived: AtomicU64,
     asked: AtomicBool,
     seen: AtomicBool,
 }
 
+impl BesideSync {
+    fn has_begun(&self) -> bool {
+        self.flags.begun.load(Ordering::SeqCst)
+    }
+
+    // Station 1 is there.
+    fn arrive(&self) {
+        self.arrived.store(1, Ordering::SeqCst);
+        for _ in 0..FIRST_LOOKS {
+            if self.has_begun() {
+                return;
+            }
+        }
+    }
+}
+
 impl Gate for BesideSync {
+    fn errand<R: Wait>(&self, _rt: &R, station: u8) -> Errand {
+        match station {
+            0 => wait_for(&self.arrived, 1),
+            _ => self.arrive(),
+        }
+        Errand::Turn
+    }
+
     fn gathered(&self, station: u8) {
-        if station != 1 || self.asked.load(Ordering::SeqCst) {
+        if station != 1 || self.asked.swap(true, Ordering::SeqCst) {
             return;
         }
-        self.asked.store(true, Ordering::SeqCst);
         self.flags.go.store(true, Ordering::SeqCst);
-        for look in 0..u64::MAX {
-            if self.flags.begun.load(Ordering::SeqCst) {
+        for _ in 0..LOOKS {
+            if self.has_begun() {
                 self.seen.store(true, Ordering::SeqCst);
                 return;
             }
-            if look % 1_000 == 0 {
-                yield_now();
-            }
+            yield_now();
         }
     }
 
@@ -75,6 +106,7 @@ fn gather_runs_beside_sync(rt: HostRuntime) -> Result<(), Fail> {
     let device = Held::new(formatted(alloc, 4)?, 1, Arc::try_clone(&flags)?);
     let gate = BesideSync {
         flags,
+        arrived: AtomicU64::new(0),
         asked: AtomicBool::new(false),
         seen: AtomicBool::new(false),
     };

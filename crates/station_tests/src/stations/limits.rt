@@ -1,13 +1,13 @@
 //! Days of many stations, and of many turns.
-use super::day::day_of;
+use super::day::{NONE_FAILS, day_of};
 use line_lock::Line;
-use office_day::End;
+use office_day::{End, Entry};
 use std::alloc::Global;
 use std::process::Abort;
 use std::sync::Wait;
 use std::test::Fail;
 use std::thread::Threads;
-use test_scenes::{formatted, line};
+use test_scenes::line;
 
 // A day on which nobody asks for anything: it has as many turns as are wanted, and each station ends for that. How many
 // of the turns are the bottom station's.
@@ -18,9 +18,9 @@ fn empty_day<R: Abort + Wait + Threads + Sync>(
     moves: u64,
 ) -> Result<usize, Fail> {
     let stations = line.stations() as usize;
-    let none = [0; 64];
-    let amounts = none.get(..stations).ok_or("64 stations at most")?;
-    let day = day_of(rt, alloc, formatted(alloc, 4)?, line, amounts, moves)?;
+    let none: [&[Entry]; 64] = [&[]; 64];
+    let requests = none.get(..stations).ok_or("64 stations at most")?;
+    let day = day_of(rt, alloc, line, requests, moves, NONE_FAILS)?;
     assert!(rt; (day.clerk.history().len() as u64, day.stations.len()) == (moves, stations));
     assert!(rt;
         day.stations

@@ -1,5 +1,5 @@
 use Rattle.sector_device.specs.MemoryDevice.{memory_device_state}
-use Rattle.station_tests.proofs.stations.moments.played.Given as goal
+use Rattle.station_tests.proofs.stations.runs.played.Given as goal
 
 abbrev pub ghosts-play_in-L-Ledger : goal.ghosts-play_in-L-Ledger
 ghosts-play_in-L-Ledger g a = record { name = a.blank.name; parts = a.blank.parts }
