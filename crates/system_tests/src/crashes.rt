@@ -8,37 +8,23 @@ use std::test::Fail;
 use test_scenes::{ZERO, deposit, formatted, line, torn_open};
 use turn_clerk::{Line, TurnRefusal};
 
-// A clerk's turns on a new ledger, each with one deposit to account 1, that of station 0 first.
-#[derive(Clone, Copy)]
-struct Turns<'a> {
-    slots: u64,
-    line: Line,
-    deposits: &'a [u64],
-}
-
-// One deposit of 500 with four slots in each bank, by the bottom one of three stations.
-fn one_deposit() -> Result<Turns<'static>, Fail> {
-    Ok(Turns {
-        slots: 4,
-        line: line([0, 0, 0], [1, 0, 0])?,
-        deposits: &[500],
-    })
-}
-
-// Takes the turns up to the one in which the device fails, which it does from this call of a kind on: how many were
-// taken, and the device.
+// Takes turns with one deposit to account 1 each, that of station 0 first, on a new ledger with so many slots in each
+// bank, up to the turn in which the device fails: how many were taken, and the device. It fails from that call of a
+// kind on.
 fn taken(
     rt: &impl Abort,
     alloc: Global,
-    turns: Turns,
+    slots: u64,
+    line: Line,
+    deposits: &[u64],
     (op, from): (Op, u64),
 ) -> Result<(u64, MemoryDevice), Fail> {
-    assert!(rt; 1 <= turns.slots && turns.slots < 100);
-    let fuse = Fuse::new(formatted(alloc, turns.slots)?, op, from);
-    let mut clerk = opened(rt, alloc, fuse, turns.line);
+    assert!(rt; 1 <= slots && slots < 100);
+    let fuse = Fuse::new(formatted(alloc, slots)?, op, from);
+    let mut clerk = opened(rt, alloc, fuse, line);
     let mut taken = 0u64;
-    for (station, amount) in turns.deposits.iter().enumerate() {
-        match clerk.turn(station as u8, &[deposit(1, *amount)]) {
+    for (place, amount) in deposits.iter().enumerate() {
+        match clerk.turn((place % 2) as u8, &[deposit(1, *amount)]) {
             Ok(_) => taken = taken.saturating_add(1),
             Err(refusal) => {
                 assert!(rt; refusal == TurnRefusal::Device);
@@ -47,6 +33,11 @@ fn taken(
         }
     }
     Ok((taken, clerk.into_device().into_inner()))
+}
+
+// The same with a deposit of 500 alone, by the bottom one of three stations, and four slots.
+fn deposited(rt: &impl Abort, alloc: Global, fuse: (Op, u64)) -> Result<(u64, MemoryDevice), Fail> {
+    taken(rt, alloc, 4, line([0, 0, 0], [1, 0, 0])?, &[500], fuse)
 }
 
 // What is found on a device behind a power loss that leaves these bytes in its pending sectors: the balance of account
@@ -68,11 +59,10 @@ fn left(
 #[test]
 fn a_batch_stands_if_its_gate_is_left_open(rt: HostRuntime) -> Result<(), Fail> {
     let alloc = rt.alloc();
-    let turns = one_deposit()?;
-    let (answered, device) = taken(&rt, alloc, turns, (Op::Write, 1))?;
+    let (answered, device) = deposited(&rt, alloc, (Op::Write, 1))?;
     assert!(rt; (answered, left(&rt, alloc, device, &[])?) == (0, (Some(0), 0, 0)));
     for (gate, found) in [(torn_open(), (Some(500), 1, 0)), (ZERO, (Some(0), 0, 0))] {
-        let (answered, device) = taken(&rt, alloc, turns, (Op::Sync, 2))?;
+        let (answered, device) = deposited(&rt, alloc, (Op::Sync, 2))?;
         assert!(rt; (answered, left(&rt, alloc, device, &[(21, gate)])?) == (0, found));
     }
     Ok(())
@@ -81,8 +71,7 @@ fn a_batch_stands_if_its_gate_is_left_open(rt: HostRuntime) -> Result<(), Fail> 
 #[test]
 fn no_power_loss_reaches_an_acknowledged_turn(rt: HostRuntime) -> Result<(), Fail> {
     let alloc = rt.alloc();
-    let turns = one_deposit()?;
-    let (answered, device) = taken(&rt, alloc, turns, (Op::Any, 1000))?;
+    let (answered, device) = deposited(&rt, alloc, (Op::Any, 1000))?;
     let mut picks = Vec::new(alloc);
     for at in 0..device.sectors() {
         assert!(rt; at < device.sectors() && !device.pending(at));
@@ -98,13 +87,9 @@ fn no_power_loss_reaches_an_acknowledged_turn(rt: HostRuntime) -> Result<(), Fai
 #[test]
 fn a_checkpoint_stands_if_its_gate_is_left_open(rt: HostRuntime) -> Result<(), Fail> {
     let alloc = rt.alloc();
-    let turns = Turns {
-        slots: 1,
-        line: line([0, 0], [1, 0])?,
-        deposits: &[5, 5],
-    };
+    let two_stations = line([0, 0], [1, 0])?;
     for (gate, base) in [(torn_open(), 1), (ZERO, 0)] {
-        let (answered, device) = taken(&rt, alloc, turns, (Op::Sync, 4))?;
+        let (answered, device) = taken(&rt, alloc, 1, two_stations, &[5, 5], (Op::Sync, 4))?;
         let found = left(&rt, alloc, device, &[(22, gate)])?;
         assert!(rt; (answered, found) == (1, (Some(5), 1, base)));
     }
