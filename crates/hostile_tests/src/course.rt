@@ -3,13 +3,17 @@ use sector_device::Device;
 use std::alloc::Global;
 use std::process::Abort;
 use test_scenes::{deposit, line};
-use turn_clerk::{Clerk, Line, OpenRefusal, TurnRefusal};
+use turn_clerk::{Clerk, Entry, Line, OpenRefusal, TurnRefusal};
 
 // What the turns deposit: no two lists of batches come to the same balance.
 pub const AMOUNTS: [u64; 5] = [1, 2, 4, 8, 16];
 
 // What they come to, after 0 to 5 of them.
 const BALANCES: [u64; 6] = [0, 1, 3, 7, 15, 31];
+
+// The bits x of the two stations' line after 0 to 3 moves from zeros, each by the station whose turn it is; then they
+// come round.
+const LINES: [[u8; 2]; 4] = [[0, 0], [1, 0], [1, 1], [0, 1]];
 
 // The sectors of a snapshot: sixteen of balances, and one of marks.
 pub const SNAPSHOT: u64 = 16 + 1;
@@ -30,6 +34,12 @@ pub const CALLS: u64 = READS + WRITES + SYNCS;
 // Two stations of which the bottom one alone is privileged, or the top one.
 pub fn two_stations(rt: &impl Abort, top: bool) -> Line {
     line([u8::from(top), 0], [1, 0]).expect(rt, "a line")
+}
+
+// The two stations' line after so many moves.
+fn line_after(rt: &impl Abort, moves: usize) -> Line {
+    let x = LINES.get(moves % 4).copied().unwrap_or([0, 0]);
+    line(x, [1, 0]).expect(rt, "a line")
 }
 
 // A clerk of the two stations, the bottom one privileged.
@@ -113,6 +123,7 @@ fn take_turns<D: Device>(rt: &impl Abort, clerk: &mut Clerk<D>, first: usize) ->
             }
             Err(refusal) => {
                 assert!(rt; refusal == TurnRefusal::Device);
+                stands_still(rt, clerk, first, place);
                 let met = Met::InTurn;
                 return Course { acknowledged, met };
             }
@@ -120,4 +131,28 @@ fn take_turns<D: Device>(rt: &impl Abort, clerk: &mut Clerk<D>, first: usize) ->
     }
     let met = Met::Nothing;
     Course { acknowledged, met }
+}
+
+// The device failed in the turn of that place, of those from `first` on: all is as the turns before left it, but that
+// the deposit is in flight and the clerk is faulted.
+fn stands_still<D: Device>(rt: &impl Abort, clerk: &mut Clerk<D>, first: usize, place: usize) {
+    assert!(rt; clerk.ledger().balance(1) == BALANCES.get(place).copied());
+    let taken = place.saturating_sub(first);
+    assert!(rt; clerk.history().len() == taken);
+    assert!(rt; clerk.line() == line_after(rt, (first % 2).saturating_add(taken)));
+    let amount = AMOUNTS.get(place).copied().unwrap_or(0);
+    is_faulted(rt, clerk, (place % 2) as u8, amount);
+}
+
+// A deposit of so much is in flight, and each turn is refused as faulted: that of the station whose turn it is, with too
+// many entries, and that of a station that there isn't.
+pub fn is_faulted<D: Device>(rt: &impl Abort, clerk: &mut Clerk<D>, station: u8, amount: u64) {
+    assert!(rt; clerk.is_faulted());
+    let in_flight = clerk.in_flight().expect(rt, "a batch in flight");
+    assert!(rt; (in_flight.len(), in_flight.get(0)) == (1, Some(deposit(1, amount))));
+    let sixteen = [deposit(1, 1); 16];
+    let asked: [(u8, &[Entry]); 3] = [(9, &[]), (station, &[]), (station, &sixteen)];
+    for (station, entries) in asked {
+        assert!(rt; clerk.turn(station, entries) == Err(TurnRefusal::Faulted));
+    }
 }

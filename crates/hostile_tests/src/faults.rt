@@ -1,12 +1,12 @@
 //! Courses on a device that fails once or twice and works again: they go on from what they find, to the end.
-use crate::course::{CALLS, Found, Met, found_by, take_course, two_stations};
+use crate::course::{CALLS, Found, Met, found_by, is_faulted, take_course, two_stations};
 use fault_injector::{OneFault, Op};
 use sector_device::Device;
 use std::alloc::Global;
 use std::process::Abort;
 use std::test::Fail;
-use test_scenes::formatted;
-use turn_clerk::{Clerk, OpenRefusal};
+use test_scenes::{deposit, formatted, line};
+use turn_clerk::{Clerk, OpenRefusal, TurnRefusal};
 
 // What an opening finds on a device, or None where it fails.
 fn look<D: Device>(rt: &impl Abort, alloc: Global, device: D) -> (D, Option<Found>) {
@@ -120,5 +120,23 @@ fn a_device_that_fails_twice_loses_nothing(rt: HostRuntime) -> Result<(), Fail> 
         all.add(faults);
     }
     assert!(rt; pairs == PAIRS && all.in_openings > 0 && all.in_turns > 0);
+    Ok(())
+}
+
+// The opening's sync has the number 0, and that of the turn's body the number 1: its gate isn't written.
+#[test]
+fn a_turn_whose_first_sync_fails_is_in_flight(rt: HostRuntime) -> Result<(), Fail> {
+    let alloc = rt.alloc();
+    let device = OneFault::new(formatted(alloc, 4)?, Op::Sync, 1);
+    let three_stations = line([0, 0, 0], [1, 0, 0])?;
+    let mut clerk = match Clerk::open(alloc, device, three_stations) {
+        Ok(clerk) => clerk,
+        Err((_, refusal)) => panic!(rt; "{refusal}"),
+    };
+    assert!(rt; clerk.turn(0, &[deposit(1, 5)]) == Err(TurnRefusal::Device));
+    is_faulted(&rt, &mut clerk, 0, 5);
+    let (_, found) = look(&rt, alloc, clerk.into_device());
+    let found = found.expect(&rt, "an opening");
+    assert!(rt; (found.balance, found.next) == (Some(0), 0));
     Ok(())
 }

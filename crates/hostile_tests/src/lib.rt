@@ -14,6 +14,8 @@ mod faults;
 #[cfg(test)]
 mod images;
 #[cfg(test)]
+mod offices;
+#[cfg(test)]
 mod plain;
 #[cfg(test)]
 mod power;

@@ -4,11 +4,12 @@ ghost use Rattle.four_state.specs.Configuration.{stations};
 
 use fault_injector::Noting;
 use gate_journal::format;
-use sector_device::MemoryDevice;
+use sector_device::{Device, MemoryDevice, Sector};
 use std::alloc::Global;
+use std::fmt::Display;
 use std::process::Abort;
 use std::test::Fail;
-use test_scenes::sectors_needed;
+use test_scenes::{Layout, body_of, deposit, head, open_gate, sectors_needed, superblock};
 use turn_clerk::Line;
 
 /// A memory device that notes its calls.
@@ -17,6 +18,61 @@ pub type Noted = Noting<MemoryDevice>;
 /// Prints the name of a call that reported out of memory.
 pub fn told(rt: &(impl Abort + Print), call: &str) {
     println!(rt; "told {call}").expect(rt, "an output");
+}
+
+/// Prints the name of a call whose device had no memory.
+pub fn told_by_device(rt: &(impl Abort + Print), call: &str) {
+    println!(rt; "told {call}, by its device").expect(rt, "an output");
+}
+
+/// Makes a call. If it is refused, it was out of memory, and is made again.
+///
+/// # Errors
+/// The second refusal.
+pub fn again<T, E: Drop, F: FnMut() -> Result<T, E>>(
+    rt: &(impl Abort + Print),
+    call: &str,
+    mut make: F,
+) -> Result<T, E>
+    requires { F.IsAlwaysCallable make }
+{
+    match make() {
+        Ok(made) => Ok(made),
+        Err(_) => {
+            told(rt, call);
+            make()
+        }
+    }
+}
+
+/// Makes a call that takes a device on which no call was noted, and hands it back if it is refused. If the call is out
+/// of memory, it has made no call of the device; if the device is, the refusal is one of the others. Then it is made
+/// again.
+pub fn again_on<T, E: Copy + PartialEq + Display, F: FnMut(Noted) -> Result<T, (Noted, E)>>(
+    rt: &(impl Abort + Print),
+    call: &str,
+    device: Noted,
+    refusals: (E, &[E]),
+    mut make: F,
+) -> T
+    requires { F.IsAlwaysCallable make }
+{
+    let (memory, others) = refusals;
+    let (device, refusal) = match make(device) {
+        Ok(made) => return made,
+        Err(refused) => refused,
+    };
+    if refusal == memory {
+        told(rt, call);
+        assert!(rt; device.calls().is_empty());
+    } else {
+        told_by_device(rt, call);
+        assert!(rt; others.contains(&refusal));
+    }
+    match make(device) {
+        Ok(made) => made,
+        Err((_, refusal)) => panic!(rt; "{refusal}"),
+    }
 }
 
 /// So many stations, of which the bottom one alone is privileged.
@@ -29,8 +85,8 @@ pub fn line<const N: usize>(rt: &impl Abort) -> Line
     Line::from_bits(N as u64, &[false; N], &up).expect(rt, "a line")
 }
 
-// A device of zeros.
-fn zeros(alloc: Global, sectors: u64) -> Result<MemoryDevice, Fail> {
+/// A device of zeros.
+pub fn zeros(alloc: Global, sectors: u64) -> Result<MemoryDevice, Fail> {
     match MemoryDevice::new(alloc, sectors) {
         Ok(device) => Ok(device),
         Err(_) => Ok(MemoryDevice::new(alloc, sectors)?),
@@ -49,9 +105,43 @@ pub fn formatted(rt: &impl Abort, alloc: Global, slots: u64) -> Result<MemoryDev
 
 /// The same on a device that notes its calls from then on.
 pub fn noted(rt: &impl Abort, alloc: Global, slots: u64) -> Result<Noted, Fail> {
-    let device = formatted(rt, alloc, slots)?;
+    noting(alloc, formatted(rt, alloc, slots)?)
+}
+
+// The device, with its calls noted from then on.
+fn noting(alloc: Global, device: MemoryDevice) -> Result<Noted, Fail> {
     match Noting::new(alloc, device, 1000) {
         Ok(noted) => Ok(noted),
         Err(refused) => Ok(Noting::new(alloc, refused.value, 1000).map_err(|_| "a list of calls")?),
     }
+}
+
+// Writes a sector.
+fn put(device: &mut MemoryDevice, at: u64, bytes: &Sector) -> Result<(), Fail> {
+    if at >= device.sectors() {
+        return Err(Fail::from("no such sector"));
+    }
+    if device.write(at, bytes).is_err() {
+        device.write(at, bytes)?;
+    }
+    Ok(())
+}
+
+/// A ledger of layout 1 or 3 with four slots and one record, of a deposit of 500 to account 1, on a device that notes
+/// its calls.
+pub fn with_deposit(alloc: Global, layout: Layout) -> Result<Noted, Fail> {
+    let bank = layout.first();
+    let mut device = zeros(alloc, layout.sectors(4))?;
+    put(&mut device, 0, &superblock(layout.version(), 4))?;
+    if layout == Layout::Third {
+        put(&mut device, bank.gate, &open_gate())?;
+        put(&mut device, bank.head(), &head(0, 0))?;
+    }
+    put(
+        &mut device,
+        bank.body(0),
+        &body_of(0, 0, &[deposit(1, 500)]),
+    )?;
+    put(&mut device, bank.slot_gate(0), &open_gate())?;
+    noting(alloc, device)
 }

@@ -1,7 +1,7 @@
 //! A day of two stations in threads. The test holds whatever thread runs when, and is run with each thread refused too:
 //! one that isn't had isn't reported as out of memory, stations run one after another, and one that waits in vain gives
 //! up.
-use crate::beginnings::{formatted, line, told};
+use crate::beginnings::{again, formatted, line, told, told_by_device};
 use office_day::{
     Day, DayRefusal, End, HeldEntries, OpenRefusal, Outcome, StationDay, TurnRefusal, run_day,
 };
@@ -26,13 +26,7 @@ struct Heard {
 
 // A station that holds this deposit.
 fn holding(rt: &(impl Abort + Print), alloc: Global, amount: u64) -> Result<HeldEntries, Fail> {
-    let mut held = match HeldEntries::new(alloc) {
-        Ok(held) => held,
-        Err(_) => {
-            told(rt, "HeldEntries::new");
-            HeldEntries::new(alloc)?
-        }
-    };
+    let mut held = again(rt, "HeldEntries::new", || HeldEntries::new(alloc))?;
     held.keep(deposit(1, amount)).ok_or("a place")?;
     Ok(held)
 }
@@ -65,7 +59,7 @@ fn had<R: Abort + Print + Wait + Threads + Sync>(
     if refusal == DayRefusal::Memory {
         told(rt, "run_day");
     } else {
-        told(rt, "run_day, by its device");
+        told_by_device(rt, "run_day");
         assert!(rt; refusal == DayRefusal::Opening(OpenRefusal::Device));
     }
     let clerk = found(rt, alloc, device);
@@ -91,7 +85,7 @@ fn hear(rt: &(impl Abort + Print), station: &StationDay, heard: &mut Heard) -> R
         assert!(rt; station.answers.is_empty());
     }
     if station.end == End::Refused(TurnRefusal::Device) {
-        told(rt, "run_stations, by its device");
+        told_by_device(rt, "run_stations");
         assert!(rt; station.unanswered.is_empty());
     }
     for answer in &station.answers {

@@ -13,6 +13,10 @@ mod days;
 #[cfg(test)]
 mod desks;
 #[cfg(test)]
+mod devices;
+#[cfg(test)]
 mod files;
+#[cfg(test)]
+mod ledgers;
 #[cfg(test)]
 mod offices;

@@ -1,5 +1,5 @@
 //! An office: its opening, and turns through its seats.
-use crate::beginnings::{Noted, line, noted, told};
+use crate::beginnings::{Noted, again_on, line, noted, told, told_by_device};
 use line_lock::{
     Closing, Count, Office, OfficeRefusal, OfficeWork, OpenRefusal, OpenedOn, Seat, TurnRefusal,
     WithinRefusal, with_office,
@@ -23,6 +23,23 @@ enum Came {
 #[derive(Drop)]
 struct TwoSeats<'a, R> {
     rt: &'a R,
+}
+
+// A turn out of turn, with too many entries. Out of memory for a place in the seat's list comes before every other
+// refusal, and leaves the seat as it was.
+fn asks_in_vain<L: Count + OpenedOn, R: Abort + Wait + Print>(
+    rt: &R,
+    office: &Office<Noted, L>,
+    seat: &mut Seat<L>,
+) {
+    let sixteen = [deposit(1, 5); 16];
+    let mut answer = office.turn(rt, seat, &sixteen);
+    if answer == Err(TurnRefusal::Memory) {
+        told(rt, "Office::turn");
+        assert!(rt; (seat.turns().len(), seat.denied(), seat.reached()) == (0, None, 0));
+        answer = office.turn(rt, seat, &sixteen);
+    }
+    assert!(rt; answer == Err(TurnRefusal::NotPrivileged) && seat.denied() == Some(0));
 }
 
 // A turn of a seat: there may be no memory for its list, or under the lock for the history or for the device.
@@ -49,14 +66,14 @@ fn takes_a_turn<L: Count + OpenedOn, R: Abort + Wait + Print>(
         }
         Some(refusal) => {
             assert!(rt; refusal == WithinRefusal::Turn(TurnRefusal::Device));
-            told(rt, "Office::turn_within, by its device");
+            told_by_device(rt, "Office::turn_within");
             assert!(rt; seat.turns().len() == before);
             Came::ToAFault
         }
     }
 }
 
-// Six turns, each with the seat whose turn it is, up to the first fault.
+// A turn out of turn, and six turns, each with the seat whose turn it is, up to the first fault.
 fn takes_turns<L: Count + OpenedOn, R: Abort + Wait + Print>(
     rt: &R,
     office: &Office<Noted, L>,
@@ -65,6 +82,7 @@ fn takes_turns<L: Count + OpenedOn, R: Abort + Wait + Print>(
     let [bottom, top] = seats else {
         panic!(rt; "two seats");
     };
+    asks_in_vain(rt, office, top);
     for _ in 0..3u64 {
         if takes_a_turn(rt, office, bottom, 6) == Came::ToAFault {
             return Came::ToAFault;
@@ -92,33 +110,21 @@ impl<'a, R: Abort + Wait + Print> OfficeWork<Noted> for TwoSeats<'a, R> {
     }
 }
 
-// Opens the office, works in it and closes it; where there was no memory to open it, once more under another name.
-fn worked<R: Abort + Wait + Print>(
-    rt: &R,
-    alloc: Global,
-    device: Noted,
-) -> Result<(Closing<Noted>, Came), Fail> {
-    let (device, refusal) = match with_office(alloc, device, line::<2>(rt), TwoSeats { rt }) {
-        Ok(closed) => return Ok(closed),
-        Err(refused) => refused,
-    };
-    if refusal == OfficeRefusal::Opening(OpenRefusal::Memory) {
-        told(rt, "Office::open");
-        assert!(rt; device.calls().is_empty());
-    } else {
-        told(rt, "Office::open, by its device");
-        assert!(rt; refusal == OfficeRefusal::Opening(OpenRefusal::Device));
-    }
-    match with_office(alloc, device, line::<2>(rt), TwoSeats { rt }) {
-        Ok(closed) => Ok(closed),
-        Err((_, refusal)) => panic!(rt; "{refusal}"),
-    }
+// Opens the office, works in it and closes it; if there was no memory to open it, once more under another name.
+fn worked<R: Abort + Wait + Print>(rt: &R, alloc: Global, device: Noted) -> (Closing<Noted>, Came) {
+    let refusals = (
+        OfficeRefusal::Opening(OpenRefusal::Memory),
+        [OfficeRefusal::Opening(OpenRefusal::Device)].as_slice(),
+    );
+    again_on(rt, "Office::open", device, refusals, |device| {
+        with_office(alloc, device, line::<2>(rt), TwoSeats { rt })
+    })
 }
 
 #[test]
 fn an_office_is_opened_and_works(rt: HostRuntime) -> Result<(), Fail> {
     let alloc = rt.alloc();
-    let (closing, came) = worked(&rt, alloc, noted(&rt, alloc, 4)?)?;
+    let (closing, came) = worked(&rt, alloc, noted(&rt, alloc, 4)?);
     let Closing { clerk, audit } = closing;
     assert!(rt; clerk.is_faulted() == (came == Came::ToAFault));
     assert!(rt; audit.first_legitimate == Some(0));

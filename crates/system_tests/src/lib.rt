@@ -1,12 +1,16 @@
-//! Tests that need several crates beside each other: a posting behind a power loss, calls without an end, and what
-//! searches read.
+//! Tests that need several crates beside each other: postings behind power losses, calls without an end, what searches
+//! read, and the texts of refusals.
 #![tactic(auto)]
 
+#[cfg(test)]
+mod crashes;
 #[cfg(test)]
 mod devices;
 #[cfg(test)]
 mod example;
 #[cfg(test)]
 mod limits;
+#[cfg(test)]
+mod refusals;
 #[cfg(test)]
 mod searches;
