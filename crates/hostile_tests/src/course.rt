@@ -144,8 +144,8 @@ fn stands_still<D: Device>(rt: &impl Abort, clerk: &mut Clerk<D>, first: usize, 
     is_faulted(rt, clerk, (place % 2) as u8, amount);
 }
 
-// A deposit of so much is in flight, and each turn is refused as faulted: that of the station whose turn it is, with too
-// many entries, and that of a station that there isn't.
+// A deposit of so much is in flight, and each turn is refused as faulted: that of the station whose turn it is, with
+// too many entries, and that of a station that there isn't.
 pub fn is_faulted<D: Device>(rt: &impl Abort, clerk: &mut Clerk<D>, station: u8, amount: u64) {
     assert!(rt; clerk.is_faulted());
     let in_flight = clerk.in_flight().expect(rt, "a batch in flight");

@@ -109,8 +109,8 @@ fn work_all<R: Wait + Threads + Sync>(rt: &R, clients: &mut [Client], pace: &Pac
     for_each_mut(rt, clients, 2, &|_, client| client.work(rt, pace));
 }
 
-// What the threads know of each other. Each of two stations sleeps until the other one has taken its turn. After half of
-// the turns both sleep until a client has collected an answer and submitted more than its ring has places: the turns
+// What the threads know of each other. Each of two stations sleeps until the other one has taken its turn. After half
+// of the turns both sleep until a client has collected an answer and submitted more than its ring has places: the turns
 // that follow answer that request, however slow the client is. Both go on once a station has ended.
 #[derive(Drop)]
 struct Pace {
