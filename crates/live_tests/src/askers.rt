@@ -17,11 +17,11 @@ use std::time::Clock;
 use test_scenes::{deposit, formatted, line};
 
 /// How often a counter asks the same.
-const QUESTIONS: u64 = 300;
+const QUESTIONS: u64 = 700;
 
-/// How many batches have the reference that is looked for, each of which ends a step of the search: more than a counter
-/// may be told that reads nothing.
-const BATCHES: u64 = 300;
+/// How many batches have the reference that is looked for, each of which ends a step of the search. A counter that reads
+/// nothing is told of fewer: as many lines as fill 4,096 bytes, and 256 that wait behind them.
+const BATCHES: u64 = 700;
 
 // Waits until so many lines were told.
 fn wait_for(told: &AtomicU64, lines: u64) {
@@ -253,8 +253,8 @@ fn a_search_tells_of_one_moment(rt: HostRuntime) -> Result<(), Fail> {
         let wanted = format!(in alloc; "posted {number} 1\n")?;
         assert!(rt; are_told(&mut asked.first, wanted.as_bytes())?);
     }
-    assert!(rt; are_told(&mut asked.first, b"found 300 since 0\nclosing\n")?);
-    assert!(rt; are_told_each_time(&mut asked.second, b"balance 1 300\n")?);
-    assert!(rt; are_told(&mut asked.second, b"posted 300 1\nclosing\n")?);
+    assert!(rt; are_told(&mut asked.first, b"found 700 since 0\nclosing\n")?);
+    assert!(rt; are_told_each_time(&mut asked.second, b"balance 1 700\n")?);
+    assert!(rt; are_told(&mut asked.second, b"posted 700 1\nclosing\n")?);
     Ok(())
 }
