@@ -1,7 +1,7 @@
 //! Days of station threads on devices that fail, and what clients were told. Each test holds whatever thread runs when.
 use crate::course::{Found, SNAPSHOT, two_stations};
 use crate::power::{at_stake, outcomes_of, picks, recovered};
-use fault_injector::{OneFault, Op};
+use fault_injector::{Fuse, OneFault, Op};
 use office_day::{
     Answer, Day, DayRefusal, End, HeldEntries, OpenRefusal, Outcome, StationDay, TurnRefusal,
     run_day,
@@ -99,8 +99,8 @@ fn two_deposits(alloc: Global) -> Result<[HeldEntries; 2], Fail> {
     Ok(held)
 }
 
-// A device that fails once.
-type Faulty = OneFault<MemoryDevice>;
+// A device that fails for good from one call on, and at another one call alone.
+type Faulty = Fuse<OneFault<MemoryDevice>>;
 
 // A day of two stations for four turns: the device, and what clients were told.
 fn day_on<R: Abort + Wait + Threads + Sync>(
@@ -130,53 +130,138 @@ fn day_on<R: Abort + Wait + Threads + Sync>(
     }
 }
 
+// How a device fails at a call: for good, as if it had stopped, or that once.
+#[derive(Clone, Copy)]
+enum Fails {
+    ForGood,
+    Once,
+}
+
+impl Fails {
+    // The device, which fails in this way at that call.
+    fn at(self, device: MemoryDevice, call: u64) -> Faulty {
+        let (for_good, once) = match self {
+            Fails::ForGood => (call, u64::MAX),
+            Fails::Once => (u64::MAX, call),
+        };
+        Fuse::new(OneFault::new(device, Op::Any, once), Op::Any, for_good)
+    }
+}
+
 // Such a day, each station with a deposit, on a device that fails at this call: what is left of it in the memory
 // device.
 fn failed_day<R: Abort + Wait + Threads + Sync>(
     rt: &R,
     alloc: Global,
-    at: u64,
+    fails: Fails,
+    call: u64,
 ) -> Result<(MemoryDevice, Told), Fail> {
-    let device = OneFault::new(formatted(alloc, 1)?, Op::Any, at);
+    let device = fails.at(formatted(alloc, 1)?, call);
     let (device, told) = day_on(rt, alloc, device, &two_deposits(alloc)?);
-    Ok((device.into_inner(), told))
+    Ok((device.into_inner().into_inner(), told))
 }
 
-// The power losses after such a day in which each sector at stake is left in the same way: how many there are.
+// Every power loss after such a day: how many there are.
 fn lose_power<R: Abort + Wait + Threads + Sync>(
     rt: &R,
     alloc: Global,
-    at: u64,
+    fails: Fails,
+    call: u64,
 ) -> Result<u32, Fail> {
-    let (device, _) = failed_day(rt, alloc, at)?;
+    let (device, _) = failed_day(rt, alloc, fails, call)?;
     let sectors = at_stake(rt, alloc, &device)?;
-    let last = outcomes_of(sectors.as_slice()).saturating_sub(1);
-    let ways = if last == 0 { 1 } else { 4 };
-    for way in 0..ways {
-        // each digit of this number is the way
-        let number = (last / 3).saturating_mul(way);
-        let (device, told) = failed_day(rt, alloc, at)?;
+    let outcomes = outcomes_of(sectors.as_slice());
+    for number in 0..outcomes {
+        let (device, told) = failed_day(rt, alloc, fails, call)?;
         let device = device.crash(&picks(alloc, sectors.as_slice(), number)?);
-        assert!(rt; told.allows(recovered(rt, alloc, device)), "{at} {way}");
+        assert!(rt;
+            told.allows(recovered(rt, alloc, device)),
+            "{call} {number}"
+        );
     }
-    Ok(ways)
+    Ok(outcomes)
 }
 
-// Nothing is pending at the reads, at the opening's sync and at six writes: at the first three, and at the last three,
-// of which the first opens the gate of the checkpoint. Each other call has four outcomes.
-const OUTCOMES: u32 = (READS + 1 + 6 + 4 * (WRITES - 6 + SYNCS - 1)) as u32;
-
-// Where none fails both deposits are posted, and nothing is pending.
-#[test]
-fn what_clients_were_told_outlives_a_fault_at_each_call(rt: HostRuntime) -> Result<(), Fail> {
-    let alloc = rt.alloc();
+// The power losses after days that fail at a call from the first up to the second: how many there are.
+fn outcomes<R: Abort + Wait + Threads + Sync>(
+    rt: &R,
+    alloc: Global,
+    fails: Fails,
+    (first, behind): (u64, u64),
+) -> Result<u32, Fail> {
     let mut all = 0u32;
-    for at in 0..CALLS {
-        all = all.saturating_add(lose_power(&rt, alloc, at)?);
+    for call in first..behind {
+        all = all.saturating_add(lose_power(rt, alloc, fails, call)?);
     }
-    assert!(rt; all == OUTCOMES);
-    let (device, told) = failed_day(&rt, alloc, CALLS)?;
+    Ok(all)
+}
+
+// Each pending sector is left in four ways, but if there are more than four, only the two lowest and the two highest
+// are: so 256 outcomes are the most. They are reached at calls 32 to 47, in the checkpoint. The calls before have 119
+// outcomes together, and those behind it 15. A day makes no call behind a fault, so a stop has as many as a fault.
+const MOST: u32 = 256;
+
+#[test]
+fn what_clients_were_told_outlives_a_stop_at_calls_0_to_35(rt: HostRuntime) -> Result<(), Fail> {
+    let all = outcomes(&rt, rt.alloc(), Fails::ForGood, (0, 36))?;
+    assert!(rt; all == 119 + 4 * MOST);
+    Ok(())
+}
+
+#[test]
+fn what_clients_were_told_outlives_a_stop_at_calls_36_to_39(rt: HostRuntime) -> Result<(), Fail> {
+    let all = outcomes(&rt, rt.alloc(), Fails::ForGood, (36, 40))?;
+    assert!(rt; all == 4 * MOST);
+    Ok(())
+}
+
+#[test]
+fn what_clients_were_told_outlives_a_stop_at_calls_40_to_43(rt: HostRuntime) -> Result<(), Fail> {
+    let all = outcomes(&rt, rt.alloc(), Fails::ForGood, (40, 44))?;
+    assert!(rt; all == 4 * MOST);
+    Ok(())
+}
+
+#[test]
+fn what_clients_were_told_outlives_a_stop_from_call_44_on(rt: HostRuntime) -> Result<(), Fail> {
+    let all = outcomes(&rt, rt.alloc(), Fails::ForGood, (44, CALLS))?;
+    assert!(rt; all == 4 * MOST + 15);
+    Ok(())
+}
+
+#[test]
+fn what_clients_were_told_outlives_a_fault_at_calls_0_to_35(rt: HostRuntime) -> Result<(), Fail> {
+    let all = outcomes(&rt, rt.alloc(), Fails::Once, (0, 36))?;
+    assert!(rt; all == 119 + 4 * MOST);
+    Ok(())
+}
+
+#[test]
+fn what_clients_were_told_outlives_a_fault_at_calls_36_to_39(rt: HostRuntime) -> Result<(), Fail> {
+    let all = outcomes(&rt, rt.alloc(), Fails::Once, (36, 40))?;
+    assert!(rt; all == 4 * MOST);
+    Ok(())
+}
+
+#[test]
+fn what_clients_were_told_outlives_a_fault_at_calls_40_to_43(rt: HostRuntime) -> Result<(), Fail> {
+    let all = outcomes(&rt, rt.alloc(), Fails::Once, (40, 44))?;
+    assert!(rt; all == 4 * MOST);
+    Ok(())
+}
+
+#[test]
+fn what_clients_were_told_outlives_a_fault_from_call_44_on(rt: HostRuntime) -> Result<(), Fail> {
+    let all = outcomes(&rt, rt.alloc(), Fails::Once, (44, CALLS))?;
+    assert!(rt; all == 4 * MOST + 15);
+    Ok(())
+}
+
+// Both deposits are posted, and nothing is pending.
+#[test]
+fn a_day_without_a_fault_posts_all(rt: HostRuntime) -> Result<(), Fail> {
+    let (device, told) = failed_day(&rt, rt.alloc(), Fails::Once, CALLS)?;
     assert!(rt; (told.posted, told.undecided, told.batches) == (3, 0, 2));
-    assert!(rt; at_stake(&rt, alloc, &device)?.is_empty());
+    assert!(rt; at_stake(&rt, rt.alloc(), &device)?.is_empty());
     Ok(())
 }

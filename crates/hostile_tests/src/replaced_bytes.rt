@@ -1,6 +1,7 @@
-//! Two images of which each byte is replaced by four values, beside the plain program of the format.
+//! Two images of which each byte is replaced, beside the plain program of the format. The tests are cut by sectors, since
+//! all values of each byte of a sector that isn't zero are 131,072 images.
 use crate::images::{after_one_deposit, behind_a_checkpoint, found, settled, told};
-use sector_device::{MemoryDevice, SECTOR, Sector};
+use sector_device::{Device, MemoryDevice, SECTOR, Sector};
 use std::alloc::Global;
 use std::process::Abort;
 use std::test::Fail;
@@ -96,8 +97,14 @@ fn refused_at(table: &[Row], at: usize) -> u32 {
     }
 }
 
-// What a byte becomes.
-const VALUES: [u8; 4] = [0x00, 0x01, 0xa5, 0xff];
+// The values that are counted.
+const COUNTED: [u8; 4] = [0x00, 0x01, 0xa5, 0xff];
+
+// Whether the byte at a place becomes this value: any, but in a sector of zeros behind its first byte, which is that of
+// a gate, only those that are counted.
+fn is_tried(sound: &Sector, place: usize, value: u8) -> bool {
+    COUNTED.contains(&value) || place == 0 || *sound != [0; SECTOR]
+}
 
 // Puts a value at one place, and compares what recovery finds with what the plain program tells: the device, and
 // whether it is refused.
@@ -120,7 +127,8 @@ fn replace_by(
     Ok((after, answer.is_err()))
 }
 
-// Replaces each byte of a sector in turn: the device, as it was, and how many images are refused.
+// Replaces each byte of a sector in turn: the device, as it was, and how many images with the values that are counted
+// are refused.
 fn replace_sector(
     rt: &impl Abort,
     alloc: Global,
@@ -132,10 +140,13 @@ fn replace_sector(
     assert!(rt; at < image.len());
     let sound = image[at];
     for place in 0..SECTOR {
-        for value in VALUES {
+        for value in 0..=u8::MAX {
+            if !is_tried(&sound, place, value) {
+                continue;
+            }
             let (after, is_refused) = replace_by(rt, alloc, device, image, (at, place), value)?;
             device = after;
-            refused = refused.saturating_add(u32::from(is_refused));
+            refused = refused.saturating_add(u32::from(is_refused && COUNTED.contains(&value)));
         }
         assert!(rt; at < image.len());
         image[at] = sound;
@@ -144,15 +155,17 @@ fn replace_sector(
     Ok((settled(alloc, device), refused))
 }
 
-// Replaces each byte of a device, and compares how many images of each sector are refused.
+// Replaces each byte from one sector up to another, and compares how many images of each sector are refused.
 fn replace_each(
     rt: &impl Abort,
     alloc: Global,
     mut device: MemoryDevice,
     expected: &[Row],
+    (first, behind): (u64, u64),
 ) -> Result<(), Fail> {
     let mut image = image_of(alloc, &device)?;
-    for at in 0..image.len() {
+    assert!(rt; first < behind && behind <= device.sectors());
+    for at in first as usize..behind as usize {
         let (after, refused) = replace_sector(rt, alloc, device, image.as_mut_slice(), at)?;
         assert!(rt; refused == refused_at(expected, at), "sector {at}");
         device = after;
@@ -160,14 +173,77 @@ fn replace_each(
     Ok(())
 }
 
-#[test]
-fn each_byte_after_one_deposit_is_replaced(rt: HostRuntime) -> Result<(), Fail> {
-    let device = after_one_deposit(&rt, rt.alloc())?;
-    replace_each(&rt, rt.alloc(), device, &refused_after_one_deposit())
+// Replaces each byte from one sector up to another, of the image after one deposit.
+fn after_one_deposit_replaced(rt: &impl Abort, alloc: Global, of: (u64, u64)) -> Result<(), Fail> {
+    let device = after_one_deposit(rt, alloc)?;
+    replace_each(rt, alloc, device, &refused_after_one_deposit(), of)
+}
+
+// And of the image behind a checkpoint.
+fn behind_a_checkpoint_replaced(
+    rt: &impl Abort,
+    alloc: Global,
+    of: (u64, u64),
+) -> Result<(), Fail> {
+    let device = behind_a_checkpoint(rt, alloc)?;
+    replace_each(rt, alloc, device, &refused_behind_a_checkpoint(), of)
 }
 
 #[test]
-fn each_byte_behind_a_checkpoint_is_replaced(rt: HostRuntime) -> Result<(), Fail> {
-    let device = behind_a_checkpoint(&rt, rt.alloc())?;
-    replace_each(&rt, rt.alloc(), device, &refused_behind_a_checkpoint())
+fn after_one_deposit_each_byte_of_sectors_0_to_1_is_replaced(rt: HostRuntime) -> Result<(), Fail> {
+    after_one_deposit_replaced(&rt, rt.alloc(), (0, 2))
+}
+
+#[test]
+fn after_one_deposit_each_byte_of_sectors_2_to_19_is_replaced(rt: HostRuntime) -> Result<(), Fail> {
+    after_one_deposit_replaced(&rt, rt.alloc(), (2, 20))
+}
+
+#[test]
+fn after_one_deposit_each_byte_of_sectors_20_to_54_is_replaced(
+    rt: HostRuntime,
+) -> Result<(), Fail> {
+    after_one_deposit_replaced(&rt, rt.alloc(), (20, 55))
+}
+
+#[test]
+fn behind_a_checkpoint_each_byte_of_sectors_0_to_1_is_replaced(
+    rt: HostRuntime,
+) -> Result<(), Fail> {
+    behind_a_checkpoint_replaced(&rt, rt.alloc(), (0, 2))
+}
+
+#[test]
+fn behind_a_checkpoint_each_byte_of_sectors_2_to_19_is_replaced(
+    rt: HostRuntime,
+) -> Result<(), Fail> {
+    behind_a_checkpoint_replaced(&rt, rt.alloc(), (2, 20))
+}
+
+#[test]
+fn behind_a_checkpoint_each_byte_of_sectors_20_to_21_is_replaced(
+    rt: HostRuntime,
+) -> Result<(), Fail> {
+    behind_a_checkpoint_replaced(&rt, rt.alloc(), (20, 22))
+}
+
+#[test]
+fn behind_a_checkpoint_each_byte_of_sectors_22_to_23_is_replaced(
+    rt: HostRuntime,
+) -> Result<(), Fail> {
+    behind_a_checkpoint_replaced(&rt, rt.alloc(), (22, 24))
+}
+
+#[test]
+fn behind_a_checkpoint_each_byte_of_sectors_24_to_40_is_replaced(
+    rt: HostRuntime,
+) -> Result<(), Fail> {
+    behind_a_checkpoint_replaced(&rt, rt.alloc(), (24, 41))
+}
+
+#[test]
+fn behind_a_checkpoint_each_byte_of_sectors_41_to_42_is_replaced(
+    rt: HostRuntime,
+) -> Result<(), Fail> {
+    behind_a_checkpoint_replaced(&rt, rt.alloc(), (41, 43))
 }
