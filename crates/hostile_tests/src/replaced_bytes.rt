@@ -1,5 +1,5 @@
-//! Two images of which each byte is replaced, beside the plain program of the format. The tests are cut by sectors, since
-//! all values of each byte of a sector that isn't zero are 131,072 images.
+//! Two images of which each byte is replaced, beside the plain program of the format. The tests are cut by sectors,
+//! since all values of each byte of a sector that isn't zero are 131,072 images.
 use crate::images::{after_one_deposit, behind_a_checkpoint, found, settled, told};
 use sector_device::{Device, MemoryDevice, SECTOR, Sector};
 use std::alloc::Global;

@@ -19,8 +19,8 @@ use test_scenes::{deposit, formatted, line};
 /// How often a counter asks the same.
 const QUESTIONS: u64 = 700;
 
-/// How many batches have the reference that is looked for, each of which ends a step of the search. A counter that reads
-/// nothing is told of fewer: as many lines as fill 4,096 bytes, and 256 that wait behind them.
+/// How many batches have the reference that is looked for, each of which ends a step of the search. A counter that
+/// reads nothing is told of fewer: as many lines as fill 4,096 bytes, and 256 that wait behind them.
 const BATCHES: u64 = 700;
 
 // Waits until so many lines were told.
