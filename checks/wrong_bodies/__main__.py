@@ -177,7 +177,10 @@ def try_wanted(words, tree, progress):
         again = tenth_of(known, seed)
         print(f"{len(again)} are tried although their lines tell of them, by --tenth {seed}", flush=True)
     recalled = [one for one in known if one not in again]
-    try_aimed([one for one in aimed if one not in recalled], tree, progress, lanes(), note)
+    tried = [one for one in aimed if one not in recalled]
+    for one in tried:
+        sums.read(one)
+    try_aimed(tried, tree, progress, lanes(), note)
     wrong = list(contradictions(outcomes, known, lines))
     if words.write:
         lines, wrong = lines_after(outcomes, edits, lines, sums), []

@@ -47,6 +47,11 @@ class Sums:
     def __init__(self, tree):
         self.tree = tree
 
+    def read(self, one):
+        """Reads all that the sums for an edit are of, so that they stay those of now."""
+        self.of_trial(one)
+        self.of_whole_crate(one)
+
     def of_trial(self, one):
         """The sum for an edit that is tried at the functions that have to refuse it."""
         if not one.judges:
