@@ -14,7 +14,8 @@ GATE = not told
 to = $(DESTDIR)$(PREFIX)
 shells = share/bash-completion/completions/derbyfig share/zsh/site-functions/_derbyfig \
 	share/fish/vendor_completions.d/derbyfig.fish
-files = bin/derbyfig bin/turn_console bin/derbyfig-counter share/derbyfig/derbyfig.py share/man/man1/derbyfig.1 share/man/man1/turn_console.1 $(shells)
+python = __init__.py counter.py faults.py py.typed state.py
+files = bin/derbyfig bin/turn_console bin/derbyfig-counter $(addprefix share/derbyfig/derbyfig/,$(python)) share/man/man1/derbyfig.1 share/man/man1/turn_console.1 $(shells)
 
 .PHONY: install uninstall dist deb
 
@@ -25,7 +26,7 @@ install: $(DERBYFIG) $(CONSOLE)
 	install -D $(DERBYFIG) $(to)/bin/derbyfig
 	install -D $(CONSOLE) $(to)/bin/turn_console
 	install -D clients/counter $(to)/bin/derbyfig-counter
-	install -D -m 644 clients/derbyfig.py $(to)/share/derbyfig/derbyfig.py
+	for file in $(python); do install -D -m 644 clients/derbyfig/$$file $(to)/share/derbyfig/derbyfig/$$file || exit 1; done
 	for page in derbyfig turn_console; do install -D -m 644 docs/man/$$page.1 $(to)/share/man/man1/$$page.1 || exit 1; done
 	mkdir -p $(addprefix $(to)/,$(dir $(shells)))
 	set -- bash zsh fish; for file in $(shells); do \

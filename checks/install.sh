@@ -28,6 +28,10 @@ counter() { (cd "$work/books" && PATH="$usr/bin:$PATH" derbyfig-counter "$@"); }
 for _ in $(seq 500); do counter north balance 1 > "$work/said" 2> /dev/null && break || sleep 0.02; done
 grep -qx 'balance 1 500' "$work/said" || fail "derbyfig-counter said $(cat "$work/said")"
 counter -s north.state north deposit 1 7 | grep -q '^posted 1 ' || fail "derbyfig-counter posts nothing"
+again() { (cd "$work/books" && PATH="$usr/bin:$PATH" PYTHONPATH="$usr/share/derbyfig" PYTHONDONTWRITEBYTECODE=1 "$@" north morning 2> /dev/null); }
+for said in "$(again sh "$PWD/examples/until_posted.sh")" "$(again python3 "$PWD/examples/until_posted.py")"; do
+    [[ $said =~ ^posted\ 2 ]] || fail "the example of a retry says $said"
+done
 [ "$(counter north close)" = closing ] || fail "derbyfig-counter doesn't close"
 wait
 
