@@ -33,13 +33,24 @@ set -e
 if [ "$1" = configure ]; then
     getent passwd derbyfig > /dev/null || useradd --system --user-group --no-create-home \
         --home-dir /var/lib/derbyfig --shell /usr/sbin/nologin derbyfig
-    [ ! -d /run/systemd/system ] || systemctl daemon-reload
+    if [ -d /run/systemd/system ]; then
+        systemctl daemon-reload
+        # those that the upgrade stopped
+        if [ -e /run/derbyfig.stopped ]; then
+            xargs -r systemctl start < /run/derbyfig.stopped || true
+            rm /run/derbyfig.stopped
+        fi
+    fi
 fi
 END
 cat > "$root/DEBIAN/prerm" << 'END'
 #!/bin/sh
 set -e
-[ ! -d /run/systemd/system ] || systemctl stop 'derbyfig@*.service'
+if [ -d /run/systemd/system ]; then
+    [ "$1" != upgrade ] || systemctl list-units --state=active --plain --no-legend 'derbyfig@*.service' \
+        | sed 's/ .*//' > /run/derbyfig.stopped
+    systemctl stop 'derbyfig@*.service'
+fi
 END
 chmod 755 "$root/DEBIAN/postinst" "$root/DEBIAN/prerm"
 dpkg-deb --root-owner-group --build "$root" "$package" > /dev/null
