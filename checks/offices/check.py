@@ -40,6 +40,7 @@ CASES = (
     order.syncs_before_it_tells,
     waiting.asks_for_nothing,
     waiting.asks_questions_alone,
+    waiting.late_threads,
     waiting.at_a_terminal,
     waiting.input_that_ends,
     archives.keeps_each_posting,

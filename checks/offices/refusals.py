@@ -160,7 +160,9 @@ def a_device_that_fails(case):
             *told, last = client.hear_rest()
             require_same(last, "closing", f"what counter {number} is told last")
             if number == 1 and told:
-                require(told.pop() in ("refused Faulted", "refused Closed"), f"a question behind it is answered by {told}")
+                # behind an entry without an answer it has none
+                closed = told.pop() in ("refused Faulted", "refused Closed")
+                require(closed and told, f"a question behind it is answered behind {told}")
             # the other one may come to look for its references too late
             undecided = [f"undecided {first + place}" for place in range(len(told))]
             require(told == undecided or number == 1 and told == ["refused Faulted 200"], f"what counter {number} is told: {told}")
@@ -196,7 +198,7 @@ def an_exhausted_journal(case):
         wanted = 1, ["there are no more sequence numbers or epochs"]
         require_same((office.status(), office.told()), wanted, "the end")
         require_same(office.unanswered(), [(0, 8)], "what is unanswered")
-        require_same((one.hear_rest(), other.hear_rest()), (["refused Closed", "closing"], ["closing"]), "what is told")
+        require_same((one.hear_rest(), other.hear_rest()), (["closing"], ["closing"]), "what is told")
     require_same([row.reference for row in case.rows()], [7], "the references in the file")
 
 

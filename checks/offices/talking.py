@@ -51,6 +51,8 @@ TALK = (
     (b"last", "last 6000 6"),
     (b"deposit 3 18446744073709551615", "refused OverLimit 0"),
     (b"deposit 3 4 0", "posted 7 0"),
+    (b"deposit 3 4 18446744073709551615", "refused Reference 18446744073709551615"),
+    (b"first 18446744073709551615", "first 18446744073709551615"),
     (b"deposit 3 4 18446744073709551615", "posted 8 18446744073709551615"),
     (b"deposit 3 4 18446744073709551616", "wrong bad number"),
     (b"find 18446744073709551615", "posted 8 18446744073709551615", "found 1 since 0"),

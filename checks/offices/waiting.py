@@ -1,7 +1,9 @@
 """An office that waits, and one at a terminal."""
 import os
+import pathlib
 import pty
 import re
+import subprocess
 import threading
 
 from office import await_until, require, require_same
@@ -34,6 +36,22 @@ def asks_questions_alone(case):
         require_same(office.closed(), [], "what is unanswered")
         require("closed after 0 turns" in office.printed(), f"it prints {office.printed()}")
         require_same((one.hear_rest(), other.hear_rest()), ([], ["closing"]), "what is told last")
+
+
+def late_threads(case):
+    """Where threads begin late, also those of a later span, it goes on, and each request is answered."""
+    library = case.folder / "late.so"
+    source = pathlib.Path(__file__).with_name("late.c")
+    subprocess.run(["cc", "-O1", "-Wall", "-shared", "-fPIC", "-o", library, source, "-ldl"], check=True)
+    client, = case.counters(1)
+    with case.formatted([client], 64, env={**os.environ, "LD_PRELOAD": str(library)}) as office:
+        office.opened(client)
+        require_same(client.ask("deposit 1 5"), ["posted 0 0"], "a deposit of the first span")
+        standing = client.ask("status")[0]
+        require(standing.startswith("office next 1 free 63 "), f"it stands as {standing}")
+        require_same(client.ask("deposit 1 6"), ["posted 1 0"], "a deposit of a later span")
+        require_same(client.ask("close"), ["closing"], "the answer to close")
+        require_same(office.closed(), [], "what is unanswered")
 
 
 class Typist:

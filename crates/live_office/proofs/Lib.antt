@@ -2,4 +2,5 @@ pub mod Feeds
 pub mod Heard
 mod Looks
 mod Rising
+mod Runs
 mod TakenUp

@@ -1,8 +1,8 @@
 -- What became of the entries that a counter asked to post: what each step of its session leaves true.
-use Rattle.std.specs.Prelude.{◌≡◌, ℕ, Bool, true, false, not, List, [], ◌∷◌, ◌++◌, map, filter, refl}
-use Rattle.std.proofs.Common.{sym, ◌∙◌, ap, subst, cond}
+use Rattle.std.specs.Prelude.{◌≡◌, ◌<◌, ◌≤◌, ℕ, Bool, true, false, not, List, [], ◌∷◌, ◌++◌, length, map, filter, refl}
+use Rattle.std.proofs.Common.{sym, ◌∙◌, ap, subst, cond, inl, inr, arith}
 use Rattle.std.proofs.Math.Logic.{∥∥₁_map}
-use Rattle.std.proofs.lemmas.List.{map-append, append_assoc, append-nil}
+use Rattle.std.proofs.lemmas.List.{map-append, append_assoc, append-nil, length-append}
 use Rattle.std.proofs.lemmas.List.Elements.{filter-append}
 use Rattle.std.proofs.lemmas.Grind.{flat_map-append}
 use Rattle.turn_ledger.specs.declared.entry.Entry.{Entry}
@@ -16,7 +16,7 @@ use Rattle.station_desk.specs.Rings.{FeedState}
 use Rattle.station_desk.specs.declared.messages.Answer.{Answer}
 use Rattle.station_desk.specs.declared.messages.Outcome.{Outcome}
 use Rattle.station_desk.specs.declared.messages.Outcome.TheVariants as outcome
-use Rattle.live_office.specs.Conversation.{WereTakenUp, ConversationState, IsOver, IsOther, told_of, response_of, is_answer, answers_among, judged_of, judged_among, posting_of}
+use Rattle.live_office.specs.Conversation.{WereTakenUp, ConversationState, IsOver, IsBehindUnanswered, IsOther, told_of, response_of, is_answer, answers_among, judged_of, judged_among, posting_of}
 
 -- nothing was said
 pub none-taken : WereTakenUp [] [] [] []
@@ -117,3 +117,12 @@ over-said feed state message said unheard more late over = record {
       (subst (λ (rest : List Entry). WereTakenUp (state.said ++ message ∷ []) state.told (entries_of feed.asked) rest) (sym late) (taken-said message taken)));
   above = over.above;
 }
+
+-- what comes behind something without an answer still does, with more that nobody took up
+pub behind-more : (is_answered : Bool) (before after : List Entry) → length before ≤ length after → IsBehindUnanswered is_answered before → IsBehindUnanswered is_answered after
+behind-more is_answered before after more (inl silent) = inl silent
+behind-more is_answered before after more (inr some) = inr (omega (arith, more, some))
+
+-- those that nobody took up grow with each message
+pub listed-more : (first before : List Entry) (message : Message) (after : List Entry) → length first ≤ length before → after ≡ before ++ posting_of message → length first ≤ length after
+listed-more first before message after long more = omega (arith, long, ap length more ∙ length-append before (posting_of message))

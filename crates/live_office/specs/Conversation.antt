@@ -1,5 +1,5 @@
 -- What a counter says and is told, message by message and response by response.
-use Rattle.std.specs.Prelude.{◌≡◌, ◌⊎◌, ◌+◌, ◌-◌, ◌^◌, ◌<◌, ℕ, Bool, true, false, not, min, List, [], ◌∷◌, ◌++◌, map, filter, Option, Some, None, IfSome, Result, Ok, Err}
+use Rattle.std.specs.Prelude.{◌≡◌, ◌⊎◌, ◌+◌, ◌-◌, ◌^◌, ◌<◌, ℕ, Bool, true, false, not, min, List, [], ◌∷◌, ◌++◌, map, filter, length, Option, Some, None, IfSome, Result, Ok, Err}
 use Rattle.std.specs.List.{flat_map}
 use Rattle.turn_ledger.specs.declared.entry.Entry.{Entry}
 use Rattle.turn_ledger.specs.Entry.{reference_of}
@@ -222,6 +222,14 @@ pub record WereTakenUp (said : List Message) (told : List Response) (asked rest 
   pub all : postings_among said ≡ map (λ one. one.0) dealt ++ rest
   pub submitted : asked ≡ map (λ one. one.0) (filter (λ one. one.1) dealt)
   pub judged : judged_among told ≡ map (λ one. one.0) (filter (λ one. not one.1) dealt)
+
+-- Something that was asked before isn't answered: a request that was submitted, or an entry that nobody submitted.
+abbrev pub IsBehindUnanswered : Bool → List Entry → Type 0
+IsBehindUnanswered is_answered unheard = (is_answered ≡ false) ⊎ (0 < length unheard)
+
+-- A counter is told nothing more, but at most that the office closes.
+abbrev pub IsToldNoMore : List Response → List Response → Type 0
+IsToldNoMore before told = (told ≡ before) ⊎ (told ≡ before ++ response.Closing ∷ [])
 
 -- The conversation with a counter is over, whose requests went by this feed: of the responses those that tell of
 -- entries are the responses to the answers that were collected, in order, each once; each entry that it asked to post

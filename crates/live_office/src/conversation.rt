@@ -1,7 +1,7 @@
 //! What was said at a counter, and what it was told.
-ghost use Rattle.std.specs.Prelude.{◌≡◌, ◌++◌, IfOk, OnOk};
+ghost use Rattle.std.specs.Prelude.{◌≡◌, ◌⊎◌, ◌<◌, ◌≤◌, [], ◌∷◌, ◌++◌, length, IfOk, OnOk};
 ghost use Rattle.station_desk.specs.Rings.{FeedState};
-ghost use Rattle.live_office.specs.Conversation.{pending, posting_of, IsOther, IsOver};
+ghost use Rattle.live_office.specs.Conversation.{pending, posting_of, IsOther, IsOver, IsBehindUnanswered, IsToldNoMore};
 
 use crate::messages::Message;
 use crate::recent::Recent;
@@ -80,13 +80,20 @@ impl Conversation {
         }
     }
 
-    /// Takes what the counter's reader still hands on, until that is all that it has read; but not for ever.
-    pub(crate) fn take_late<C: Clock>(&mut self, clock: &C) -> Result<(), AllocError>
-        ensures { OnOk result ((feed : FeedState) → IsOver feed self.old → IsOver feed self.new) }
+    /// Takes what the counter's reader still hands on, until that is all that it has read; but not for ever. Unless
+    /// all before it is answered, nothing of it is.
+    pub(crate) fn take_late<C: Clock>(
+        &mut self,
+        clock: &C,
+        is_answered: bool,
+    ) -> Result<(), AllocError>
+        ensures over { OnOk result ((feed : FeedState) → IsOver feed self.old → IsOver feed self.new) }
+        ensures silent { OnOk result (IsBehindUnanswered is_answered self.old.unheard
+            → self.new.told ≡ self.old.told) }
     {
         for _ in 0..LOOKS {
             let is_last = self.wakers.has_handed_on();
-            self.take_waiting()?;
+            self.take_waiting(is_answered)?;
             if is_last {
                 break;
             }
@@ -97,23 +104,35 @@ impl Conversation {
     }
 
     // Takes what the reader has handed on.
-    fn take_waiting(&mut self) -> Result<(), AllocError>
-        ensures { OnOk result ((feed : FeedState) → IsOver feed self.old → IsOver feed self.new) }
+    fn take_waiting(&mut self, is_answered: bool) -> Result<(), AllocError>
+        ensures over { OnOk result ((feed : FeedState) → IsOver feed self.old → IsOver feed self.new) }
+        ensures silent { OnOk result (IsBehindUnanswered is_answered self.old.unheard
+            → self.new.told ≡ self.old.told) }
+        ensures listed { OnOk result (length self.old.unheard ≤ length self.new.unheard) }
     {
         for _ in 0..CAPACITY {
             let Ok(message) = self.messages.pop() else {
                 break;
             };
             list(&message, &mut self.unheard)?;
-            self.refuse(&message);
+            self.refuse(&message, is_answered);
         }
         Ok(())
     }
 
-    /// Answers a question that comes too late.
-    pub(crate) fn refuse(&mut self, message: &Message)
-        ensures { (feed : FeedState) → IsOver feed self.old → IsOver feed self.new }
+    /// Answers a question that comes too late, if all before it is answered.
+    pub(crate) fn refuse(&mut self, message: &Message, is_answered: bool)
+        ensures over { (feed : FeedState) → IsOver feed self.old → IsOver feed self.new }
+        ensures silent { IsBehindUnanswered is_answered self.old.unheard
+            → self.new.told ≡ self.old.told }
+        ensures unheard { self.new.unheard ≡ self.old.unheard }
     {
+        if !is_answered {
+            return;
+        }
+        if !self.unheard.is_empty() {
+            return;
+        }
         match message {
             Message::Asked(
                 Request::Balance { .. }
@@ -133,18 +152,22 @@ impl Conversation {
         }
     }
 
-    /// Answers the question that would have come next.
-    pub(crate) fn refuse_next(&mut self, next: Option<Message>)
-        ensures { (feed : FeedState) → IsOver feed self.old → IsOver feed self.new }
+    /// Answers the question that would have come next, if all before it is answered.
+    pub(crate) fn refuse_next(&mut self, next: Option<Message>, is_answered: bool)
+        ensures over { (feed : FeedState) → IsOver feed self.old → IsOver feed self.new }
+        ensures silent { IsBehindUnanswered is_answered self.old.unheard
+            → self.new.told ≡ self.old.told }
+        ensures unheard { self.new.unheard ≡ self.old.unheard }
     {
         if let Some(message) = next {
-            self.refuse(&message);
+            self.refuse(&message, is_answered);
         }
     }
 
     /// Tells the counter that the office closes.
     pub(crate) fn tell_closing(&mut self)
-        ensures { (feed : FeedState) → IsOver feed self.old → IsOver feed self.new }
+        ensures over { (feed : FeedState) → IsOver feed self.old → IsOver feed self.new }
+        ensures told { IsToldNoMore self.old.told self.new.told }
     {
         self.tell(Response::Closing);
         self.is_told_closing = true;
@@ -153,7 +176,10 @@ impl Conversation {
     // Tells the counter something else than an answer, if there is a place for it.
     fn tell(&mut self, response: Response)
         requires other { IsOther response }
-        ensures { (feed : FeedState) → IsOver feed self.old → IsOver feed self.new }
+        ensures over { (feed : FeedState) → IsOver feed self.old → IsOver feed self.new }
+        ensures told { (self.new.told ≡ self.old.told)
+            ⊎ (self.new.told ≡ self.old.told ++ response ∷ []) }
+        ensures unheard { self.new.unheard ≡ self.old.unheard }
     {
         if self.is_told_closing {
             return;

@@ -35,7 +35,7 @@ pub use conversation::Conversation;
 pub use counter::{Counter, Kind};
 pub use granted::are_threads_granted;
 pub use line_lock::Posting;
-pub use look::{Seen, last_posting};
+pub use look::{Look, Seen, last_posting};
 pub use messages::{Message, WrongLine};
 pub use open_office::{Closed, LiveRefusal, keep_open};
 pub use recess::{CopyRefusal, Keeper, Kept};

@@ -1,12 +1,11 @@
 //! A look at what was posted at a counter, step by step.
-ghost use Rattle.std.specs.Prelude.{◌≡◌, ◌≢◌, ◌↔◌, ◌<◌, ℕ, IfOk, IfSome, Some};
+ghost use Rattle.std.specs.Prelude.{◌≡◌, ◌≢◌, ◌⊎◌, ◌↔◌, ◌<◌, ◌≤◌, ℕ, IfOk, IfErr, IfSome, Some, None};
 ghost use Rattle.sector_device.specs.Crash.{LooksOnly};
 ghost use Rattle.turn_clerk.specs.Found.{after_looks};
-ghost use Rattle.turn_clerk.specs.Latest.{IsLater};
 ghost use Rattle.turn_clerk.specs.declared.refusals.FindRefusal.{FindRefusal};
 ghost use Rattle.turn_ledger.specs.Entry.{reference_of};
 ghost use Rattle.station_desk.specs.declared.errand.Question.TheVariants as question;
-ghost use Rattle.live_office.specs.Looked.{seen_with, seen_farther, GoesOnAt, IsUnder};
+ghost use Rattle.live_office.specs.Looked.{seen_with, seen_farther, GoesOnBy, Meets, BeginsAnew, HasSeen, IsAbove, IsUnder};
 
 use crate::responses::Judgement;
 use line_lock::{Clerk, FindRefusal, Latest, Posting, Reached, later_posting};
@@ -18,12 +17,15 @@ use turn_ledger::Entry;
 /// More steps than any ledger needs: of 2,000,000 records, and as many slots of a bank that is looked back to.
 const MOST_STEPS: u64 = 20_000;
 
-/// How far the look is that is under way.
+/// How far a look is that is under way. Between two of its steps records may go out of sight that it didn't look at:
+/// what it saw before such a gap doesn't count any more.
 #[derive(Clone, Copy, Debug)]
-pub(crate) struct Look {
+pub struct Look {
     // The number of the record that is looked at next.
     from: u64,
-    // The posting with the greatest reference so far; of several the last.
+    // The number of the first of the records up to there that were looked at without a gap.
+    since: u64,
+    // Of the postings in these the one with the greatest reference; of several the last.
     posting: Option<Posting>,
 }
 
@@ -32,7 +34,7 @@ pub(crate) struct Look {
 pub struct Seen {
     /// The counter's posting with the greatest reference, of those that were looked at; of several the last.
     pub posting: Option<Posting>,
-    /// The number of the first record in sight.
+    /// The number of the record from which on all were looked at.
     pub since: u64,
 }
 
@@ -49,11 +51,17 @@ impl fmt::Display for Seen {
 }
 
 impl Look {
-    /// A look that begins with the first record.
-    pub(crate) const BEGINNING: Look = Look {
-        from: 0,
-        posting: None,
-    };
+    /// A look that begins with the record of that number: what stands before it is neither found nor known.
+    pub fn starting_at(batch: u64) -> Look
+        ensures begins { result ≡ record { from = batch; since = batch; posting = None } }
+        ensures whole { HasSeen result.since result.from result.posting }
+    {
+        Look {
+            from: batch,
+            since: batch,
+            posting: None,
+        }
+    }
 
     /// What is asked next: the posting with the greatest reference, up to that one.
     pub(crate) fn question(&self, limit: u64) -> Question
@@ -70,27 +78,70 @@ impl Look {
         &mut self,
         step: Result<Latest, FindRefusal>,
     ) -> Option<Result<Seen, FindRefusal>>
-        ensures seen { result ≡ seen_with self.new.posting step }
-        ensures latest { IfOk step (λ latest.
-            IsLater self.old.posting latest.posting self.new.posting) }
-        ensures meets { IfOk step (λ latest. GoesOnAt self.old.from latest.reached self.new.from) }
+        ensures seen { result ≡ seen_with self.new step }
+        ensures meets { IfOk step (λ latest. GoesOnBy self.old latest.posting latest.reached self.new) }
+        ensures whole { HasSeen self.old.since self.old.from self.old.posting
+            → HasSeen self.new.since self.new.from self.new.posting }
+        ensures found { IfOk step (λ latest. (self.new.posting ≡ self.old.posting)
+            ⊎ (self.new.posting ≡ latest.posting)) }
+        ensures failed { IfErr step (λ refusal. self.new ≡ self.old) }
     {
         let latest = match step {
             Ok(latest) => latest,
             Err(refusal) => return Some(Err(refusal)),
         };
-        self.posting = later_posting(self.posting, latest.posting);
         match latest.reached {
-            Reached::Further(number) => {
+            Reached::Further { began, number } => {
+                self.take_in(began, latest.posting);
                 self.from = number;
                 None
             }
             Reached::LookingBack => None,
-            Reached::All(since) => Some(Ok(Seen {
-                posting: self.posting,
-                since,
-            })),
+            Reached::All { began, .. } => {
+                self.take_in(began, latest.posting);
+                Some(Ok(Seen {
+                    posting: self.posting,
+                    since: self.since,
+                }))
+            }
         }
+    }
+
+    // Takes in what a step found that began with the record of that number. If it passed over records, nothing that was
+    // seen before them counts.
+    fn take_in(&mut self, began: u64, posting: Option<Posting>)
+        ensures same { self.new.from ≡ self.old.from }
+        ensures meets { began ≤ self.old.from → Meets self.old posting self.new }
+        ensures gap { self.old.from < began → BeginsAnew began posting self.new }
+        ensures found { (self.new.posting ≡ self.old.posting) ⊎ (self.new.posting ≡ posting) }
+    {
+        if self.from < began {
+            self.since = began;
+            self.posting = posting;
+        } else {
+            self.posting = later_posting(self.posting, posting);
+        }
+    }
+
+    /// Takes the next step, in the records of a clerk. What the whole look tells, if it is over.
+    pub fn step<D: Device>(
+        &mut self,
+        clerk: &mut Clerk<D>,
+        station: u8,
+        limit: u64,
+    ) -> Option<Result<Seen, FindRefusal>>
+        ensures kept { clerk.new ≡ after_looks clerk.old clerk.new.journal.device }
+        ensures looks { LooksOnly (D.state clerk.old.journal.device)
+            (D.state clerk.new.journal.device) }
+        ensures honest { (D.state clerk.old.journal.device).honest
+            → (D.state clerk.new.journal.device).honest }
+        ensures whole { HasSeen self.old.since self.old.from self.old.posting
+            → HasSeen self.new.since self.new.from self.new.posting }
+        ensures told { IfSome result (λ seen. IfOk seen (λ all. (all.posting ≡ self.new.posting)
+            × (all.since ≡ self.new.since))) }
+        ensures above { IsAbove self.old.posting → IsAbove self.new.posting }
+    {
+        self.go_on(clerk.latest(station, limit, self.from))
     }
 }
 
@@ -100,10 +151,9 @@ pub fn last_posting<D: Device>(clerk: &mut Clerk<D>, station: u8) -> Option<Seen
     ensures looks { LooksOnly (D.state clerk.old.journal.device) (D.state clerk.new.journal.device) }
     ensures above { IfSome result (λ seen. IfSome seen.posting (λ last. 0 < reference_of last.entry)) }
 {
-    let mut look = Look::BEGINNING;
+    let mut look = Look::starting_at(0);
     for _ in 0..MOST_STEPS {
-        let step = clerk.latest(station, u64::MAX, look.from);
-        if let Some(seen) = look.go_on(step) {
+        if let Some(seen) = look.step(clerk, station, u64::MAX) {
             return seen.ok();
         }
     }

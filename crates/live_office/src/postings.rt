@@ -2,7 +2,7 @@
 //!
 //! The references of a counter rise: an entry with a reference above 0 is submitted only if that is above each one that
 //! was posted there, and above each one that is under way. So an entry that a client repeats is never posted twice.
-ghost use Rattle.std.specs.Prelude.{◌≡◌, ◌≢◌, ◌⊎◌, ◌+◌, ◌<◌, ◌≤◌, [], ◌∷◌, ◌++◌, length, max, false, IsTrue, IfSome, IsSome, None};
+ghost use Rattle.std.specs.Prelude.{◌≡◌, ◌≢◌, ◌⊎◌, ◌↔◌, ◌+◌, ◌^◌, ◌<◌, ◌≤◌, [], ◌∷◌, ◌++◌, length, max, false, IsTrue, IfSome, IsSome, None};
 ghost use Rattle.turn_ledger.specs.Entry.{reference_of};
 ghost use Rattle.station_desk.specs.Messages.{entries_of};
 ghost use Rattle.station_desk.specs.Rings.{StandsAt};
@@ -10,6 +10,10 @@ ghost use Rattle.live_office.specs.Rising.{AreAbove, AreWithin, AreUnderWay};
 
 use station_desk::{Answer, Feed, Outcome};
 use turn_ledger::Entry;
+
+/// How far a reference may be above the last one that is known. One that is farther is taken for a mistake, which would
+/// leave the counter no references.
+const FARTHEST: u64 = 4_294_967_296;
 
 /// A counter's feed, and what is known of the references in it.
 #[derive(Drop)]
@@ -36,6 +40,8 @@ pub(crate) enum Submission {
     NoPlace,
     /// Its reference isn't above each one that was posted or is under way.
     NotAbove,
+    /// Its reference is too far above the last one that was posted.
+    TooFar,
 }
 
 impl Postings {
@@ -99,7 +105,7 @@ impl Postings {
         Some(answer)
     }
 
-    /// Submits an entry, unless its reference isn't above.
+    /// Submits an entry, unless its reference isn't above, or is too far above.
     pub(crate) fn submit(&mut self, entry: Entry) -> Submission
         ensures rings { StandsAt self.old.feed self.new.feed }
         ensures submitted { result ≡ Submission.Submitted
@@ -115,7 +121,12 @@ impl Postings {
         ensures no_place { result ≡ Submission.NoPlace
             → (self.old.feed.free ≡ 0) ⊎ (length self.old.feed.asked ≡ u64.MAX) }
         ensures posted { self.new.posted ≡ self.old.posted }
+        ensures too_far { (result ≡ Submission.TooFar)
+            ↔ (self.old.posted + 2 ^ 32 < reference_of entry) }
     {
+        if entry.reference() > self.posted.saturating_add(FARTHEST) {
+            return Submission::TooFar;
+        }
         self.free_refused();
         if !self.is_above(entry.reference()) {
             return Submission::NotAbove;

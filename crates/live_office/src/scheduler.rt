@@ -12,11 +12,17 @@ use std::sync::{Mutex, Wait};
 use std::thread::Parker;
 use std::time::Duration;
 
-/// How often a station looks whether all others have begun, before it gives up.
-const PATIENCE: u64 = 200;
+/// How often a station looks whether all others have begun, before all are sent home and begin anew. Behind each span
+/// that ended so it looks four times as often, up to an hour.
+const PATIENCE: u64 = 1_000;
+
+const MOST_PATIENCE: u64 = 720_000;
 
 /// How many milliseconds it waits between two looks.
 const PAUSE: u64 = 5;
+
+/// How many spans in a row may end so, before one in which all began: then the system is taken to refuse a thread.
+const TRIES: u64 = 2;
 
 /// What is asked at a station, and what was reported.
 #[derive(Drop)]
@@ -79,7 +85,10 @@ pub(crate) struct Scheduler {
     stopping: AtomicBool,
     // A recess was called, for which the stations are sent home.
     recess: AtomicBool,
-    // A station gave up waiting for the others to begin.
+    // How many spans in a row ended since a station waited for the others to begin, and whether all ever began.
+    late: AtomicU64,
+    has_worked: AtomicBool,
+    // The stations gave up waiting for each other.
     abandoned: AtomicBool,
     // The archive can't be kept: nobody takes a turn any more.
     cut_off: AtomicBool,
@@ -108,6 +117,8 @@ impl Scheduler {
             closing: AtomicBool::new(false),
             stopping: AtomicBool::new(false),
             recess: AtomicBool::new(false),
+            late: AtomicU64::new(0),
+            has_worked: AtomicBool::new(false),
             abandoned: AtomicBool::new(false),
             cut_off: AtomicBool::new(false),
             over: AtomicBool::new(false),
@@ -223,7 +234,7 @@ impl Scheduler {
         earlier.saturating_add(self.taken.load(Ordering::SeqCst))
     }
 
-    /// Whether a station gave up waiting for the others to begin.
+    /// Whether the stations gave up waiting for each other to begin.
     pub(crate) fn is_abandoned(&self) -> bool {
         self.abandoned.load(Ordering::SeqCst)
     }
@@ -253,22 +264,48 @@ impl Scheduler {
         }
     }
 
-    // Waits until each station has begun. Where that takes too long, as where the system refuses a thread, the office
-    // is abandoned.
+    // Waits, at a station's first errand, until each has begun, or all are sent home. Where that takes too long, all
+    // are: a thread is late, or the system refuses it.
     fn await_others<R: Wait>(&self, rt: &R, waker: &Waker) {
-        if !waker.has_begun.swap(true, Ordering::SeqCst) {
-            self.begun.fetch_add(1, Ordering::SeqCst);
-            self.wake_all();
+        if waker.has_begun.swap(true, Ordering::SeqCst) {
+            return;
         }
-        for _ in 0..PATIENCE {
-            if self.begun.load(Ordering::SeqCst) >= self.wakers.len() as u64
-                || self.is_abandoned()
-            {
+        self.begun.fetch_add(1, Ordering::SeqCst);
+        self.wake_all();
+        for _ in 0..self.patience() {
+            if self.recess.load(Ordering::SeqCst) || self.is_given_up() {
+                return;
+            }
+            if self.begun.load(Ordering::SeqCst) >= self.wakers.len() as u64 {
+                self.late.store(0, Ordering::SeqCst);
+                self.has_worked.store(true, Ordering::SeqCst);
                 return;
             }
             waker.parker.park_timeout(rt, Duration::from_millis(PAUSE));
         }
-        self.abandoned.store(true, Ordering::SeqCst);
+        self.begin_again();
+    }
+
+    // How often it is looked in this span whether all have begun.
+    fn patience(&self) -> u64 {
+        let mut patience = PATIENCE;
+        for _ in 0..self.late.load(Ordering::SeqCst).min(5) {
+            patience = patience.saturating_mul(4).min(MOST_PATIENCE);
+        }
+        patience
+    }
+
+    // Not all have begun: they are sent home, and the next span is another try. An office in which all began once tries
+    // as often as it takes. One that never came so far is abandoned.
+    fn begin_again(&self) {
+        if self.recess.swap(true, Ordering::SeqCst) {
+            return;
+        }
+        let late = self.late.fetch_add(1, Ordering::SeqCst).saturating_add(1);
+        if late >= TRIES && !self.has_worked.load(Ordering::SeqCst) {
+            self.abandoned.store(true, Ordering::SeqCst);
+        }
+        self.wake_all();
     }
 
     // Whether a station is to end here: nothing waits in an office that closes, a recess is called, or nobody waits any

@@ -1,11 +1,11 @@
 //! What the dispatcher does for one counter.
-ghost use Rattle.std.specs.Prelude.{◌≡◌, ◌≤◌, ◌<◌, [], ◌++◌, map, IsTrue, IfOk, IfSome, Some, None};
+ghost use Rattle.std.specs.Prelude.{◌≡◌, ◌⊎◌, ◌≤◌, ◌<◌, [], ◌++◌, length, map, IsTrue, IfOk, IfSome, Some, None};
 ghost use Rattle.rtrb.specs.Ring.{known_free, sent, received};
 ghost use Rattle.script_grammar.specs.declared.requests.Request.TheVariants.{Balance, Find, Archive, Copy, Status, Close};
 ghost use Rattle.station_desk.specs.Messages.{entries_of};
 ghost use Rattle.station_desk.specs.Rings.{StandsAt};
 ghost use Rattle.live_office.specs.declared.messages.Message.TheVariants.{Asked};
-ghost use Rattle.live_office.specs.Conversation.{response_of, answers_among, pending, IsOther, IsAskedBy, IsResponseTo, IsOver, WereTakenUp};
+ghost use Rattle.live_office.specs.Conversation.{response_of, answers_among, pending, IsOther, IsAskedBy, IsResponseTo, IsOver, IsToldNoMore, WereTakenUp};
 
 use crate::conversation::{Conversation, listed};
 use crate::look::Look;
@@ -99,7 +99,7 @@ impl Session {
             next: None,
             is_asked: false,
             search: Search::BEGINNING,
-            look: Look::BEGINNING,
+            look: Look::starting_at(0),
             out_of_sight: None,
             recent,
             is_told_closing: false,
@@ -399,7 +399,7 @@ impl Session {
     }
 
     /// Ends the conversation: what the counter asks to post by now is listed, other questions are refused, and it is
-    /// told that the office closes.
+    /// told that the office closes. Nothing is answered behind an entry that isn't.
     ///
     /// # Errors
     /// Out of memory.
@@ -410,6 +410,8 @@ impl Session {
     ) -> Result<(Feed, Conversation), AllocError>
         ensures feed { IfOk result (λ both. both.0 ≡ self.postings.feed) }
         ensures over { IfOk result (λ both. IsOver both.0 both.1) }
+        ensures silent { (0 < self.postings.unanswered) ⊎ (0 < length (pending self.next))
+            → IfOk result (λ both. IsToldNoMore (sent self.responses) both.1.told) }
     {
         let Session {
             next,
@@ -430,8 +432,9 @@ impl Session {
             wakers,
             is_told_closing,
         );
-        conversation.refuse_next(next);
-        conversation.take_late(clock)?;
+        let is_answered = postings.unanswered == 0;
+        conversation.refuse_next(next, is_answered);
+        conversation.take_late(clock, is_answered)?;
         conversation.tell_closing();
         Ok((postings.into_feed(), conversation))
     }

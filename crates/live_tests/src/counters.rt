@@ -47,6 +47,13 @@ impl Read for InPieces {
     }
 }
 
+fn in_pieces(said: &'static [u8]) -> InPieces {
+    InPieces {
+        rest: said,
+        is_interrupted: false,
+    }
+}
+
 const REQUESTS: &[u8] = b"\
 status
 last
@@ -119,23 +126,23 @@ last 8 2
 closing
 ";
 
-// A device of which a read may fail.
-type Faulty = OneFault<MemoryDevice>;
+/// A device of which a read or a write may fail.
+pub(crate) type Faulty = OneFault<MemoryDevice>;
 
-// An office with one counter that says this and is told by a pipe; none if it can't be opened.
-fn kept<R: Files + Threads + Wait + Clock + Sync + Send + Clone + Drop + 'static>(
+/// An office with one counter that reads this and is told by a pipe; none if it can't be opened.
+pub(crate) fn kept<
+    R: Files + Threads + Wait + Clock + Sync + Send + Clone + Drop + 'static,
+    I: Read + Send + Drop + 'static,
+>(
     rt: &R,
     alloc: Global,
     device: Faulty,
     (line, moves): (Line, u64),
-    said: &'static [u8],
+    input: I,
 ) -> Result<Option<(PipeReader, Closed<Faulty>)>, Fail> {
     let (answers, output) = io::pipe(rt)?;
     let counter = Counter {
-        input: InPieces {
-            rest: said,
-            is_interrupted: false,
-        },
+        input,
         output,
         kind: Kind::Pipes,
         awaits_hello: false,
@@ -169,7 +176,7 @@ fn a_counter_is_answered_in_order(rt: HostRuntime) -> Result<(), Fail> {
     ];
     for (line, moves) in offices {
         let device = OneFault::new(formatted(alloc, 4)?, Op::Read, u64::MAX);
-        let kept = kept(&rt, alloc, device, (line, moves), REQUESTS)?;
+        let kept = kept(&rt, alloc, device, (line, moves), in_pieces(REQUESTS))?;
         let (mut answers, closed) = kept.ok_or("an office")?;
         assert!(rt; are_told(&mut answers, RESPONSES)?);
         is_over(&rt, &closed, line.stations() as usize, moves);
@@ -177,8 +184,8 @@ fn a_counter_is_answered_in_order(rt: HostRuntime) -> Result<(), Fail> {
     Ok(())
 }
 
-// Adds the next line to what was told.
-fn read_line(answers: &mut PipeReader, told: &mut String) -> Result<(), Fail> {
+/// Adds the next line to what was told.
+pub(crate) fn read_line(answers: &mut PipeReader, told: &mut String) -> Result<(), Fail> {
     let mut byte = [0];
     for _ in 0..100 {
         answers.read_exact(&mut byte)?;
@@ -212,7 +219,7 @@ fn told_beside_a_fault<R: Files + Threads + Wait + Clock + Sync + Send + Clone +
 ) -> Result<Option<String>, Fail> {
     let line = line([0, 0], [1, 0])?;
     let device = OneFault::new(formatted(alloc, 4)?, Op::Read, read);
-    match kept(rt, alloc, device, (line, 1_000), said)? {
+    match kept(rt, alloc, device, (line, 1_000), in_pieces(said))? {
         Some((mut answers, _)) => Ok(Some(read_lines(alloc, &mut answers)?)),
         None => Ok(None),
     }

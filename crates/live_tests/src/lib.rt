@@ -7,3 +7,9 @@ mod askers;
 mod counters;
 #[cfg(test)]
 mod keepers;
+#[cfg(test)]
+mod looks;
+#[cfg(test)]
+mod references;
+#[cfg(test)]
+mod unanswered;

@@ -123,12 +123,20 @@ fn look_for_all(
     rt: &impl Abort,
     clerk: &mut Clerk<Noting<MemoryDevice>>,
 ) -> Result<(), FindRefusal> {
+    let further = Reached::Further {
+        began: 0,
+        number: 256,
+    };
+    let all = Reached::All {
+        began: 256,
+        since: 0,
+    };
     let searches = [
         (0, u64::MAX, 0, None, Reached::LookingBack),
-        (0, u64::MAX, 0, Some(254), Reached::Further(256)),
-        (0, u64::MAX, 256, Some(258), Reached::All(0)),
-        (1, 100, 0, Some(99), Reached::Further(256)),
-        (1, 100, 256, None, Reached::All(0)),
+        (0, u64::MAX, 0, Some(254), further),
+        (0, u64::MAX, 256, Some(258), all),
+        (1, 100, 0, Some(99), further),
+        (1, 100, 256, None, all),
     ];
     for (station, limit, first, number, reached) in searches {
         let latest = clerk.latest(station, limit, first)?;

@@ -56,7 +56,8 @@ impl Session {
         }
     }
 
-    // Submits the entry, or, if its reference isn't above, judges it behind all that was asked before.
+    // Submits the entry, or, if its reference isn't above or is too far above, judges it behind all that was asked
+    // before.
     fn submit<R: Wait>(&mut self, rt: &R, scheduler: &Scheduler, entry: Entry) -> bool
         requires known { 0 < reference_of entry → self.old.earlier ≡ Earlier.Known }
         requires place { self.old.postings.unanswered < known_free self.old.responses }
@@ -69,6 +70,9 @@ impl Session {
             Submission::NoPlace => false,
             Submission::NotAbove => {
                 self.postings.unanswered == 0 && self.judge_repeated(rt, scheduler, entry)
+            }
+            Submission::TooFar => {
+                self.postings.unanswered == 0 && self.tell_judgement(entry, Judgement::Reference)
             }
         }
     }
@@ -91,7 +95,7 @@ impl Session {
                 self.next = None;
                 scheduler.note_submitted();
             }
-            Submission::NoPlace | Submission::NotAbove => {}
+            Submission::NoPlace | Submission::NotAbove | Submission::TooFar => {}
         }
         submission
     }
@@ -148,7 +152,7 @@ impl Session {
         };
         let seen = self.look.go_on(step);
         if seen.is_some() {
-            self.look = Look::BEGINNING;
+            self.look = Look::starting_at(0);
             return seen;
         }
         let question = self.look.question(limit);

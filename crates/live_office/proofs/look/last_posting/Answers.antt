@@ -4,7 +4,7 @@ use Rattle.turn_clerk.specs.Found.{after_looks}
 use Rattle.live_office.proofs.look.last_posting.Goals as goal
 
 pub returns-in-Some-clause-kept : goal.returns-in-Some-clause-kept
-returns-in-Some-clause-kept g c = c.latest-step.ensures.kept ∙ (λ i. after_looks (c.loop.invariant.kept i) c.latest-step.new.self.journal.device)
+returns-in-Some-clause-kept g c = c.step.ensures.kept ∙ (λ i. after_looks (c.loop.invariant.kept i) c.step.new.clerk.journal.device)
 
 pub returns-in-Some-clause-looks : goal.returns-in-Some-clause-looks
-returns-in-Some-clause-looks g c = λ honest. looks_joined _ _ _ (c.loop.invariant.looks honest) (c.latest-step.ensures.looks (c.loop.invariant.honest honest))
+returns-in-Some-clause-looks g c = λ honest. looks_joined _ _ _ (c.loop.invariant.looks honest) (c.step.ensures.looks (c.loop.invariant.honest honest))

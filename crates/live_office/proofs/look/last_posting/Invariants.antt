@@ -1,7 +1,7 @@
-use Rattle.std.specs.Prelude.{◌≡◌, ◌<◌, IfSome}
+use Rattle.std.specs.Prelude.{◌≡◌}
 use Rattle.sector_device.specs.Crash.{LooksOnly}
-use Rattle.turn_ledger.specs.Entry.{reference_of}
 use Rattle.turn_clerk.specs.Found.{after_looks}
+use Rattle.live_office.specs.Looked.{IsAbove}
 use Rattle.live_office.proofs.look.last_posting.Given as goal
 
 abbrev pub invariant-loop : goal.invariant-loop
@@ -9,5 +9,5 @@ invariant-loop g l = record {
   kept : l.clerk ≡ after_looks l.initial.clerk l.clerk.journal.device;
   honest : (g.D.Device.state l.initial.clerk.journal.device).honest → (g.D.Device.state l.clerk.journal.device).honest;
   looks : LooksOnly (g.D.Device.state l.initial.clerk.journal.device) (g.D.Device.state l.clerk.journal.device);
-  above : IfSome l.look.posting (λ last. 0 < reference_of last.entry);
+  above : IsAbove l.look.posting;
 }

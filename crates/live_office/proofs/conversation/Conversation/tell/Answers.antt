@@ -3,5 +3,5 @@ use Rattle.live_office.specs.Conversation.{IsOver}
 use Rattle.live_office.proofs.TakenUp.{over-told}
 use Rattle.live_office.proofs.conversation.Conversation.tell.Goals as goal
 
-pub returns-in-Ok : goal.returns-in-Ok
-returns-in-Ok c = λ feed over. over-told feed _ c.args.response _ c.in-Ok.ensures.ok.0 c.requires.other (subst (IsOver feed) (sym c.self.view_is) over)
+pub returns-in-Ok-clause-over : goal.returns-in-Ok-clause-over
+returns-in-Ok-clause-over c = λ feed over. over-told feed _ c.args.response _ c.in-Ok.ensures.ok.0 c.requires.other (subst (IsOver feed) (sym c.self.view_is) over)

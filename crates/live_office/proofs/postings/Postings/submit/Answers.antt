@@ -17,7 +17,7 @@ invariant_of-self c =
     let most : old.under_way ≤ c.max-self.result = omega (arith, c.max-self.ensures) in
     let own : reference_of c.args.entry ≤ c.max-self.result = omega (arith, c.max-self.ensures, c.reference-in-Ok.ensures) in
     let is : 0 < reference_of c.args.entry → (old.posted < reference_of c.args.entry) × (old.under_way < reference_of c.args.entry) =
-    subst (λ r. 0 < r → (old.posted < r) × (old.under_way < r)) c.reference.ensures (c.if-not-is_above.ensures.above refl) in
+    subst (λ r. 0 < r → (old.posted < r) × (old.under_way < r)) c.reference-2.ensures (c.if-not-is_above.ensures.above refl) in
     let long = ap length asked ∙ length-append old.feed.asked (ask ∷ []) in
     let same = ap length collected in
     let counted = old.counted in

@@ -18,4 +18,4 @@ returns-clause-over g c =
       above = subst (λ (one : FeedState). AreAbove one.asked one.collected) c.into_feed.ensures.feed c.into_feed.ensures.above;
     }) in
     subst (λ (one : FeedState). IsOver one c.tell_closing.new.self) (sym c.into_feed.ensures.feed)
-    (c.tell_closing.ensures feed (c.in_ok-take_late.ensures feed (c.refuse_next.ensures feed begun)))
+    (c.tell_closing.ensures.over feed (c.in_ok-take_late.ensures.over feed (c.refuse_next.ensures.over feed begun)))
