@@ -165,6 +165,37 @@ def a_restored_ledger(shelf):
     require_same((said.status, said.printed, (shelf.path / "none").exists()), (1, "", False), "a damaged archive")
 
 
+def what_isnt_restored(shelf):
+    """An archive that `check` refuses is refused as a whole, by the same line, and no ledger is made of it."""
+    ledger, books = shelf.ledger("ledger", 3), shelf.folder("books")
+    for _ in range(3):
+        ledger.post(2)
+        shelf.require_archived(ledger, books)
+    files = [books / name for name in shelf.names(books)]
+    new = shelf.path / "new"
+    # a byte of what account 1 held when the newest file, and one before it, began
+    for file in files[1:]:
+        whole = file.read_bytes()
+        at = 512 * 3 + 6
+        file.write_bytes(whole[:at] + bytes([whole[at] ^ 1]) + whole[at + 1:])
+        require_unrestored(shelf, books, new)
+        file.write_bytes(whole)
+    files[1].rename(shelf.path / "aside")
+    require_unrestored(shelf, books, new)
+    (shelf.path / "aside").rename(files[1])
+    shelf.printed("restore", books, new, "--slots", "4")
+    require_same(shelf.balances(new), shelf.balances(ledger.path), "the balances of a restored ledger")
+
+
+def require_unrestored(shelf, books, new):
+    """That `restore` is refused as `check` is, and makes nothing."""
+    said = shelf.run("check", str(books))
+    require_same((said.status, said.printed != ""), (1, True), "the check")
+    wanted = Said(1, "", said.printed.removesuffix("\n"))
+    require_same(shelf.run("restore", str(books), str(new), "--slots", "4"), wanted, "what isn't restored")
+    require_same(new.exists(), False, "a ledger of what isn't restored")
+
+
 def a_book_without_memory(shelf):
     """Each request for memory is refused in turn: out of memory, behind a prefix of what is printed."""
     ledger, books = shelf.ledger("ledger", 3), shelf.folder("books")
@@ -368,7 +399,7 @@ def no_memory(shelf):
 
 
 CASES = (each_posting, a_second_run, both_banks, a_gap, another_ledger, another_order, what_was_left, a_folder_of_another, no_folder,
-         a_damaged_file, a_copy, an_order, no_memory, a_book, a_late_book, no_book, an_export, a_restored_ledger,
+         a_damaged_file, a_copy, an_order, no_memory, a_book, a_late_book, no_book, an_export, a_restored_ledger, what_isnt_restored,
          a_book_without_memory)
 
 
