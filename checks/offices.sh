@@ -3,7 +3,8 @@
 # file: every kind of request and answer, counters that hang up, that never listen, that never end a line and that close
 # at once, what isn't opened, a device that fails, an office that waits, a terminal, and kill -9 at random moments of
 # many postings, where each posting that a client was told of has to be in the file once, and nothing that wasn't asked.
-# Lets an office of three slots keep an archive and make copies, amid such kills. Lets clients of clients/ be killed too,
+# Lets an office of three slots keep an archive and make copies, amid such kills. Gives it folders that can't be used and
+# an archive that lacks a file, and ends or fails each call that a copy makes. Lets clients of clients/ be killed too,
 # which repeat what they weren't told, and looks that nothing stands twice.
 # Looks under strace whether a posting is told behind its last sync. Words: the built derbyfig, and those of
 # checks/offices/check.py, as --kills 100. Needed beside the toolchain: Python and `strace`. The files are made below

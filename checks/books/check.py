@@ -165,6 +165,37 @@ def a_restored_ledger(shelf):
     require_same((said.status, said.printed, (shelf.path / "none").exists()), (1, "", False), "a damaged archive")
 
 
+def what_isnt_restored(shelf):
+    """An archive that `check` refuses is refused as a whole, by the same line, and no ledger is made of it."""
+    ledger, books = shelf.ledger("ledger", 3), shelf.folder("books")
+    for _ in range(3):
+        ledger.post(2)
+        shelf.require_archived(ledger, books)
+    files = [books / name for name in shelf.names(books)]
+    new = shelf.path / "new"
+    # a byte of what account 1 held when the newest file, and one before it, began
+    for file in files[1:]:
+        whole = file.read_bytes()
+        at = 512 * 3 + 6
+        file.write_bytes(whole[:at] + bytes([whole[at] ^ 1]) + whole[at + 1:])
+        require_unrestored(shelf, books, new)
+        file.write_bytes(whole)
+    files[1].rename(shelf.path / "aside")
+    require_unrestored(shelf, books, new)
+    (shelf.path / "aside").rename(files[1])
+    shelf.printed("restore", books, new, "--slots", "4")
+    require_same(shelf.balances(new), shelf.balances(ledger.path), "the balances of a restored ledger")
+
+
+def require_unrestored(shelf, books, new):
+    """That `restore` is refused as `check` is, and makes nothing."""
+    said = shelf.run("check", str(books))
+    require_same((said.status, said.printed != ""), (1, True), "the check")
+    wanted = Said(1, "", said.printed.removesuffix("\n"))
+    require_same(shelf.run("restore", str(books), str(new), "--slots", "4"), wanted, "what isn't restored")
+    require_same(new.exists(), False, "a ledger of what isn't restored")
+
+
 def a_book_without_memory(shelf):
     """Each request for memory is refused in turn: out of memory, behind a prefix of what is printed."""
     ledger, books = shelf.ledger("ledger", 3), shelf.folder("books")
@@ -215,22 +246,44 @@ def a_gap(shelf):
 
 
 def another_ledger(shelf):
-    """A ledger with other balances, with another seal, and an old copy are refused."""
+    """A ledger with other balances, with another seal, copies of these, and an old copy are refused."""
     ledger, books = shelf.ledger("ledger", 3), shelf.folder("books")
     ledger.post(2)
     old = shelf.path / "old"
     shutil.copy(ledger.path, old)
     ledger.post(1)
     shelf.require_archived(ledger, books)
-    told = f"{old}: its next batch is 2, and that of the archive is 3; it isn't the archive's ledger, or an old copy"
+    told = (f"{old}: its next batch is 2, and that of the archive is 3; it isn't the archive's ledger, or an old copy, or lost"
+            " those between; derbyfig restore makes a ledger that has them")
     shelf.require_kept(books, old, Said(1, "", told))
-    sentence = "before batch 3, where the archive ends, it held other balances or seals; it isn't the archive's ledger"
+    batch = "its batch 2 isn't the one in the archive; it isn't the archive's ledger"
+    held = "before batch 3, where the archive ends, it held other balances or seals; it isn't the archive's ledger"
     for name, entry in (("richer", "deposit 9 9"), ("sealed", "seal 8")):
         other = shelf.ledger(name, 3)
         other.post(2)
         other.post_entries([[entry]])
-        shelf.require_kept(books, other.path, Said(1, "", f"{other.path}: {sentence}"))
+        shelf.require_kept(books, other.path, Said(1, "", f"{other.path}: {batch}"))
+        # a copy has no records
+        other.copy(shelf.path / f"{name}_copy", 3)
+        shelf.require_kept(books, other.path, Said(1, "", f"{other.path}: {held}"))
     shelf.require_whole(ledger, books)
+
+
+def another_order(shelf):
+    """A ledger that came to the same balances by other batches is refused, by the first that isn't the archive's."""
+    deposits = [["deposit 1 5"], ["deposit 1 7"], ["deposit 2 3"], ["deposit 1 9"]]
+    for name, order, differs in (("swapped", (1, 0, 2), 0), ("late", (0, 2, 1), 1), ("split", (0, 1, 2), None)):
+        ledger, books = shelf.ledger(f"ledger_{name}", 3), shelf.folder(f"books_{name}")
+        ledger.post_entries(deposits[:3])
+        shelf.require_archived(ledger, books)
+        other = shelf.ledger(name, 3)
+        other.post_entries([deposits[number] for number in order] + deposits[3:])
+        if differs is None:
+            require_same(shelf.archive(other.path, books), Said(0, "archived 1 from 3\n", ""), "the same batches")
+            continue
+        told = f"{other.path}: its batch {differs} isn't the one in the archive; it isn't the archive's ledger"
+        shelf.require_kept(books, other.path, Said(1, "", told))
+        shelf.require_whole(ledger, books)
 
 
 def what_was_left(shelf):
@@ -307,11 +360,13 @@ def a_copy(shelf):
 
 
 def an_order(shelf):
-    """A file is written, synced once behind all its writes, given its name, and then the folder is synced."""
+    """The ledger and the folder are synced. A file is written, synced once behind all its writes, given its name, and then
+    the folder is synced."""
     ledger, books = shelf.ledger("ledger", 3), shelf.folder("books")
     ledger.post(4)
     calls = shelf.calls_of_archive(ledger.path, books)
-    made = calls.index(("fsync", "books")) + 1
+    require_same(calls[:2], [("fsync", "ledger"), ("fsync", "books")], "the first calls")
+    made = calls.index(("fsync", "unfinished")) + 2
     wanted = [("fdatasync", "unfinished"), ("rename", "unfinished"), ("fsync", "books")]
     require_same(calls[-3:], wanted, "the last calls")
     require_same(set(calls[made:-3]), {("pwrite64", "unfinished")}, "the calls between")
@@ -343,8 +398,8 @@ def no_memory(shelf):
     shelf.require_whole(ledger, books)
 
 
-CASES = (each_posting, a_second_run, both_banks, a_gap, another_ledger, what_was_left, a_folder_of_another, no_folder,
-         a_damaged_file, a_copy, an_order, no_memory, a_book, a_late_book, no_book, an_export, a_restored_ledger,
+CASES = (each_posting, a_second_run, both_banks, a_gap, another_ledger, another_order, what_was_left, a_folder_of_another, no_folder,
+         a_damaged_file, a_copy, an_order, no_memory, a_book, a_late_book, no_book, an_export, a_restored_ledger, what_isnt_restored,
          a_book_without_memory)
 
 

@@ -29,6 +29,7 @@ CASES = (
     copies.that_are_no_ledgers,
     copies.of_earlier_versions,
     copies.that_are_refused,
+    copies.that_leave_the_new_file,
 )
 
 

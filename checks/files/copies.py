@@ -1,4 +1,8 @@
 """Copies of ledgers and of older ones, and what is left where one is refused."""
+import os
+import shutil
+import subprocess
+
 from holdings import FOREIGN, LEDGER
 from parts import make
 from programs import Said, kept, require_same
@@ -133,3 +137,60 @@ def require_refused(programs, old, new, status, told):
     before = kept(new)
     require_same(migrate(programs, old, new), Said(status, "", told), f"a copy of {old.name}")
     require_same(kept(new) == before, True, f"{new} behind a copy of {old.name} that is refused")
+
+
+def unsound(programs, moments):
+    """What isn't a ledger to copy: by name, the bytes."""
+    present = kept(make(programs, "sound", 4, 30))
+    broken = bytearray(present)
+    broken[512 * 20] ^= 1
+    return {"empty": b"", "zeros": bytes(512 * 55), "text": b"2026-11-26 opening balance\n".ljust(512),
+            "part": present[:512 * 50], "closed": closed(present, 4), "noise": moments.randbytes(512 * 55),
+            "broken": bytes(broken), "unknown": b"TLDG\0\4".ljust(512 * 55, b"\0")}
+
+
+def disk_over(file):
+    """A disk over a file, if this user may have one."""
+    file.write_bytes(bytes(512 * 600))
+    if not shutil.which("losetup"):
+        return None
+    made = subprocess.run(["losetup", "-f", "--show", str(file)], capture_output=True, text=True, check=False)
+    return made.stdout.strip() if made.returncode == 0 else None
+
+
+def that_leave_the_new_file(programs, moments):
+    """A copy that is refused with status 1 leaves NEW as it was: none, an empty file, zeros, a ledger, a disk."""
+    olds = unsound(programs, moments)
+    refused = {"copy": olds | {"first": first_layout(), "second": second_layout()},
+               "migrate": olds | {"present": kept(make(programs, "present", 4, 30))}}
+    news = {"missing": None, "nothing": b"", "blank": bytes(512 * 70), "ledger": kept(make(programs, "another", 8, 45))}
+    old, new, link = (programs.folder / name for name in ("old", "new", "link"))
+    link.symlink_to(programs.folder / "behind")
+    backing = programs.folder / "backing"
+    disk = disk_over(backing)
+    try:
+        for command, found in refused.items():
+            for name, held in found.items():
+                old.write_bytes(held)
+                for before in news.values():
+                    new.unlink(missing_ok=True)
+                    if before is not None:
+                        new.write_bytes(before)
+                    for words in ((), ("--overwrite",)):
+                        require_left(programs, (command, old, new, *words), name, lambda: kept(new))
+                require_left(programs, (command, old, link), name, lambda: (os.readlink(link), (programs.folder / "behind").exists()))
+                if disk:
+                    require_left(programs, (command, old, disk), name, backing.read_bytes)
+    finally:
+        if disk:
+            subprocess.run(["losetup", "-d", disk], check=True)
+    if not disk:
+        print("not tried: copies to a disk, since there is no loop device")
+
+
+def require_left(programs, words, name, held):
+    """That a copy of what isn't a ledger is refused, and what is held stays."""
+    before = held()
+    said = programs.run(programs.derbyfig, *map(str, words), "--slots", "64")
+    require_same((said.status, said.printed, said.told != ""), (1, "", True), f"{words} of {name}")
+    require_same(held() == before, True, f"{words} of {name} leaves what was there")

@@ -9,6 +9,7 @@ import sys
 
 import archives
 import coming
+import folders
 import kills
 import order
 import refusals
@@ -47,6 +48,11 @@ CASES = (
     archives.without_an_archive,
     archives.makes_copies,
     archives.an_archive_that_fails,
+    folders.in_folders_that_cant_be_used,
+    folders.behind_kills,
+    folders.where_the_name_is_taken,
+    folders.on_a_full_disk,
+    folders.an_archive_with_a_gap,
     retries.never_twice,
     retries.unknown_at_most,
     retries.out_of_sight,

@@ -36,6 +36,9 @@ pub enum NewestFault {
     /// It isn't sound.
     #[error("{0}")]
     NoLedger(OpenRefusal),
+    /// It was sound, and a record can't be read again.
+    #[error("{0}")]
+    Lost(ReadRefusal),
     /// Its first record doesn't have the number that is its name, or it has no record.
     #[error("it isn't of this archive: its first record doesn't have the number that is its name")]
     Foreign,
@@ -89,11 +92,19 @@ pub enum ArchiveFault<'a> {
     Empty {
         folder: &'a str,
     },
-    /// The archive's newest ledger can't be had.
+    /// A ledger of the archive, mostly the newest, can't be had.
     #[error("{volume}: {fault}")]
     Newest {
         volume: Volume<'a>,
         fault: NewestFault,
+    },
+    /// One or more ledgers of the archive are missing before this one.
+    #[error("{volume}: its earliest batch is {first}, and {before} ends before {end}; those between are missing")]
+    Missing {
+        volume: Volume<'a>,
+        first: u64,
+        before: Volume<'a>,
+        end: u64,
     },
     /// The ledger lists no record from the archive's end on, but only later ones.
     #[error("{path}: its earliest batch is {first}, and the archive ends before {end}; those between are lost")]
@@ -103,11 +114,17 @@ pub enum ArchiveFault<'a> {
         end: u64,
     },
     /// It ends before the archive does.
-    #[error("{path}: its next batch is {next}, and that of the archive is {end}; it isn't the archive's ledger, or an old copy")]
+    #[error("{path}: its next batch is {next}, and that of the archive is {end}; it isn't the archive's ledger, or an old copy, or lost those between; derbyfig restore makes a ledger that has them")]
     Short {
         path: &'a str,
         next: u64,
         end: u64,
+    },
+    /// A batch that both have isn't the same in both.
+    #[error("{path}: its batch {batch} isn't the one in the archive; it isn't the archive's ledger")]
+    Other {
+        path: &'a str,
+        batch: u64,
     },
     /// It held something else where the archive ends.
     #[error("{path}: before batch {end}, where the archive ends, it held other balances or seals; it isn't the archive's ledger")]
@@ -137,8 +154,10 @@ impl<'a> ArchiveFault<'a> {
             ArchiveFault::NoLedger { refusal, .. } => Status::from(refusal),
             ArchiveFault::Newest { fault, .. } => fault.status(),
             ArchiveFault::Empty { .. }
+            | ArchiveFault::Missing { .. }
             | ArchiveFault::Gap { .. }
             | ArchiveFault::Short { .. }
+            | ArchiveFault::Other { .. }
             | ArchiveFault::Differs { .. } => Status::Refused,
             ArchiveFault::Memory
             | ArchiveFault::Unread { .. }
@@ -201,7 +220,7 @@ impl NewestFault {
         ensures { result ≡ of_newest self }
     {
         match self {
-            NewestFault::Unread(_) => Status::Failed,
+            NewestFault::Unread(_) | NewestFault::Lost(_) => Status::Failed,
             NewestFault::NoLedger(refusal) => Status::from(refusal),
             NewestFault::Foreign => Status::Refused,
         }

@@ -1,4 +1,5 @@
 pub mod Adding
+pub mod Comparing
 pub mod Filled
 pub mod Book
 pub mod BookLaws

@@ -22,6 +22,20 @@ pub enum FollowRefusal {
     Differs,
 }
 
+/// Why a ledger's records couldn't be compared with those of an archive, or aren't the same.
+#[derive(Clone, Copy, Debug, PartialEq, Eq, Error)]
+pub enum CompareRefusal {
+    /// A record of the ledger wasn't read.
+    #[error("the ledger wasn't read: {0}")]
+    Ledger(ReadRefusal),
+    /// A record of the archive's newest ledger wasn't read.
+    #[error("the archive wasn't read: {0}")]
+    Newest(ReadRefusal),
+    /// The records with this number aren't the same.
+    #[error("record {0} is another one")]
+    Differs(u64),
+}
+
 /// Why no journal was added. The first that holds is answered.
 #[derive(Clone, Copy, Debug, PartialEq, Eq, Error)]
 pub enum AddRefusal {

@@ -5,12 +5,13 @@ ghost use Rattle.sector_device.specs.Device.{AreCalls};
 ghost use Rattle.sector_device.specs.Crash.{LooksOnly};
 ghost use Rattle.journal_recovery.specs.Older.{OldRecoveryRefuses};
 ghost use Rattle.journal_recovery.specs.Refused.{RecoveryRefuses};
+ghost use Rattle.ledger_file.specs.Sound.{IsLedger, IsOldLedger};
 
 use crate::plan::{check_formatting, sectors_planned};
 use crate::refusal::{CopyRefusal, LedgerRefusal};
 use file_device::{DeviceFile, DeviceOn, DeviceRefusal, LockedFile, MadeFile, Making, Wanted};
 use gate_journal::{FirstSector, FormatRefusal, MOST_SLOTS, format, sectors_needed};
-use journal_recovery::{MigrateRefusal, OpenRefusal, copy, migrate};
+use journal_recovery::{MigrateRefusal, OpenRefusal, copy, migrate, read_old, recover};
 use sector_device::Device;
 use std::alloc::Global;
 use std::fs::Files;
@@ -123,11 +124,13 @@ pub fn format_ledger<F: DeviceFile + Drop, R: Files<File = F>>(
     Ok(device)
 }
 
-/// Copies the ledger of an older device to a path, as [`format_ledger`] makes one there. If it is refused, a file that
-/// this call made is removed. The older device is read alone, and let go of.
+/// Copies the ledger of an older device to a path, as [`format_ledger`] makes one there. The older device is found
+/// sound before anything is opened at the path, so a refusal of it leaves the path as it is. It is read alone, and let
+/// go of. If the copy is refused later, a file that this call made is removed.
 ///
 /// # Errors
-/// [`CopyRefusal`]. After `Copy(Target)` nothing is known of the sectors of a file or a disk that was there.
+/// [`CopyRefusal`], the first that holds: `Copy(Source)` comes first. After `Copy(Target)` nothing is known of the
+/// sectors of a file or a disk that was there.
 pub fn migrate_ledger<D: Device + Drop, F: DeviceFile + Drop, R: Files<File = F>>(
     rt: &R,
     alloc: Global,
@@ -143,7 +146,15 @@ pub fn migrate_ledger<D: Device + Drop, F: DeviceFile + Drop, R: Files<File = F>
         → result ≡ Err (CopyRefusal.Copy (MigrateRefusal.Source refusal))
         → refusal ≢ OpenRefusal.Memory → refusal ≢ OpenRefusal.Device
         → OldRecoveryRefuses (D.state old).reads refusal }
+    ensures sound_first { (D.state old).honest
+        → ((refusal : OpenRefusal)
+        → result ≢ Err (CopyRefusal.Copy (MigrateRefusal.Source refusal)))
+        → IsOldLedger (D.state old).reads }
 {
+    let (old, found) = read_old(alloc, old);
+    if let Err(refusal) = found {
+        return Err(CopyRefusal::Copy(MigrateRefusal::Source(refusal)));
+    }
     let (mut device, made) = device_to_format(rt, alloc, path, formatting)?;
     let (_old, migrated) = migrate(alloc, old, &mut device, formatting.slots.get());
     if let Err(refusal) = migrated {
@@ -176,7 +187,17 @@ pub fn copy_ledger<D: Device, F: DeviceFile + Drop, R: Files<File = F>>(
         → result.1 ≡ Err (CopyRefusal.Copy (MigrateRefusal.Source refusal))
         → refusal ≢ OpenRefusal.Memory → refusal ≢ OpenRefusal.Device
         → RecoveryRefuses (D.state old).reads refusal }
+    ensures sound_first { (D.state old).honest
+        → ((refusal : OpenRefusal)
+        → result.1 ≢ Err (CopyRefusal.Copy (MigrateRefusal.Source refusal)))
+        → IsLedger (D.state old).reads }
 {
+    let old = match recover(alloc, old) {
+        Ok(found) => found.journal.into_device(),
+        Err((old, refusal)) => {
+            return (old, Err(CopyRefusal::Copy(MigrateRefusal::Source(refusal))));
+        }
+    };
     let (mut device, made) = match device_to_format(rt, alloc, path, formatting) {
         Ok(both) => both,
         Err(refusal) => return (old, Err(CopyRefusal::from(refusal))),

@@ -62,7 +62,7 @@ impl BookTask {
 
 /// A ledger of a book.
 #[derive(Clone, Copy, Debug)]
-pub(crate) enum Part<'a> {
+pub enum Part<'a> {
     /// In a file or on a disk.
     File(&'a str),
     /// Of an archive.

@@ -15,7 +15,7 @@ use thiserror::Error;
 
 /// Why a book isn't read to its end.
 #[derive(Clone, Copy, Debug, Error)]
-pub(crate) enum BookFault<'a> {
+pub enum BookFault<'a> {
     /// There is no memory.
     #[error("out of memory")]
     Memory,
@@ -90,7 +90,7 @@ pub(crate) enum BookFault<'a> {
 
 impl<'a> BookFault<'a> {
     /// The status that the program ends with.
-    pub(crate) fn status(self) -> Status
+    pub fn status(self) -> Status
         ensures { result ≡ status_of self.entry }
     {
         match self {

@@ -24,9 +24,9 @@ impl fmt::Display for Damage<'_> {
 
 /// What is wrong, and where.
 #[derive(Clone, Copy, Debug, PartialEq, Eq)]
-pub(crate) struct Wrong {
-    pub(crate) refusal: OpenRefusal,
-    pub(crate) place: Option<Place>,
+pub struct Wrong {
+    pub refusal: OpenRefusal,
+    pub place: Option<Place>,
 }
 
 /// The cause, and the place, which says more than the cause's slot.

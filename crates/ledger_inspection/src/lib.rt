@@ -1,7 +1,7 @@
 //! Looks at a ledger on a device or in a file, of any layout, and prints what is asked for. It never writes the file.
 //!
 //! [`inspect_file`] opens a file and looks at it, and [`inspect_device`] does so with a device that is handed in.
-//! [`inspect_book`] looks at several ledgers as one.
+//! [`inspect_book`] looks at several ledgers as one, and [`check_archive`] finds an archive sound.
 //!
 //! `checks/inspections.sh` has examples.
 #![tactic(auto)]
@@ -18,8 +18,9 @@ mod shelf;
 mod sound_ledger;
 mod unsound_ledger;
 
-pub use book::{BookInspection, BookTask};
-pub use damage::Damage;
+pub use book::{BookInspection, BookTask, Part};
+pub use book_faults::BookFault;
+pub use damage::{Damage, Wrong};
 pub use device_drawing::Place;
 pub use file_device::{FileFault, Locking};
 pub use inspecting::{inspect_device, inspect_file};
@@ -28,4 +29,4 @@ pub use ledger_printing::{Date, Format, JournalWish, Progress, Selection};
 pub use ledger_reading::{Cause, Device, OpenRefusal};
 pub use meter::Meter;
 pub use program_ends::Status;
-pub use reading_book::inspect_book;
+pub use reading_book::{check_archive, inspect_book};

@@ -7,6 +7,7 @@ use crate::book_reader::{Keeping, Passing, Printing};
 use crate::inspecting::{answer, tell_locking};
 use crate::meter::Meter;
 use crate::shelf::{Extent, Shelf, parts_of};
+use file_device::Locking;
 use ledger_printing::{JournalPrint, JournalWish, Progress, print_balances};
 use ledger_reading::Ledger;
 use program_ends::{Status, Watched, tell, unwritten};
@@ -42,6 +43,27 @@ pub fn inspect_book<R: Files<File = File> + Alloc<A = Global> + Clone + Drop, W:
         }
         Err(fault) => tell_fault(alloc, wish.task, fault, &mut output, errors),
     }
+}
+
+/// Finds the archive in a folder sound, as `check` does: each of its files, and that each goes on where the one before
+/// ends.
+///
+/// # Errors
+/// [`BookFault`], the first that is met.
+pub fn check_archive<'a, R: Files<File = File> + Alloc<A = Global> + Clone + Drop>(
+    rt: &R,
+    alloc: Global,
+    folder: &'a str,
+) -> Result<(), BookFault<'a>> {
+    let parts = parts_of(rt, alloc, &[folder])?;
+    let shelf = Shelf {
+        rt,
+        alloc,
+        parts: parts.as_slice(),
+        locking: Locking::Shared,
+    };
+    shelf.walk(&mut Passing)?;
+    Ok(())
 }
 
 // Tells why it isn't read.

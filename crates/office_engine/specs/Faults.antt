@@ -2,6 +2,7 @@
 use Rattle.journal_recovery.specs.declared.refusals.OpenRefusal.{OpenRefusal}
 use Rattle.line_lock.specs.declared.lent.OfficeRefusal.TheVariants as office
 use Rattle.live_office.specs.declared.open_office.LiveRefusal.TheVariants as live
+use Rattle.archive_engine.specs.Copies as copies
 use Rattle.archive_engine.specs.Faults as archive
 use Rattle.program_ends.specs.Status.{of_ledger, of_opening, of_turn}
 use Rattle.program_ends.specs.declared.status.Status.{Status}
@@ -18,6 +19,7 @@ status_of (fault.NoLedger path refusal) = of_opening refusal
 status_of (fault.Office (live.Office (office.Opening refusal))) = of_opening refusal
 status_of (fault.Refused refusal) = of_turn refusal
 status_of (fault.Archive inner) = archive.status_of inner
+status_of (fault.Copies folder inner) = copies.status_of inner
 status_of _ = Failed
 
 -- that no office is open, or that a client speaks there, is a rule's matter, and else something failed

@@ -1,21 +1,20 @@
 //! Who keeps the archive of an office, makes copies of its ledger, and sees which counters have clients.
 ghost use Rattle.std.specs.Prelude.{◌≡◌};
-ghost use Rattle.office_engine.specs.Copies.{copy_refusal_of};
+ghost use Rattle.office_engine.specs.Copies.{told_as};
 ghost use Rattle.office_engine.specs.FolderArchive.{folder_archive};
 
 use crate::faults::OfficeFault;
 use crate::locks::has_client;
 use crate::looking_back::last_in_archive;
 use crate::serving::Serving;
-use archive_engine::{ArchiveFault, Folder, archive_device};
-use file_device::{DeviceRefusal, FileFault};
-use journal_recovery::{MigrateRefusal, OpenRefusal, Recovered, recover};
-use ledger_file::{CopyRefusal as CopyFault, Formatting, LedgerRefusal, copy_ledger};
+use archive_engine::{
+    ArchiveFault, Folder, FolderCopyRefusal, archive_device, check_no_gap, copy_to_folder,
+    open_copies,
+};
 use live_office::{CopyRefusal, Keeper, Kept, Seen};
 use sector_device::Device;
 use std::alloc::{Alloc, Global};
 use std::fs::{File, Files};
-use std::num::NonZeroU64;
 
 /// The archive of an office, if it has one, and why it couldn't be written, if it couldn't.
 #[derive(Drop)]
@@ -28,21 +27,29 @@ pub(crate) struct Archivist<'a, 'r, R> {
     // The path of the archive.
     books: Option<&'a str>,
     // The folder of the copies.
-    copies: Option<&'a str>,
+    copies: Option<Folder<'a>>,
     // The folders of the counters, that of station 0 first.
     counters: &'r [&'a str],
     fault: Option<ArchiveFault<'a>>,
 }
 
 impl<'a, 'r, R: Files<File = File> + Alloc<A = Global> + Clone + Drop> Archivist<'a, 'r, R> {
-    /// Opens the archive, if the office has one.
+    /// Opens the archive, if the office has one, in which no file may be missing between others, and the folder of the
+    /// copies, if it makes any.
     pub(crate) fn open(
         rt: &'r R,
         alloc: Global,
         serving: &'r Serving<'a>,
     ) -> Result<Archivist<'a, 'r, R>, OfficeFault<'a>> {
         let folder = match serving.archive {
-            Some(folder) => Some(Folder::open(rt, folder)?),
+            Some(folder) => Some(open_archive(rt, alloc, folder)?),
+            None => None,
+        };
+        let copies = match serving.copies {
+            Some(path) => match open_copies(rt, alloc, path, serving.archive) {
+                Ok(copies) => Some(copies),
+                Err(fault) => return Err(OfficeFault::of_copies(path, fault)),
+            },
             None => None,
         };
         Ok(Archivist {
@@ -51,7 +58,7 @@ impl<'a, 'r, R: Files<File = File> + Alloc<A = Global> + Clone + Drop> Archivist
             path: serving.path,
             folder,
             books: serving.archive,
-            copies: serving.copies,
+            copies,
             counters: serving.counters.as_slice(),
             fault: None,
         })
@@ -94,29 +101,13 @@ impl<D: Device, R: Files<File = File> + Alloc<A = Global> + Clone + Drop> Keeper
     }
 
     fn copy(&mut self, device: D) -> (D, Result<u64, CopyRefusal>) {
-        let Some(folder) = self.copies else {
+        let Some(folder) = &self.copies else {
             return (device, Err(CopyRefusal::NoFolder));
         };
-        let Recovered { journal, .. } = match recover(self.alloc, device) {
-            Ok(found) => found,
-            Err((device, OpenRefusal::Memory)) => return (device, Err(CopyRefusal::Memory)),
-            Err((device, _)) => return (device, Err(CopyRefusal::Device)),
-        };
-        let (next, slots) = (journal.next(), journal.slots());
-        let device = journal.into_device();
-        let Ok(path) = format!(in self.alloc; "{folder}/{next:020}") else {
-            return (device, Err(CopyRefusal::Memory));
-        };
-        let formatting = Formatting {
-            slots: NonZeroU64::new(slots).unwrap_or(NonZeroU64::MIN),
-            sectors: 0,
-            overwrite: false,
-        };
-        let (rt, alloc) = (self.rt, self.alloc);
-        let (device, copied) = copy_ledger(rt, alloc, device, path.as_str(), formatting);
+        let (device, copied) = copy_to_folder(self.rt, self.alloc, device, folder);
         match copied {
-            Ok(_) => (device, Ok(next)),
-            Err(refusal) => (device, Err(refusal_of(refusal))),
+            Ok(number) => (device, Ok(number)),
+            Err(refusal) => (device, Err(told_as(refusal))),
         }
     }
 
@@ -135,18 +126,25 @@ impl<D: Device, R: Files<File = File> + Alloc<A = Global> + Clone + Drop> Keeper
     }
 }
 
+// The folder of the archive, to be added to.
+fn open_archive<'a, R: Files<File = File> + Alloc<A = Global> + Clone + Drop>(
+    rt: &R,
+    alloc: Global,
+    path: &'a str,
+) -> Result<Folder<'a>, ArchiveFault<'a>> {
+    let folder = Folder::open_to_add(rt, path)?;
+    check_no_gap(rt, alloc, path)?;
+    Ok(folder)
+}
+
 // Why there is no copy.
-fn refusal_of(refusal: CopyFault) -> CopyRefusal
-    ensures { result ≡ copy_refusal_of refusal }
+fn told_as(refusal: FolderCopyRefusal) -> CopyRefusal
+    ensures { result ≡ told_as refusal }
 {
     match refusal {
-        CopyFault::Target(LedgerRefusal::Held(_)) => CopyRefusal::Occupied,
-        CopyFault::Target(LedgerRefusal::Device(DeviceRefusal::File(FileFault::Memory)))
-        | CopyFault::Copy(MigrateRefusal::Source(OpenRefusal::Memory)) => CopyRefusal::Memory,
-        CopyFault::Copy(MigrateRefusal::Source(_)) => CopyRefusal::Device,
-        CopyFault::Target(_)
-        | CopyFault::Copy(
-            MigrateRefusal::TooManySlots | MigrateRefusal::TooSmall | MigrateRefusal::Target,
-        ) => CopyRefusal::Unwritten,
+        FolderCopyRefusal::Memory => CopyRefusal::Memory,
+        FolderCopyRefusal::Ledger(_) => CopyRefusal::Device,
+        FolderCopyRefusal::Occupied => CopyRefusal::Occupied,
+        FolderCopyRefusal::Unwritten => CopyRefusal::Unwritten,
     }
 }

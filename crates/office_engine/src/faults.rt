@@ -3,7 +3,7 @@ ghost use Rattle.std.specs.Prelude.{◌≡◌};
 ghost use Rattle.office_engine.specs.Faults.{status_of};
 
 use crate::pipes::{PipeRefusal, Side};
-use archive_engine::ArchiveFault;
+use archive_engine::{ArchiveFault, CopiesFault};
 use four_state::LineRefusal;
 use journal_recovery::OpenRefusal;
 use ledger_file::LedgerRefusal;
@@ -79,6 +79,12 @@ pub enum OfficeFault<'a> {
     /// The archive can't be had, or what it lacks can't be added to it. What was answered stands in the ledger.
     #[error("{0}")]
     Archive(ArchiveFault<'a>),
+    /// No copies can be made in the folder that is named for them.
+    #[error("{folder}: {fault}")]
+    Copies {
+        folder: &'a str,
+        fault: CopiesFault,
+    },
 }
 
 /// Out of memory is reported as out of memory, wherever it was met.
@@ -109,6 +115,7 @@ impl<'a> OfficeFault<'a> {
             }
             OfficeFault::Refused(refusal) => Status::from(refusal),
             OfficeFault::Archive(fault) => fault.status(),
+            OfficeFault::Copies { fault, .. } => fault.status(),
             OfficeFault::Memory
             | OfficeFault::Write
             | OfficeFault::Pipe(_)
@@ -124,6 +131,14 @@ impl<'a> OfficeFault<'a> {
             return OfficeFault::Memory;
         }
         OfficeFault::File { path, refusal }
+    }
+
+    // The same of the folder of the copies.
+    pub(crate) fn of_copies(folder: &'a str, fault: CopiesFault) -> OfficeFault<'a> {
+        match fault {
+            CopiesFault::Memory => OfficeFault::Memory,
+            fault => OfficeFault::Copies { folder, fault },
+        }
     }
 }
 

@@ -72,10 +72,19 @@ pub fn serve<
     writer: &mut W,
 ) -> Result<(), OfficeFault<'a>> {
     let counters = open_counters(rt, alloc, serving, terminal)?;
+    let archivist = Archivist::open(rt, alloc, serving)?;
     let mut output = Output::new(alloc, writer)?;
     let device = open_device(rt, alloc, serving, plan.formatting, &mut output)?;
     let office = Unopened { device, counters };
-    serve_on(rt, alloc, serving, plan.stations, office, &mut output)
+    serve_on(
+        rt,
+        alloc,
+        serving,
+        plan.stations,
+        office,
+        archivist,
+        &mut output,
+    )
 }
 
 // What an office is opened on.
@@ -98,12 +107,12 @@ fn serve_on<
     serving: &Serving<'a>,
     stations: u64,
     office: Unopened<I, O>,
+    mut archivist: Archivist<'a, '_, R>,
     output: &mut Output<'_, W>,
 ) -> Result<(), OfficeFault<'a>> {
     if !are_threads_granted(rt, alloc, stations, office.counters.len())? {
         return Err(OfficeFault::Threads);
     }
-    let mut archivist = Archivist::open(rt, alloc, serving)?;
     let Unopened { device, counters } = office;
     let (device, _) = archivist.add(device)?;
     let opened = tell_opened(alloc, serving.path, device, stations, output)?;

@@ -7,6 +7,7 @@ use Rattle.program_ends.specs.declared.status.Status.TheVariants.{Refused, Faile
 use Rattle.console_engine.specs.Faults.{status_of_script}
 use Rattle.office_engine.specs.Faults as office
 use Rattle.archive_engine.specs.Faults as archive
+use Rattle.ledger_inspection.specs.Books as book
 use Rattle.program_front.specs.declared.faults.MigrationFault.TheVariants as migration
 use Rattle.program_front.specs.declared.faults.Fault.{Fault}
 use Rattle.program_front.specs.declared.faults.Fault.TheVariants as fault
@@ -22,6 +23,7 @@ status_of (fault.Migration migration.NotEmpty) = Refused
 status_of (fault.Office inner) = office.status_of inner
 status_of (fault.Control inner) = office.status_of_control inner
 status_of (fault.Archive inner) = archive.status_of inner
+status_of (fault.Book inner) = book.status_of inner
 
 -- and of a ledger that wasn't copied, that of its path or of the copying
 abbrev pub of_copy : CopyRefusal → Status

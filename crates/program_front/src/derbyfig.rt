@@ -16,7 +16,9 @@ use file_device::{FileDevice, Locking, Making, ReadOnlyFile};
 use ledger_file::{
     Formatting, LedgerRefusal, copy_ledger, format_ledger, migrate_ledger, open_for_script,
 };
-use ledger_inspection::{BookInspection, BookTask, Inspection, inspect_book, inspect_file};
+use ledger_inspection::{
+    BookInspection, BookTask, Inspection, check_archive, inspect_book, inspect_file,
+};
 use office_engine::{Runtime, Serving, Terminal, ask_standing, close_office, serve};
 use program_ends::{OUT_OF_MEMORY, Status, Watched, fail, tell_words, tell_wrong, unwritten};
 use script_streams::write_all;
@@ -210,9 +212,11 @@ impl<R: Files<File = File> + Alloc<A = Global> + Clock + Clone + Drop, W: Write>
         self.say(format_args!("archived {batches} from {first}"))
     }
 
-    // Makes a ledger that goes on where an archive ends.
+    // Makes a ledger that goes on where an archive ends, once all of the archive is found sound. Its newest file stays
+    // open meanwhile.
     fn restore<'a>(&mut self, copying: Copying<'a>) -> Result<(), Fault<'a>> {
         let newest = open_newest(self.rt, self.alloc, copying.old)?;
+        check_archive(self.rt, self.alloc, copying.old)?;
         self.copy(newest, copying)?;
         self.say(format_args!("restored {}", copying.formatting.slots))
     }

@@ -8,6 +8,7 @@ use console_engine::ScriptFault;
 use file_device::FileFault;
 use journal_recovery::{MigrateRefusal, OpenName, OpenRefusal};
 use ledger_file::{CopyRefusal, FormatRefusal, LedgerRefusal, PartFault};
+use ledger_inspection::BookFault;
 use office_engine::{ControlFault, OfficeFault};
 use program_ends::Status;
 use std::fmt;
@@ -72,6 +73,9 @@ pub enum Fault<'a> {
     /// An archive doesn't have all of a ledger.
     #[error("{0}")]
     Archive(#[from] ArchiveFault<'a>),
+    /// An archive isn't a sound book, so no ledger is made of it.
+    #[error("{0}")]
+    Book(#[from] BookFault<'a>),
 }
 
 impl<'a> Fault<'a> {
@@ -90,6 +94,7 @@ impl<'a> Fault<'a> {
             Fault::Office(fault) => fault.status(),
             Fault::Control(fault) => fault.status(),
             Fault::Archive(fault) => fault.status(),
+            Fault::Book(fault) => fault.status(),
             Fault::NoLedger { refusal, .. } => Status::from(refusal),
             Fault::Unread { .. } => Status::Failed,
         }

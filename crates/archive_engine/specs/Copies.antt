@@ -1,0 +1,38 @@
+-- What is told of a copy in a folder.
+use Rattle.std.specs.Prelude.{◌≡◌, ℕ}
+use Rattle.sector_device.specs.Image.{Image}
+use Rattle.file_device.specs.declared.refusal.FileFault.TheVariants as file
+use Rattle.file_device.specs.declared.refusal.DeviceRefusal.TheVariants as device
+use Rattle.journal_recovery.specs.State.{State}
+use Rattle.journal_recovery.specs.Recovery.{RecoversTo}
+use Rattle.journal_recovery.specs.declared.refusals.OpenRefusal.TheVariants as opening
+use Rattle.journal_recovery.specs.declared.migration.MigrateRefusal.TheVariants as copying
+use Rattle.ledger_file.specs.declared.refusal.LedgerRefusal.TheVariants as ledger
+use Rattle.ledger_file.specs.declared.refusal.CopyRefusal.{CopyRefusal}
+use Rattle.ledger_file.specs.declared.refusal.CopyRefusal.TheVariants.{Target, Copy}
+use Rattle.program_ends.specs.declared.status.Status.{Status}
+use Rattle.program_ends.specs.declared.status.Status.TheVariants.{Refused, Failed}
+use Rattle.archive_engine.specs.declared.copying.CopiesFault.{CopiesFault}
+use Rattle.archive_engine.specs.declared.copying.CopiesFault.TheVariants as copies
+use Rattle.archive_engine.specs.declared.copying.FolderCopyRefusal.{FolderCopyRefusal}
+use Rattle.archive_engine.specs.declared.copying.FolderCopyRefusal.TheVariants.{Memory, Ledger, Unwritten}
+
+-- that there is no memory, that the ledger isn't read, and else that the file isn't written
+abbrev pub refusal_of : CopyRefusal → FolderCopyRefusal
+refusal_of (Target (ledger.Device (device.File file.Memory))) = Memory
+refusal_of (Copy (copying.Source opening.Memory)) = Memory
+refusal_of (Copy (copying.Source refusal)) = Ledger refusal
+refusal_of _ = Unwritten
+
+-- a read of the ledger failed
+abbrev pub IsReadFault : FolderCopyRefusal → Type 0
+IsReadFault refusal = refusal ≡ Ledger opening.Device
+
+-- the number is that of the next batch of the ledger in the image
+abbrev pub IsNumberOf : ℕ → Image → Type 0
+IsNumberOf number image = (held : State) × RecoversTo held image × (number ≡ held.next)
+
+-- that the archive's folder is no folder of copies is a rule; else something failed
+abbrev pub status_of : CopiesFault → Status
+status_of copies.Archive = Refused
+status_of _ = Failed

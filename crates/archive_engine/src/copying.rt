@@ -1,0 +1,232 @@
+//! Copies of a ledger in a folder, each named by a number.
+ghost use Rattle.std.specs.Prelude.{◌≡◌, ◌↔◌, IfOk, IfErr, IsErrAnd};
+ghost use Rattle.sector_device.specs.Device.{AreCalls};
+ghost use Rattle.sector_device.specs.Crash.{LooksOnly};
+ghost use Rattle.archive_engine.specs.Copies.{IsReadFault, IsNumberOf, refusal_of, status_of};
+
+use crate::faults::{ArchiveFault, FolderFault};
+use crate::folder::{Folder, are_one_folder};
+use file_device::{DeviceRefusal, FileFault};
+use journal_recovery::{MigrateRefusal, OpenRefusal, Recovered, recover};
+use ledger_file::{CopyRefusal, Formatting, LedgerRefusal, copy_ledger};
+use program_ends::Status;
+use sector_device::Device;
+use std::alloc::{AllocError, Global};
+use std::fs;
+use std::fs::{File, Files};
+use std::num::NonZeroU64;
+use thiserror::Error;
+
+/// Why no copies can be made in a folder.
+#[derive(Clone, Copy, Debug, PartialEq, Eq, Error)]
+pub enum CopiesFault {
+    /// There is no memory.
+    #[error("out of memory")]
+    Memory,
+    /// It is the archive's folder too, where a copy would be taken for a file of the archive.
+    #[error("it is the archive's folder; the copies need another one")]
+    Archive,
+    /// There is none.
+    #[error("there is no such folder; make it first")]
+    Missing,
+    /// Something else is there.
+    #[error("it is no folder")]
+    NoFolder,
+    /// Another office makes its copies in it, or another program adds to an archive in it.
+    #[error("another program adds to this folder; end that one first, or take another folder")]
+    InUse,
+    /// No file can be made in it.
+    #[error("no file can be made in it")]
+    Unwritable,
+}
+
+/// Why there is no copy in a folder.
+#[derive(Clone, Copy, Debug, PartialEq, Eq)]
+pub enum FolderCopyRefusal {
+    /// There is no memory.
+    Memory,
+    /// The ledger can't be read, or isn't sound.
+    Ledger(OpenRefusal),
+    /// Something has the copy's name, and stays as it is.
+    Occupied,
+    /// The file can't be made, written, or given its name. Nothing of it is left, unless the system fails to take it
+    /// away.
+    Unwritten,
+}
+
+/// Opens and locks the folder of an office's copies, and finds out whether a file can be made in it. What a copy left
+/// there that wasn't finished is removed. The folder of the office's archive is refused, by whatever path.
+///
+/// # Errors
+/// [`CopiesFault`], the first that holds.
+pub fn open_copies<'a, R: Files<File = File>>(
+    rt: &R,
+    alloc: Global,
+    path: &'a str,
+    archive: Option<&str>,
+) -> Result<Folder<'a>, CopiesFault> {
+    if let Some(archive) = archive {
+        if are_one_folder(rt, archive, path) {
+            return Err(CopiesFault::Archive);
+        }
+    }
+    let folder = match Folder::open(rt, path) {
+        Ok(folder) => folder,
+        Err(fault) => return Err(CopiesFault::of(fault)),
+    };
+    let Ok(unfinished) = folder.unfinished(alloc) else {
+        return Err(CopiesFault::Memory);
+    };
+    if folder.can_be_written(rt, unfinished.as_str()) {
+        Ok(folder)
+    } else {
+        Err(CopiesFault::Unwritable)
+    }
+}
+
+impl CopiesFault {
+    /// The status that the program ends with.
+    pub fn status(self) -> Status
+        ensures { result ≡ status_of self }
+    {
+        match self {
+            CopiesFault::Archive => Status::Refused,
+            CopiesFault::Memory
+            | CopiesFault::Missing
+            | CopiesFault::NoFolder
+            | CopiesFault::InUse
+            | CopiesFault::Unwritable => Status::Failed,
+        }
+    }
+
+    // Why the folder can't be opened.
+    fn of(fault: ArchiveFault<'_>) -> CopiesFault {
+        match fault {
+            ArchiveFault::Memory => CopiesFault::Memory,
+            ArchiveFault::Folder {
+                fault: FolderFault::Missing,
+                ..
+            } => CopiesFault::Missing,
+            ArchiveFault::Folder {
+                fault: FolderFault::NoFolder,
+                ..
+            } => CopiesFault::NoFolder,
+            ArchiveFault::Folder {
+                fault: FolderFault::InUse,
+                ..
+            } => CopiesFault::InUse,
+            _ => CopiesFault::Unwritable,
+        }
+    }
+}
+
+/// Copies the ledger on a device into a folder, with as many slots, under the number of its next batch in twenty
+/// digits. The copy is made under the name `unfinished`, synced, given its own, and then the folder is synced: whatever
+/// ends this early, nothing stands under a copy's name but a whole one. The device is only read, and handed back.
+///
+/// # Errors
+/// [`FolderCopyRefusal`], the first that holds.
+pub fn copy_to_folder<D: Device, R: Files<File = File>>(
+    rt: &R,
+    alloc: Global,
+    device: D,
+    folder: &Folder<'_>,
+) -> (D, Result<u64, FolderCopyRefusal>)
+    ensures call { AreCalls (D.state device) (D.state result.0) (IsErrAnd result.1 IsReadFault) }
+
+    // On an honest device.
+    ensures looks { LooksOnly (D.state device) (D.state result.0) }
+    ensures number { (D.state device).honest
+        → IfOk result.1 (λ number. IsNumberOf number (D.state device).reads) }
+{
+    let Recovered { journal, .. } = match recover(alloc, device) {
+        Ok(found) => found,
+        Err((device, OpenRefusal::Memory)) => return (device, Err(FolderCopyRefusal::Memory)),
+        Err((device, refusal)) => return (device, Err(FolderCopyRefusal::Ledger(refusal))),
+    };
+    let (number, slots) = (journal.next(), journal.slots());
+    let device = journal.into_device();
+    let (device, copied) = copy_as(rt, alloc, device, folder, number, slots);
+    match copied {
+        Ok(()) => (device, Ok(number)),
+        Err(refusal) => (device, Err(refusal)),
+    }
+}
+
+// Copies the ledger under that number.
+fn copy_as<D: Device, R: Files<File = File>>(
+    rt: &R,
+    alloc: Global,
+    device: D,
+    folder: &Folder<'_>,
+    number: u64,
+    slots: u64,
+) -> (D, Result<(), FolderCopyRefusal>)
+    ensures call { AreCalls (D.state device) (D.state result.0) (IsErrAnd result.1 IsReadFault) }
+    ensures looks { LooksOnly (D.state device) (D.state result.0) }
+{
+    let Ok(unfinished) = folder.unfinished(alloc) else {
+        return (device, Err(FolderCopyRefusal::Memory));
+    };
+    let volume = folder.volume(number);
+    let Ok(own) = format!(in alloc; "{volume}") else {
+        return (device, Err(FolderCopyRefusal::Memory));
+    };
+    if let Err(refusal) = make_way(rt, folder, unfinished.as_str(), own.as_str()) {
+        return (device, Err(refusal));
+    }
+    let formatting = Formatting {
+        slots: NonZeroU64::new(slots).unwrap_or(NonZeroU64::MIN),
+        sectors: 0,
+        overwrite: false,
+    };
+    let (device, copied) = copy_ledger(rt, alloc, device, unfinished.as_str(), formatting);
+    let placed = match copied {
+        Ok(_) => folder.put_in_place(rt, unfinished.as_str(), own.as_str()),
+        Err(refusal) => return (device, Err(refusal_of(refusal))),
+    };
+    match placed {
+        Ok(()) => (device, Ok(())),
+        Err(_) => {
+            folder.take_away(rt, unfinished.as_str());
+            (device, Err(FolderCopyRefusal::Unwritten))
+        }
+    }
+}
+
+// Finds out that nothing has the copy's name, and removes what an earlier one left that wasn't finished.
+fn make_way<R: Files<File = File>>(
+    rt: &R,
+    folder: &Folder<'_>,
+    unfinished: &str,
+    own: &str,
+) -> Result<(), FolderCopyRefusal>
+    ensures { IfErr result (λ refusal. IsReadFault refusal → ⊥) }
+{
+    if fs::symlink_metadata(rt, own).is_ok() {
+        return Err(FolderCopyRefusal::Occupied);
+    }
+    match folder.clear(rt, unfinished) {
+        Ok(()) => Ok(()),
+        Err(_) => Err(FolderCopyRefusal::Unwritten),
+    }
+}
+
+// Why the ledger wasn't copied.
+fn refusal_of(refusal: CopyRefusal) -> FolderCopyRefusal
+    ensures told { result ≡ refusal_of refusal }
+    ensures read { IsReadFault result
+        ↔ (refusal ≡ CopyRefusal.Copy (MigrateRefusal.Source OpenRefusal.Device)) }
+{
+    match refusal {
+        CopyRefusal::Target(LedgerRefusal::Device(DeviceRefusal::File(FileFault::Memory)))
+        | CopyRefusal::Copy(MigrateRefusal::Source(OpenRefusal::Memory)) => {
+            FolderCopyRefusal::Memory
+        }
+        CopyRefusal::Copy(MigrateRefusal::Source(refusal)) => FolderCopyRefusal::Ledger(refusal),
+        CopyRefusal::Target(_)
+        | CopyRefusal::Copy(
+            MigrateRefusal::TooManySlots | MigrateRefusal::TooSmall | MigrateRefusal::Target,
+        ) => FolderCopyRefusal::Unwritten,
+    }
+}
