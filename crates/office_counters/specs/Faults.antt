@@ -1,0 +1,11 @@
+-- What is wrong with the counters of a ledger.
+use Rattle.std.specs.Prelude.{Bool, true, false}
+use Rattle.office_counters.specs.declared.refusal.RosterFault.{RosterFault}
+use Rattle.office_counters.specs.declared.refusal.RosterFault.TheVariants.{Memory, Unread, Unwritten}
+
+-- a rule refuses it, unless memory, a read or a write failed
+abbrev pub is_refusal : RosterFault → Bool
+is_refusal Memory = false
+is_refusal Unread = false
+is_refusal Unwritten = false
+is_refusal _ = true

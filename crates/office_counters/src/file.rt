@@ -1,0 +1,170 @@
+//! The files of rosters.
+use crate::place::RosterPath;
+use crate::refusal::{CountersFault, RosterFault};
+use crate::roster::{Left, Roster};
+use std::alloc::Global;
+use std::fs::{File, Files};
+use std::io::{ErrorKind, Read, Write};
+use std::{fs, io};
+
+/// No roster has a longer file.
+const LONGEST_FILE: u64 = 16_384;
+
+/// The roster that is kept there, if there is one.
+///
+/// # Errors
+/// [`CountersFault`].
+pub fn read_roster<'a, R: Files<File = File>>(
+    rt: &R,
+    alloc: Global,
+    place: RosterPath<'a>,
+) -> Result<Option<Roster>, CountersFault<'a>> {
+    match kept_text(rt, alloc, place) {
+        Ok(None) => Ok(None),
+        Ok(Some(text)) => match Roster::parse(alloc, text.as_str()) {
+            Ok(roster) => Ok(Some(roster)),
+            Err(cause) => Err(CountersFault { place, cause }),
+        },
+        Err(cause) => Err(CountersFault { place, cause }),
+    }
+}
+
+fn kept_text<R: Files<File = File>>(
+    rt: &R,
+    alloc: Global,
+    place: RosterPath<'_>,
+) -> Result<Option<String>, RosterFault> {
+    let path = format!(in alloc; "{place}")?;
+    let file = match File::open(rt, path.as_str()) {
+        Ok(file) => file,
+        Err(error) if error.kind() == ErrorKind::NotFound => return Ok(None),
+        Err(_) => return Err(RosterFault::Unread),
+    };
+    let mut text = String::new(alloc);
+    match file.take(LONGEST_FILE).read_to_string(&mut text) {
+        Ok(_) => Ok(Some(text)),
+        Err(error) if error.kind() == ErrorKind::OutOfMemory => Err(RosterFault::Memory),
+        Err(_) => Err(RosterFault::Unread),
+    }
+}
+
+/// Keeps a roster there: after any crash it is this one that is kept, or the one before.
+///
+/// # Errors
+/// [`CountersFault`].
+pub fn write_roster<'a, R: Files<File = File>>(
+    rt: &R,
+    alloc: Global,
+    place: RosterPath<'a>,
+    roster: &Roster,
+) -> Result<(), CountersFault<'a>> {
+    match put(rt, alloc, place, roster) {
+        Ok(()) => Ok(()),
+        Err(cause) => Err(CountersFault { place, cause }),
+    }
+}
+
+fn put<R: Files<File = File>>(
+    rt: &R,
+    alloc: Global,
+    place: RosterPath<'_>,
+    roster: &Roster,
+) -> Result<(), RosterFault> {
+    let text = format!(in alloc; "{roster}")?;
+    let path = format!(in alloc; "{place}")?;
+    let unfinished = format!(in alloc; "{place}.new")?;
+    put_in_place(rt, unfinished.as_str(), path.as_str(), text.as_bytes()).or(Err(
+        RosterFault::Unwritten,
+    ))
+}
+
+// Writes what is to stand at a path under another name first, all durably.
+fn put_in_place<R: Files<File = File>>(
+    rt: &R,
+    unfinished: &str,
+    path: &str,
+    bytes: &[u8],
+) -> io::Result<()> {
+    let mut file = File::create(rt, unfinished)?;
+    file.write_all(bytes)?;
+    file.sync_all()?;
+    fs::rename(rt, unfinished, path)?;
+    sync_folder(rt, path)
+}
+
+/// Keeps no roster there any more, durably.
+///
+/// # Errors
+/// [`CountersFault`].
+pub fn remove_roster<'a, R: Files<File = File>>(
+    rt: &R,
+    alloc: Global,
+    place: RosterPath<'a>,
+) -> Result<(), CountersFault<'a>> {
+    match remove(rt, alloc, place) {
+        Ok(()) => Ok(()),
+        Err(cause) => Err(CountersFault { place, cause }),
+    }
+}
+
+fn remove<R: Files<File = File>>(
+    rt: &R,
+    alloc: Global,
+    place: RosterPath<'_>,
+) -> Result<(), RosterFault> {
+    let path = format!(in alloc; "{place}")?;
+    match fs::remove_file(rt, path.as_str()) {
+        Ok(()) => sync_folder(rt, path.as_str()).or(Err(RosterFault::Unwritten)),
+        Err(error) if error.kind() == ErrorKind::NotFound => Ok(()),
+        Err(_) => Err(RosterFault::Unwritten),
+    }
+}
+
+/// A copy of a ledger has the same counters: what is kept at the first place is kept at the second one too, and nothing
+/// if nothing is.
+///
+/// # Errors
+/// [`CountersFault`].
+pub fn take_along<'a, R: Files<File = File>>(
+    rt: &R,
+    alloc: Global,
+    from: RosterPath<'a>,
+    to: RosterPath<'a>,
+) -> Result<(), CountersFault<'a>> {
+    match read_roster(rt, alloc, from)? {
+        Some(roster) => write_roster(rt, alloc, to, &roster),
+        None => remove_roster(rt, alloc, to),
+    }
+}
+
+/// A script may post to the ledger from now on, which is noted if it has counters.
+///
+/// # Errors
+/// [`CountersFault`].
+pub fn note_script<'a, R: Files<File = File>>(
+    rt: &R,
+    alloc: Global,
+    place: RosterPath<'a>,
+) -> Result<(), CountersFault<'a>> {
+    match read_roster(rt, alloc, place)? {
+        Some(mut roster) => {
+            roster.leave(Left::Script);
+            write_roster(rt, alloc, place, &roster)
+        }
+        None => Ok(()),
+    }
+}
+
+// Makes the names in the folder of a path durable.
+fn sync_folder<R: Files<File = File>>(rt: &R, path: &str) -> io::Result<()> {
+    File::open(rt, folder_of(path))?.sync_all()
+}
+
+// The folder of a path.
+fn folder_of(path: &str) -> &str {
+    match path.rsplit_once('/') {
+        Some(("", _)) => "/",
+        Some((folder, _)) => folder,
+        None => ".",
+    }
+}
