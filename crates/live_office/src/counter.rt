@@ -28,9 +28,13 @@ pub enum Kind {
     Terminal,
 }
 
-/// A client of the office, that of the station at its place.
+/// A client of the office, and the station that is its own.
 #[derive(Drop)]
 pub struct Counter<I: Read, O: Write> {
+    /// Below the number of stations; no two counters have the same.
+    pub station: u8,
+    /// From the batch of this number on only offices posted: what stands before it is no counter's.
+    pub since: u64,
     /// What it says.
     pub input: I,
     /// What it is told.
@@ -55,7 +59,7 @@ impl From<AllocError> for Unserved {
     }
 }
 
-/// Starts the threads of a counter, and begins its session at the station of that number.
+/// Starts the threads of a counter, and begins its session at its station.
 pub(crate) fn begin_session<
     R: Threads + Wait + Send + Clone + Drop + 'static,
     I: Read + Send + Drop + 'static,
@@ -63,16 +67,19 @@ pub(crate) fn begin_session<
 >(
     rt: &R,
     alloc: Global,
-    station: u8,
     counter: Counter<I, O>,
     feed: Feed,
     scheduler: &Arc<Scheduler>,
 ) -> Result<Session, Unserved>
     requires nothing_asked { feed.asked ≡ [] }
     requires nothing_collected { feed.collected ≡ [] }
-    ensures { IfOk result (λ session. session.postings.feed ≡ feed) }
+    ensures feed { IfOk result (λ session. session.postings.feed ≡ feed) }
+    ensures station { IfOk result (λ session. session.station ≡ counter.station) }
+    ensures since { IfOk result (λ session. session.first ≡ counter.since) }
 {
     let Counter {
+        station,
+        since,
         input,
         output,
         kind,
@@ -92,6 +99,7 @@ pub(crate) fn begin_session<
     let (recent, closes_at_end) = (Recent::new(alloc)?, kind == Kind::Terminal);
     Ok(Session::new(
         station,
+        since,
         messages,
         responses,
         feed,
@@ -112,13 +120,14 @@ pub(crate) fn empty_session(alloc: Global, station: u8, feed: Feed) -> Result<Se
     requires nothing_asked { feed.asked ≡ [] }
     requires nothing_collected { feed.collected ≡ [] }
     ensures feed { IfOk result (λ session. session.postings.feed ≡ feed) }
+    ensures station { IfOk result (λ session. session.station ≡ station) }
     ensures nobody { IfOk result (λ session. producer_capacity session.responses ≡ 0) }
 {
     let (_, messages) = RingBuffer::new(alloc, 0)?;
     let (responses, _) = RingBuffer::new(alloc, 0)?;
     let wakers = new_wakers(alloc)?;
     let recent = Recent::new(alloc)?;
-    Ok(Session::new(station, messages, responses, feed, wakers, recent, false))
+    Ok(Session::new(station, 0, messages, responses, feed, wakers, recent, false))
 }
 
 // Starts the thread that reads; nobody waits for its end.

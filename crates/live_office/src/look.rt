@@ -145,13 +145,14 @@ impl Look {
     }
 }
 
-/// The posting of a station with the greatest reference in the records in sight of a clerk; None if they can't be read.
-pub fn last_posting<D: Device>(clerk: &mut Clerk<D>, station: u8) -> Option<Seen>
+/// The posting of a station with the greatest reference in the records in sight of a clerk, from the one of that number
+/// on; None if they can't be read.
+pub fn last_posting<D: Device>(clerk: &mut Clerk<D>, station: u8, first: u64) -> Option<Seen>
     ensures kept { clerk.new ≡ after_looks clerk.old clerk.new.journal.device }
     ensures looks { LooksOnly (D.state clerk.old.journal.device) (D.state clerk.new.journal.device) }
     ensures above { IfSome result (λ seen. IfSome seen.posting (λ last. 0 < reference_of last.entry)) }
 {
-    let mut look = Look::starting_at(0);
+    let mut look = Look::starting_at(first);
     for _ in 0..MOST_STEPS {
         if let Some(seen) = look.step(clerk, station, u64::MAX) {
             return seen.ok();

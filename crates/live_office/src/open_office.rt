@@ -77,7 +77,7 @@ impl From<Unserved> for LiveRefusal {
     }
 }
 
-/// Keeps an office open on the device, with this line, for these counters, that of station 0 first: each may come and
+/// Keeps an office open on the device, with this line, for these counters, each at its station: each may come and
 /// go, say its requests, and is told the answers. Stations without a counter take turns that are empty. After `moves`
 /// turns the office is closed and opened again, which no counter notices. It ends once a counter asks for that, and all
 /// that was submitted is answered; where the input of a terminal ends; and where a station is refused its turns, as by

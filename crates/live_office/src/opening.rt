@@ -1,5 +1,5 @@
 //! How an office opens for its counters: their sessions, and the thread that attends to them.
-ghost use Rattle.std.specs.Prelude.{◌≡◌, [], ◌∷◌, ◌++◌, length, map, All, IfOk, OnOk};
+ghost use Rattle.std.specs.Prelude.{◌≡◌, [], ◌∷◌, ◌++◌, length, map, All, IfOk, IfSome, OnOk};
 ghost use Rattle.std.specs.List.{AllZip};
 ghost use Rattle.station_desk.specs.Rings.{AreTogether};
 ghost use Rattle.office_day.specs.HandedIn.{IsFresh};
@@ -114,13 +114,27 @@ fn seat_all<
     ensures as_many { IfOk result (λ all. length all.desks.items ≡ stations) }
 {
     let mut all = Attended::new(alloc, stations as usize)?;
-    let mut waiting = counters.into_iter();
+    let mut waiting = counters;
     for station in 0..stations {
         let (feed, desk) = desk(alloc, CAPACITY)?;
-        let session = session_at(rt, alloc, station, waiting.next(), feed, scheduler)?;
+        let counter = counter_of(station, &mut waiting);
+        let session = session_at(rt, alloc, station, counter, feed, scheduler)?;
         all.add(session, desk)?;
     }
     Ok(all)
+}
+
+// Takes out the counter of a station, if it has one.
+fn counter_of<I: Read, O: Write>(
+    station: u8,
+    waiting: &mut Vec<Counter<I, O>>,
+) -> Option<Counter<I, O>>
+    ensures { IfSome result (λ counter. counter.station ≡ station) }
+{
+    let place = waiting
+        .iter()
+        .position(|counter| counter.station == station)?;
+    Some(waiting.swap_remove(place))
 }
 
 // The session of a station, with its counter where it has one.
@@ -138,10 +152,12 @@ fn session_at<
 ) -> Result<Session, Unserved>
     requires nothing_asked { feed.asked ≡ [] }
     requires nothing_collected { feed.collected ≡ [] }
-    ensures { IfOk result (λ session. session.postings.feed ≡ feed) }
+    requires own { IfSome counter (λ its. its.station ≡ station) }
+    ensures feed { IfOk result (λ session. session.postings.feed ≡ feed) }
+    ensures station { IfOk result (λ session. session.station ≡ station) }
 {
     match counter {
-        Some(counter) => begin_session(rt, alloc, station, counter, feed, scheduler),
+        Some(counter) => begin_session(rt, alloc, counter, feed, scheduler),
         None => match empty_session(alloc, station, feed) {
             Ok(session) => Ok(session),
             Err(AllocError) => Err(Unserved::Memory),

@@ -47,6 +47,8 @@ enum Earlier {
 #[derive(Drop)]
 pub(crate) struct Session {
     station: u8,
+    // The number of the batch from which on only offices posted.
+    first: u64,
     messages: Consumer<Message>,
     responses: Producer<Response>,
     pub(crate) postings: Postings,
@@ -74,6 +76,7 @@ impl Session {
     /// A counter that has said nothing yet.
     pub(crate) fn new(
         station: u8,
+        first: u64,
         messages: Consumer<Message>,
         responses: Producer<Response>,
         feed: Feed,
@@ -87,9 +90,13 @@ impl Session {
         requires nothing_collected { feed.collected ≡ [] }
         ensures feed { result.postings.feed ≡ feed }
         ensures room { result.responses ≡ responses }
+        ensures station { result.station ≡ station }
+        ensures first { result.first ≡ first }
+        ensures look { result.look ≡ record { from = first; since = first; posting = None } }
     {
         Session {
             station,
+            first,
             messages,
             responses,
             postings: Postings::new(feed),
@@ -99,7 +106,7 @@ impl Session {
             next: None,
             is_asked: false,
             search: Search::BEGINNING,
-            look: Look::starting_at(0),
+            look: Look::starting_at(first),
             out_of_sight: None,
             recent,
             is_told_closing: false,

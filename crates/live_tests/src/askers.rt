@@ -104,6 +104,7 @@ impl Write for Told {
 // A counter that says these lines, and is told by a pipe; what it is told first lies there until the other one was told
 // so many lines.
 fn counter_of(
+    station: u8,
     (lines, awaited): (&'static [Line], u64),
     pipe: PipeWriter,
     told: &Arc<AtomicU64>,
@@ -121,6 +122,8 @@ fn counter_of(
         other_told: Arc::try_clone(other_told)?,
     };
     Ok(Counter {
+        station,
+        since: 0,
         input,
         output,
         kind: Kind::Pipes,
@@ -150,8 +153,8 @@ fn both_asked<R: Abort + Files + Threads + Wait + Clock + Sync + Send + Clone + 
     let told = Arc::new(alloc, AtomicU64::new(0))?;
     let other_told = Arc::new(alloc, AtomicU64::new(0))?;
     let counters = vec![in alloc;
-        counter_of((lines, awaited), first_pipe, &told, &other_told)?,
-        counter_of((others, 0), second_pipe, &other_told, &told)?,
+        counter_of(0, (lines, awaited), first_pipe, &told, &other_told)?,
+        counter_of(1, (others, 0), second_pipe, &other_told, &told)?,
     ]?;
     let keeper = Sample { copies: 0 };
     let line = line([0, 0], [1, 0])?;

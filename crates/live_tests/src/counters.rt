@@ -140,8 +140,24 @@ pub(crate) fn kept<
     (line, moves): (Line, u64),
     input: I,
 ) -> Result<Option<(PipeReader, Closed<Faulty>)>, Fail> {
+    kept_since(rt, alloc, device, (line, moves, 0), input)
+}
+
+/// The same of a counter that takes no posting before the batch of that number for its own.
+pub(crate) fn kept_since<
+    R: Files + Threads + Wait + Clock + Sync + Send + Clone + Drop + 'static,
+    I: Read + Send + Drop + 'static,
+>(
+    rt: &R,
+    alloc: Global,
+    device: Faulty,
+    (line, moves, since): (Line, u64, u64),
+    input: I,
+) -> Result<Option<(PipeReader, Closed<Faulty>)>, Fail> {
     let (answers, output) = io::pipe(rt)?;
     let counter = Counter {
+        station: 0,
+        since,
         input,
         output,
         kind: Kind::Pipes,

@@ -1,5 +1,5 @@
 //! Which references a counter may use.
-use crate::counters::{are_told, kept};
+use crate::counters::{are_told, kept, kept_since};
 use fault_injector::{OneFault, Op};
 use std::test::Fail;
 use test_scenes::{formatted, line};
@@ -51,3 +51,28 @@ fn a_reference_too_far_above_the_last_is_refused(rt: HostRuntime) -> Result<(), 
     assert!(rt; closed.clerk.ledger().balance(1) == Some(4));
     Ok(())
 }
+
+// What stands before the batch from which on only offices posted isn't taken for the counter's.
+#[test]
+fn what_no_office_posted_is_no_counters(rt: HostRuntime) -> Result<(), Fail> {
+    let alloc = rt.alloc();
+    let mut device = OneFault::new(formatted(alloc, 4)?, Op::Read, u64::MAX);
+    let line = line([0, 0], [1, 0])?;
+    for (since, said, told) in OPENINGS {
+        let office = kept_since(&rt, alloc, device, (line, 1_000, *since), *said)?;
+        let (mut answers, closed) = office.ok_or("an office")?;
+        assert!(rt; are_told(&mut answers, told)?);
+        device = closed.clerk.into_device();
+    }
+    Ok(())
+}
+
+const OPENINGS: &[(u64, &[u8], &[u8])] = &[
+    (0, b"deposit 1 5 71\nclose\n", b"posted 0 71\nclosing\n"),
+    (0, b"deposit 1 5 71\nclose\n", b"posted 0 71\nclosing\n"),
+    (
+        1,
+        b"deposit 1 5 71\nlast\nfirst 71\ndeposit 1 5 71\nclose\n",
+        b"refused Unknown since 1 71\nlast unknown since 1\nfirst 71\nposted 1 71\nclosing\n",
+    ),
+];

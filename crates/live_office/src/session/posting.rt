@@ -152,7 +152,7 @@ impl Session {
         };
         let seen = self.look.go_on(step);
         if seen.is_some() {
-            self.look = Look::starting_at(0);
+            self.look = Look::starting_at(self.first);
             return seen;
         }
         let question = self.look.question(limit);

@@ -14,7 +14,7 @@ loop-station-preserved g c =
     let session = c.in_ok-session.session in
     let desk = c.in_ok-feed.desk in
     let feed_of : Session → FeedState = λ s. s.postings.feed in
-    let own : session.postings.feed ≡ c.in_ok-feed.feed = c.in_ok-session.ensures in
+    let own : session.postings.feed ≡ c.in_ok-feed.feed = c.in_ok-session.ensures.feed in
     let feeds : map feed_of c.add.new.self.sessions.items ≡ map feed_of at.all.sessions.items ++ session.postings.feed ∷ [] =
     ap (map feed_of) c.in_ok-add.ensures.sessions ∙ map-append feed_of at.all.sessions.items (session ∷ []) in
     let desks : c.add.new.self.desks.items ≡ at.all.desks.items ++ desk ∷ [] = c.in_ok-add.ensures.desks in
