@@ -53,7 +53,8 @@ def a_book(shelf):
     statement = [row for row in ledger.rows if "34" in (row[3], row[4])]
     batches = {row[0] for row in statement}
     wanted = [row for row in ledger.rows if row[0] in batches]
-    require_same(shelf.rows(books, ledger.path, "--account", "34"), wanted, "the statement of an account")
+    require_same(shelf.rows(books, ledger.path, "--account", "34"), statement, "the statement of an account")
+    require_same(shelf.rows(books, ledger.path, "--account", "34", "--whole"), wanted, "its batches")
     require_same(len(statement) > 1, True, "an account with postings")
 
 
