@@ -32,7 +32,7 @@ def rate(folder, slots, is_kept):
     with Office(folder, COUNTERS, slots, *(("--archive", books) if is_kept else ())) as office:
         answered, _, taken, *_ = talk(folder, office, UNDER_WAY, POSTINGS)
         office.close()
-    return answered / taken, len(list(books.iterdir()))
+    return answered / taken, sum(path.name.isdigit() for path in books.iterdir())
 
 
 def print_offices(folder, rounds):
@@ -86,7 +86,7 @@ def listed(words):
 def print_book(folder, rounds, batches):
     book = make_book(folder, batches)
     path, count = make_table(folder, book)
-    files = len(list(book.iterdir()))
+    files = sum(path.name.isdigit() for path in book.iterdir())
     print(f"\nA book of {batches:,} batches of one posting, in {files} files, listed as {count:,} rows of CSV:\n")
     runs = {
         "`derbyfig journal --as csv`": [folder / "office", "journal", book, "--as", "csv"],

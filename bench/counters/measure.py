@@ -43,7 +43,7 @@ class Office:
                 if not (counter / name).exists():
                     os.mkfifo(counter / name)
         said = [word for counter in self.counters for word in ("--counter", counter)]
-        words = ["serve", self.file, "--format", str(slots), "--sectors", str(sectors(slots))]
+        words = ["serve", self.file, "--format", str(slots), "--sectors", str(sectors(slots)), "--no-hello"]
         self.run = subprocess.Popen([folder / "office", *words, *said, *more], stdout=subprocess.PIPE, stdin=subprocess.DEVNULL)
 
     def __enter__(self):

@@ -52,8 +52,8 @@ class Programs:
         return self.run(self.derbyfig, "run", str(path), *words, said=script)
 
     def open_office(self, path, *words, said="close\n", **more):
-        """An office with a terminal that closes it."""
-        return self.run(self.derbyfig, "serve", str(path), "--terminal", *words, said=said, **more)
+        """An office with a terminal that closes it, whoever posted to the ledger before."""
+        return self.run(self.derbyfig, "serve", str(path), "--terminal", "--counters-anew", *words, said=said, **more)
 
     def check(self, path, **more):
         return self.run(self.derbyfig, "check", str(path), **more)

@@ -23,7 +23,7 @@ def folder_of(case):
 
 def archived(case, books):
     """The entries of all files of an archive, in order."""
-    return [row for file in sorted(books.iterdir()) if file.name != "unfinished" for row in case.rows(file)]
+    return [row for file in sorted(books.iterdir()) if file.name.isdigit() for row in case.rows(file)]
 
 
 def require_whole(rows):
@@ -86,6 +86,11 @@ def without_an_archive(case):
         require(not any(line.startswith("archived") for line in office.printed()), f"it prints {office.printed()}")
 
 
+def counters_of(ledger):
+    """The file of a ledger's counters."""
+    return ledger.with_name(f"{ledger.name}.counters")
+
+
 def makes_copies(case):
     """A copy has all that was told before it, and the slots of the ledger, under the number of its next batch. A file that is
     there keeps its bytes, and the office goes on."""
@@ -100,7 +105,7 @@ def makes_copies(case):
             require_same(one.ask(f"deposit {number + 1} 5"), [f"posted {number} 0"], "a posting")
         other.say(b"deposit 1 1\ncopy\nbalance 1\n")
         require_same(other.hear(3), ["posted 20 0", "copied 21", "balance 1 6"], "the answers in order")
-        copied = first.read_bytes()
+        copied, seats = first.read_bytes(), counters_of(first).read_bytes()
         require_same(one.ask("copy"), ["refused Occupied"], "where nothing was posted since")
         require_same(one.ask("deposit 2 1"), ["posted 21 0"], "a posting behind the copy")
         require_same(one.ask("copy"), ["refused Occupied"], "where something else is")
@@ -112,6 +117,7 @@ def makes_copies(case):
         office.closed()
     first.parent.mkdir()
     first.write_bytes(copied)
+    counters_of(first).write_bytes(seats)
     held = case.listed("balances", first)
     require_same([row[:2] for row in held[:2]] + [held[-1][:2]], [["1", "6"], ["2", "5"], ["total", "101"]], "what the copy holds")
     with case.run(str(first), "--counter", str(one.folder), kept_as="second") as office:

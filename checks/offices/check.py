@@ -11,6 +11,7 @@ import archives
 import coming
 import folders
 import kills
+import names
 import order
 import refusals
 import retries
@@ -57,6 +58,14 @@ CASES = (
     retries.unknown_at_most,
     retries.out_of_sight,
     retries.in_the_archive,
+    names.in_any_order,
+    names.refused_names,
+    names.anew,
+    names.only_what_offices_posted,
+    names.killed_before_a_script,
+    names.an_older_ledger,
+    names.taken_along,
+    names.loses_its_name,
 )
 
 

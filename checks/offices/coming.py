@@ -132,7 +132,7 @@ def closed_from_outside(case):
         require_same((told[0], told[1].split()[0], told[2:]), ("posted 1 2", "wrong", ["hello 0", "closing"]), "what its counter is told")
     require_same(case.close(other), (1, "", none), "closing one that has ended")
     (other.folder / "in").unlink()
-    missing = f"{other.folder}/in: it can't be opened\n"
+    missing = f"{other.folder}/in: it isn't there; mkfifo makes it\n"
     require_same(case.close(other, "--seconds", "1"), (3, "", missing), "closing at no counter")
     require_same([row.reference for row in case.rows()], [1, 2], "the references in the file")
 

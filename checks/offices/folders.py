@@ -59,6 +59,11 @@ def in_folders_that_cant_be_used(case):
         close(office, client)
 
 
+def ledgers(copies):
+    """The names in a folder, but for those of counters."""
+    return sorted(name for name in os.listdir(copies) if "counters" not in name)
+
+
 def cut(case, copies, name, call, number, what):
     """The words before an office, of which the call of that number on a copy is cut off."""
     paths = [word for path in (copies / UNFINISHED, copies / name) for word in ("-P", str(path))]
@@ -85,9 +90,9 @@ def behind_kills(case):
             (copies / name).unlink()
         with case.office([client], "--copies", str(copies)) as office:
             office.opened(client)
-            require_same(os.listdir(copies), [], f"what is left of a copy killed at {call} {number}")
+            require_same(ledgers(copies), [], f"what is left of a copy killed at {call} {number}")
             require_same(client.ask("copy"), ["copied 1"], f"a copy behind one killed at {call} {number}")
-            require_same(os.listdir(copies), [name], "the copies")
+            require_same(ledgers(copies), [name], "the copies")
             close(office, client)
         require_same(case.listed("balances", copies / name), case.listed("balances"), "what the copy holds")
         (copies / name).unlink()
@@ -108,7 +113,7 @@ def where_the_name_is_taken(case):
             before = held()
             require_same(client.ask("copy"), ["refused Occupied"], f"where {name} is {before}")
             require_same(held() == before, True, f"{name} stays {before}")
-            require_same(os.listdir(copies), [name.name], "what else is there")
+            require_same(ledgers(copies), [name.name], "what else is there")
             (name.rmdir if name.is_dir() else name.unlink)()
         require_same(client.ask("copy"), ["copied 0"], "where nothing is in the way")
         close(office, client)
@@ -127,7 +132,7 @@ def on_a_full_disk(case):
         with case.office([client], "--copies", str(copies), before=before) as office:
             office.opened(client)
             require_same(client.ask("copy"), ["refused Unwritten"], f"without room at {call} {number}")
-            require_same(os.listdir(copies), [], f"what is left without room at {call} {number}")
+            require_same(ledgers(copies), [], f"what is left without room at {call} {number}")
             require_same(client.ask("copy"), ["copied 1"], "once there is room")
             (copies / name).unlink()
             close(office, client)
@@ -142,7 +147,7 @@ def an_archive_with_a_gap(case):
             office.opened(client)
             require_same(client.ask(f"deposit 1 5 {number + 1}"), [f"posted {number} {number + 1}"], "a posting")
             close(office, client)
-    first, middle, last = sorted(books.iterdir())
+    first, middle, last = (books / name for name in ledgers(books))
     aside = case.folder / "aside"
     middle.rename(aside)
     with case.office([client], "--archive", str(books)) as office:

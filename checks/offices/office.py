@@ -281,8 +281,10 @@ class Case:
             counter.leave()
 
     def run(self, *words, kept_as="run", before=(), **more):
-        """A run of the program that serves with these words alone, by a program before it where that is given."""
-        return Office([*before, self.program, "serve", *words], self.folder / kept_as, **more)
+        """A run of the program that serves with these words alone, by a program before it where that is given. Nobody has to
+        say hello unless that is among them."""
+        alone = () if "--hello" in words else ("--no-hello",)
+        return Office([*before, self.program, "serve", *words, *alone], self.folder / kept_as, **more)
 
     def close(self, counter, *words):
         """How a run of the program ends that closes the office at a counter: its status, its output, and its errors."""

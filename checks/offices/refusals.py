@@ -39,7 +39,7 @@ def counters_that_are_none(case):
             require_refused(office, f"{other.folder}/{name}: it is another counter's")
         (other.folder / name).unlink()
         os.mkfifo(other.folder / name)
-    with case.formatted([good, good], 4) as office:
+    with case.formatted([good], 4, "--counter", f"other={good.folder}") as office:
         require_refused(office, f"{good.folder}/in: it is another counter's")
     other.folder = case.folder / "nowhere"
     with case.formatted([good, other], 4) as office:
@@ -78,7 +78,7 @@ def wrong_words(case):
     one = ("--counter", str(clients[0].folder))
     device = (str(case.device),)
     all_three = [word for client in clients for word in ("--counter", str(client.folder))]
-    too_many = [word for _ in range(65) for word in one]
+    too_many = [word for number in range(65) for word in ("--counter", f"c{number}={clients[0].folder}")]
     for words in (
         (), device, one, (*device, *one, "--stations", "1"), (*device, *one, "--stations", "65"),
         (*device, *one, "--stations", "x"),

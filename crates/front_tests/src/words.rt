@@ -1,6 +1,22 @@
 //! The words of `derbyfig`.
 use ledger_inspection::{BookTask, Locking, Task};
+use office_engine::CounterFolder;
 use program_front::{Request, read_request};
+
+const A: CounterFolder<'static> = CounterFolder {
+    name: "a",
+    folder: "a",
+};
+
+const B: CounterFolder<'static> = CounterFolder {
+    name: "b",
+    folder: "folder/b",
+};
+
+const C: CounterFolder<'static> = CounterFolder {
+    name: "c",
+    folder: "c",
+};
 
 #[test]
 fn a_script_and_an_office_have_their_words(rt: HostRuntime) {
@@ -21,7 +37,7 @@ fn a_script_and_an_office_have_their_words(rt: HostRuntime) {
         "serve",
         "book",
         "--counter=a",
-        "--counter=b",
+        "--counter=b=folder/b",
         "--stations=64",
         "--format=1000000",
         "--overwrite",
@@ -29,20 +45,24 @@ fn a_script_and_an_office_have_their_words(rt: HostRuntime) {
         "--terminal",
         "--control=c",
         "--archive=books",
-        "--hello",
+        "--no-hello",
         "--copies=backups",
+        "--counters-file=names",
+        "--counters-anew",
     ];
     let asked = read_request(alloc, &words);
     assert!(rt;
         matches!(&asked, Ok(Request::Serve(office)) if office.path == "book"
-        && office.counters.as_slice() == ["a", "b", "c"].as_slice()
+        && office.counters.as_slice() == [A, B, C].as_slice()
         && office.stations == Some(64)
         && office.format.map(|slots| slots.get()) == Some(1_000_000)
         && office.sectors == Some(1)
         && office.overwrite
         && office.terminal
         && office.archive == Some("books")
-        && office.hello
+        && !office.hello
+        && office.counters_file == Some("names")
+        && office.counters_anew
         && office.copies == Some("backups"))
     );
 }

@@ -6,14 +6,18 @@ ghost use Rattle.office_engine.specs.FolderArchive.{folder_archive};
 use crate::faults::OfficeFault;
 use crate::locks::has_client;
 use crate::looking_back::last_in_archive;
-use crate::serving::Serving;
+use crate::seating::Seating;
+use crate::serving::{CounterFolder, Serving};
 use archive_engine::{
     ArchiveFault, Folder, FolderCopyRefusal, archive_device, check_no_gap, copy_to_folder,
     open_copies,
 };
+use file_device::FileNumber;
 use live_office::{CopyRefusal, Keeper, Kept, Seen};
+use office_counters::{RosterPath, read_roster, write_roster};
 use sector_device::Device;
 use std::alloc::{Alloc, Global};
+use std::fs;
 use std::fs::{File, Files};
 
 /// The archive of an office, if it has one, and why it couldn't be written, if it couldn't.
@@ -26,11 +30,20 @@ pub(crate) struct Archivist<'a, 'r, R> {
     folder: Option<Folder<'a>>,
     // The path of the archive.
     books: Option<&'a str>,
-    // The folder of the copies.
+    // The folder of the copies, and its path.
     copies: Option<Folder<'a>>,
-    // The folders of the counters, that of station 0 first.
-    counters: &'r [&'a str],
-    fault: Option<ArchiveFault<'a>>,
+    copies_at: Option<&'a str>,
+    counters: &'r [CounterFolder<'a>],
+    // Their stations, once they have these.
+    seats: Vec<u8>,
+    // From the batch of this number on only offices posted.
+    since: u64,
+    // Where it is kept which station each counter has.
+    place: RosterPath<'a>,
+    // Which file the ledger is, once it is open, and which folder the archive is.
+    ledger: Option<FileNumber>,
+    archive: Option<FileNumber>,
+    fault: Option<OfficeFault<'a>>,
 }
 
 impl<'a, 'r, R: Files<File = File> + Alloc<A = Global> + Clone + Drop> Archivist<'a, 'r, R> {
@@ -59,7 +72,13 @@ impl<'a, 'r, R: Files<File = File> + Alloc<A = Global> + Clone + Drop> Archivist
             folder,
             books: serving.archive,
             copies,
+            copies_at: serving.copies,
             counters: serving.counters.as_slice(),
+            seats: Vec::new(alloc),
+            since: 0,
+            place: RosterPath::Beside(serving.path),
+            ledger: None,
+            archive: None,
             fault: None,
         })
     }
@@ -71,14 +90,59 @@ impl<'a, 'r, R: Files<File = File> + Alloc<A = Global> + Clone + Drop> Archivist
     ) -> Result<(D, Kept), OfficeFault<'a>> {
         let kept = self.keep(device);
         match self.fault {
-            Some(fault) => Err(OfficeFault::from(fault)),
+            Some(fault) => Err(fault),
             None => Ok(kept),
         }
     }
 
-    /// Why the archive couldn't be written.
-    pub(crate) fn fault(&self) -> Option<ArchiveFault<'a>> {
+    /// Learns which stations the counters have, and keeps that in the archive, if there is one. From now on the names
+    /// of ledger and archive have to stay those of what is open.
+    pub(crate) fn learn(&mut self, seating: &Seating<'a>) -> Result<(), OfficeFault<'a>> {
+        self.since = seating.since();
+        self.place = seating.place;
+        self.seats = seating.seats.clone()?;
+        self.ledger = number_at(self.rt, self.path);
+        self.archive = match self.books {
+            Some(folder) => number_at(self.rt, folder),
+            None => None,
+        };
+        match self.books {
+            Some(folder) => seating.write_into(self.rt, self.alloc, folder),
+            None => Ok(()),
+        }
+    }
+
+    /// Why the archive couldn't be kept.
+    pub(crate) fn fault(&self) -> Option<OfficeFault<'a>> {
         self.fault
+    }
+
+    // The path of the ledger or of the archive, if that isn't there any more, or another one is.
+    fn lost(&self) -> Option<&'a str> {
+        if self.ledger.is_some() && number_at(self.rt, self.path) != self.ledger {
+            return Some(self.path);
+        }
+        let folder = self.books?;
+        if self.archive.is_some() && number_at(self.rt, folder) != self.archive {
+            return Some(folder);
+        }
+        None
+    }
+
+    // Keeps the ledger's counters beside its copy of that number, if they are kept.
+    fn copy_counters(&self, number: u64) -> bool {
+        let folder = self.copies_at.unwrap_or(".");
+        let Ok(path) = format!(in self.alloc; "{folder}/{number:020}") else {
+            return false;
+        };
+        match read_roster(self.rt, self.alloc, self.place) {
+            Ok(Some(roster)) => {
+                let place = RosterPath::Beside(path.as_str());
+                write_roster(self.rt, self.alloc, place, &roster).is_ok()
+            }
+            Ok(None) => true,
+            Err(_) => false,
+        }
     }
 }
 
@@ -87,6 +151,10 @@ impl<D: Device, R: Files<File = File> + Alloc<A = Global> + Clone + Drop> Keeper
     ghost archive = { λ archivist. folder_archive archivist.fault };
 
     fn keep(&mut self, device: D) -> (D, Kept) {
+        if let Some(path) = self.lost() {
+            self.fault = Some(OfficeFault::Lost { path });
+            return (device, Kept::Failed);
+        }
         let Some(folder) = &self.folder else {
             return (device, Kept::NoArchive);
         };
@@ -94,7 +162,7 @@ impl<D: Device, R: Files<File = File> + Alloc<A = Global> + Clone + Drop> Keeper
         match added {
             Ok(archived) => (device, Kept::UpTo(archived.next())),
             Err(fault) => {
-                self.fault = Some(fault);
+                self.fault = Some(OfficeFault::from(fault));
                 (device, Kept::Failed)
             }
         }
@@ -106,19 +174,20 @@ impl<D: Device, R: Files<File = File> + Alloc<A = Global> + Clone + Drop> Keeper
         };
         let (device, copied) = copy_to_folder(self.rt, self.alloc, device, folder);
         match copied {
-            Ok(number) => (device, Ok(number)),
+            Ok(number) if self.copy_counters(number) => (device, Ok(number)),
+            Ok(_) => (device, Err(CopyRefusal::Unwritten)),
             Err(refusal) => (device, Err(told_as(refusal))),
         }
     }
 
     fn last(&mut self, station: u8) -> Option<Seen> {
-        last_in_archive(self.rt, self.alloc, self.books?, station)
+        last_in_archive(self.rt, self.alloc, self.books?, station, self.since)
     }
 
     fn clients(&mut self, station: u8) -> u64 {
         let mut count: u64 = 0;
-        for (place, folder) in self.counters.iter().enumerate() {
-            if place != station as usize && has_client(self.rt, self.alloc, folder) {
+        for (counter, seat) in self.counters.iter().zip(self.seats.iter()) {
+            if *seat != station && has_client(self.rt, self.alloc, counter.folder) {
                 count = count.saturating_add(1);
             }
         }
@@ -146,5 +215,13 @@ fn told_as(refusal: FolderCopyRefusal) -> CopyRefusal
         FolderCopyRefusal::Ledger(_) => CopyRefusal::Device,
         FolderCopyRefusal::Occupied => CopyRefusal::Occupied,
         FolderCopyRefusal::Unwritten => CopyRefusal::Unwritten,
+    }
+}
+
+// Which file is at the path, if one can be seen there.
+fn number_at<R: Files<File = File>>(rt: &R, path: &str) -> Option<FileNumber> {
+    match fs::metadata(rt, path) {
+        Ok(found) => Some(FileNumber::of(&found)),
+        Err(_) => None,
     }
 }

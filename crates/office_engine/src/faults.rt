@@ -9,6 +9,7 @@ use journal_recovery::OpenRefusal;
 use ledger_file::LedgerRefusal;
 use line_lock::OfficeRefusal;
 use live_office::LiveRefusal;
+use office_counters::{CountersFault, RosterFault};
 use office_day::TurnRefusal;
 use program_ends::Status;
 use script_streams::StreamFault;
@@ -30,6 +31,8 @@ impl fmt::Display for PipeFault<'_> {
         let name = self.side.name();
         let cause = match self.refusal {
             PipeRefusal::Memory => return f.write_str("out of memory"),
+            PipeRefusal::Missing => "it isn't there; mkfifo makes it",
+            PipeRefusal::Denied => "there is no right to open it",
             PipeRefusal::Unopened => "it can't be opened",
             PipeRefusal::NoPipe => "it is no pipe",
             PipeRefusal::Taken => "it is another counter's",
@@ -79,6 +82,14 @@ pub enum OfficeFault<'a> {
     /// The archive can't be had, or what it lacks can't be added to it. What was answered stands in the ledger.
     #[error("{0}")]
     Archive(ArchiveFault<'a>),
+    /// The ledger or the archive isn't at its path any more. What was answered stands in what was open.
+    #[error("{path}: it isn't there any more, or another one is; what was answered stands in the one that was open")]
+    Lost {
+        path: &'a str,
+    },
+    /// Which station each counter has isn't known, or can't be written down.
+    #[error("{0}")]
+    Counters(CountersFault<'a>),
     /// No copies can be made in the folder that is named for them.
     #[error("{folder}: {fault}")]
     Copies {
@@ -115,17 +126,28 @@ impl<'a> OfficeFault<'a> {
             }
             OfficeFault::Refused(refusal) => Status::from(refusal),
             OfficeFault::Archive(fault) => fault.status(),
+            OfficeFault::Counters(fault) if fault.cause.is_refusal() => Status::Refused,
             OfficeFault::Copies { fault, .. } => fault.status(),
             OfficeFault::Memory
             | OfficeFault::Write
             | OfficeFault::Pipe(_)
             | OfficeFault::Line(_)
             | OfficeFault::Office(_)
-            | OfficeFault::Threads => Status::Failed,
+            | OfficeFault::Threads
+            | OfficeFault::Lost { .. }
+            | OfficeFault::Counters(_) => Status::Failed,
         }
     }
 
     // Out of memory stays out of memory.
+    pub(crate) fn of_counters(fault: CountersFault<'a>) -> OfficeFault<'a> {
+        match fault.cause {
+            RosterFault::Memory => OfficeFault::Memory,
+            _ => OfficeFault::Counters(fault),
+        }
+    }
+
+    // Here too.
     pub(crate) fn of_file(path: &'a str, refusal: LedgerRefusal) -> OfficeFault<'a> {
         if refusal.is_memory() {
             return OfficeFault::Memory;

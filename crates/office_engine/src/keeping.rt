@@ -7,7 +7,8 @@ use crate::archivist::Archivist;
 use crate::faults::{OfficeFault, PipeFault};
 use crate::pipes::{Side, open_pipe};
 use crate::runtime::Runtime;
-use crate::serving::{Plan, Serving};
+use crate::seating::Seating;
+use crate::serving::{CounterFolder, Plan, Serving};
 use crate::source::{Source, Target};
 use file_device::FileNumber;
 use four_state::{Line, MOST_STATIONS};
@@ -59,14 +60,15 @@ type AnyCounter<I, O> = Counter<Source<File, I>, Target<File, O>>;
 /// [`OfficeFault`].
 pub fn serve<
     'a,
+    'r,
     R: Runtime,
     I: Read + Send + Drop + 'static,
     O: Write + Send + Drop + 'static,
     W: Write,
 >(
-    rt: &R,
+    rt: &'r R,
     alloc: Global,
-    serving: &Serving<'a>,
+    serving: &'r Serving<'a>,
     plan: Plan,
     terminal: Terminal<I, O>,
     writer: &mut W,
@@ -97,55 +99,77 @@ struct Unopened<I: Read, O: Write> {
 // The same on an open device, for counters whose pipes are open.
 fn serve_on<
     'a,
+    'r,
     R: Runtime,
     I: Read + Send + Drop + 'static,
     O: Write + Send + Drop + 'static,
     W: Write,
 >(
-    rt: &R,
+    rt: &'r R,
     alloc: Global,
-    serving: &Serving<'a>,
+    serving: &'r Serving<'a>,
     stations: u64,
     office: Unopened<I, O>,
-    mut archivist: Archivist<'a, '_, R>,
+    mut archivist: Archivist<'a, 'r, R>,
     output: &mut Output<'_, W>,
 ) -> Result<(), OfficeFault<'a>> {
-    if !are_threads_granted(rt, alloc, stations, office.counters.len())? {
-        return Err(OfficeFault::Threads);
-    }
     let Unopened { device, counters } = office;
     let (device, _) = archivist.add(device)?;
-    let opened = tell_opened(alloc, serving.path, device, stations, output)?;
-    let Opened {
-        device,
-        line,
-        slots,
-    } = opened;
-    let moves = turns_of_span(slots, serving.archive.is_some());
-    match keep_open(rt, alloc, device, line, counters, moves, archivist) {
-        Ok((closed, archivist)) => end(closed, archivist, output),
+    let opened = look_at(alloc, serving.path, device)?;
+    let mut seating = Seating::begin(rt, alloc, serving, opened.next)?;
+    let stations = seating.stations(stations);
+    if !are_threads_granted(rt, alloc, stations, counters.len())? {
+        return Err(OfficeFault::Threads);
+    }
+    archivist.learn(&seating)?;
+    let counters = seated(counters, &seating);
+    let (next, total) = (opened.next, opened.total);
+    output.line(format_args!("opened {stations} next {next} total {total}"))?;
+    output.flush()?;
+    let line = first_line(stations)?;
+    let moves = turns_of_span(opened.slots, serving.archive.is_some());
+    match keep_open(rt, alloc, opened.device, line, counters, moves, archivist) {
+        Ok((closed, archivist)) => {
+            let next = closed.clerk.next();
+            let _device = end(closed, archivist, output)?;
+            seating.close(rt, alloc, next)
+        }
         Err((_, refusal)) => Err(OfficeFault::from(refusal)),
     }
 }
 
-// Tells how the office ended, and adds to its archive what that lacks.
+// The counters at their stations.
+fn seated<I: Read, O: Write>(
+    counters: Vec<AnyCounter<I, O>>,
+    seating: &Seating<'_>,
+) -> Vec<AnyCounter<I, O>> {
+    let mut counters = counters;
+    for (counter, station) in counters.iter_mut().zip(seating.seats.iter()) {
+        counter.station = *station;
+        counter.since = seating.since();
+    }
+    counters
+}
+
+// Tells how the office ended, and adds to its archive what that lacks. The device comes back of one that ended well.
 fn end<'a, R: Runtime, W: Write>(
     closed: Closed<FileDevice>,
     mut archivist: Archivist<'a, '_, R>,
     output: &mut Output<'_, W>,
-) -> Result<(), OfficeFault<'a>> {
+) -> Result<FileDevice, OfficeFault<'a>> {
     let device = tell_closed(closed, output)?;
     if let Some(fault) = archivist.fault() {
-        return Err(OfficeFault::from(fault));
+        return Err(fault);
     }
-    if let (_, Kept::UpTo(next)) = archivist.add(device)? {
+    let (device, kept) = archivist.add(device)?;
+    if let Kept::UpTo(next) = kept {
         output.line(format_args!("archived {next}"))?;
         output.flush()?;
     }
-    Ok(())
+    Ok(device)
 }
 
-// The counters, each by its pipes, and the terminal behind them.
+// The counters, each by its pipes, and the terminal behind them, before they have their stations.
 fn open_counters<'a, R: Files<File = File>, I: Read + Drop, O: Write + Drop>(
     rt: &R,
     alloc: Global,
@@ -154,7 +178,7 @@ fn open_counters<'a, R: Files<File = File>, I: Read + Drop, O: Write + Drop>(
 ) -> Result<Vec<AnyCounter<I, O>>, OfficeFault<'a>> {
     let mut counters = Vec::with_capacity(alloc, serving.counters.len())?;
     let mut opened = Vec::new(alloc);
-    for folder in &serving.counters {
+    for CounterFolder { folder, .. } in &serving.counters {
         let counter = open_counter(rt, alloc, folder, serving.hello, &mut opened)?;
         counters.push(counter).or(Err(OfficeFault::Memory))?;
     }
@@ -167,6 +191,8 @@ fn open_counters<'a, R: Files<File = File>, I: Read + Drop, O: Write + Drop>(
 fn terminal_counter<I: Read, O: Write>(terminal: Terminal<I, O>) -> AnyCounter<I, O> {
     let Terminal { input, output } = terminal;
     Counter {
+        station: 0,
+        since: 0,
         input: Source::Terminal(input),
         output: Target::Terminal(output),
         kind: Kind::Terminal,
@@ -185,6 +211,8 @@ fn open_counter<'a, R: Files<File = File>, I: Read, O: Write>(
     let input = pipe_of(rt, alloc, folder, Side::In, opened)?;
     let output = pipe_of(rt, alloc, folder, Side::Out, opened)?;
     Ok(Counter {
+        station: 0,
+        since: 0,
         input: Source::Pipe(input),
         output: Target::Pipe(output),
         kind: Kind::Pipes,
@@ -228,20 +256,21 @@ fn open_device<'a, R: Files<File = File>, W: Write>(
     Ok(device)
 }
 
-// What an office begins with, and how many slots each bank has.
+// What an office is opened on: the number of the next batch, what the accounts hold together, and how many slots each
+// bank has.
+#[derive(Drop)]
 struct Opened<D> {
     device: D,
-    line: Line,
+    next: u64,
+    total: u64,
     slots: u64,
 }
 
-// Tells what the device holds, and gives the line that its office begins with.
-fn tell_opened<'a, D: Device + Drop, W: Write>(
+// What the device holds.
+fn look_at<'a, D: Device + Drop>(
     alloc: Global,
     path: &'a str,
     device: D,
-    stations: u64,
-    output: &mut Output<'_, W>,
 ) -> Result<Opened<D>, OfficeFault<'a>> {
     let Recovered { journal, ledger } = match recover(alloc, device) {
         Ok(found) => found,
@@ -249,12 +278,10 @@ fn tell_opened<'a, D: Device + Drop, W: Write>(
     };
     let (next, total, slots) = (journal.next(), ledger.total(), journal.slots());
     let device = journal.into_device();
-    output.line(format_args!("opened {stations} next {next} total {total}"))?;
-    output.flush()?;
-    let line = first_line(stations)?;
     Ok(Opened {
         device,
-        line,
+        next,
+        total,
         slots,
     })
 }

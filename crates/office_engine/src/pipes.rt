@@ -5,6 +5,8 @@ ghost use Rattle.std.specs.Fd.{file_raw_fd};
 use file_device::FileNumber;
 use std::alloc::Global;
 use std::fs::{File, Files, OpenFile, OpenOptions, TryLockError};
+use std::io;
+use std::io::ErrorKind;
 use std::os::fd::{AsRawFd, RawFd};
 use std::os::unix::fs::FileTypeExt;
 
@@ -35,7 +37,11 @@ impl Side {
 pub enum PipeRefusal {
     /// There is no memory for its path.
     Memory,
-    /// It isn't there, or may not be opened.
+    /// It isn't there.
+    Missing,
+    /// There is no right to open it.
+    Denied,
+    /// It can't be opened.
     Unopened,
     /// What is there is no pipe.
     NoPipe,
@@ -81,10 +87,21 @@ pub(crate) fn find_pipe<R: Files<File = File>>(
     let path = path_of(alloc, folder, side)?;
     let mut how = OpenOptions::new();
     how.read(true).write(true);
-    let file = how.open(rt, path.as_str()).or(Err(PipeRefusal::Unopened))?;
+    let file = how
+        .open(rt, path.as_str())
+        .map_err(|error| unopened(&error))?;
     match file.metadata() {
         Ok(found) if found.file_type().is_fifo() => Ok((file, FileNumber::of(&found))),
         _ => Err(PipeRefusal::NoPipe),
+    }
+}
+
+// Why a pipe isn't opened.
+fn unopened(error: &io::Error) -> PipeRefusal {
+    match error.kind() {
+        ErrorKind::NotFound => PipeRefusal::Missing,
+        ErrorKind::PermissionDenied => PipeRefusal::Denied,
+        _ => PipeRefusal::Unopened,
     }
 }
 
@@ -99,7 +116,8 @@ pub(crate) fn listen<R: Files<File = File>>(
     let path = path_of(alloc, folder, Side::Out)?;
     let mut how = OpenOptions::new();
     how.read(true);
-    how.open(rt, path.as_str()).or(Err(PipeRefusal::Unopened))
+    how.open(rt, path.as_str())
+        .map_err(|error| unopened(&error))
 }
 
 fn path_of(alloc: Global, folder: &str, side: Side) -> Result<String, PipeRefusal> {

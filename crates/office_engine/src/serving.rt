@@ -7,6 +7,15 @@ use ledger_file::Formatting;
 use std::num::NonZeroU64;
 use thiserror::Error;
 
+/// A counter, and where its client speaks.
+#[derive(Clone, Copy, Debug, PartialEq, Eq)]
+pub struct CounterFolder<'a> {
+    /// Its name, by which it keeps its station.
+    pub name: &'a str,
+    /// The folder with its two pipes.
+    pub folder: &'a str,
+}
+
 /// An office that is asked for.
 #[derive(Debug, Drop)]
 pub struct Serving<'a> {
@@ -14,8 +23,12 @@ pub struct Serving<'a> {
     pub path: &'a str,
     /// How many sectors the device has at least, if that is said: 1 to 4,000,039.
     pub sectors: Option<u64>,
-    /// The folders of the counters, that of station 0 first.
-    pub counters: Vec<&'a str>,
+    /// The counters, whose names differ.
+    pub counters: Vec<CounterFolder<'a>>,
+    /// The file that keeps which station each counter has, unless that is the one beside the ledger.
+    pub counters_file: Option<&'a str>,
+    /// Whether that file is written anew: what was posted before is no counter's then.
+    pub counters_anew: bool,
     /// Whether a counter's requests are dropped until it says `hello`.
     pub hello: bool,
     /// Whether the terminal is a counter too, behind the others.

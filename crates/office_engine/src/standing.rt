@@ -65,8 +65,8 @@ pub fn ask_standing<'a, R: Files<File = File> + Clock>(
     }
 }
 
-// A number by which the answers are known that aren't an earlier client's: the time.
-fn own_number<R: Clock>(rt: &R) -> u64 {
+/// A number that hardly anybody else takes: the time.
+pub(crate) fn own_number<R: Clock>(rt: &R) -> u64 {
     let Ok(now) = SystemTime::now(rt) else {
         return 0;
     };

@@ -23,6 +23,7 @@ status_of (fault.Migration migration.NotEmpty) = Refused
 status_of (fault.Office inner) = office.status_of inner
 status_of (fault.Control inner) = office.status_of_control inner
 status_of (fault.Archive inner) = archive.status_of inner
+status_of (fault.Counters inner) = office.status_of_counters inner
 status_of (fault.Book inner) = book.status_of inner
 
 -- and of a ledger that wasn't copied, that of its path or of the copying

@@ -133,7 +133,7 @@ const SERVE: CommandText = CommandText {
         Word::Repeated(
             "counter",
             "PATH",
-            "The folder of a counter. The first is that of station 0, the next of station 1",
+            "The folder of a counter, or NAME=PATH. By its name, else the last part of PATH, it keeps its station for good",
         ),
         Word::Text(
             "control",
@@ -150,10 +150,20 @@ const SERVE: CommandText = CommandText {
             "FOLDER",
             "Where a counter that says 'copy' has a copy of the ledger made, named by the number of its next batch",
         ),
-        Word::Flag(
-            "hello",
-            "Drop what a counter says until it says 'hello X': what an earlier client left in the pipe isn't run",
+        Word::Text(
+            "counters-file",
+            "FILE",
+            "The file that keeps which station each counter has; FILE.counters beside the ledger without it, needed for a disk",
         ),
+        Word::Flag(
+            "counters-anew",
+            "Write that file anew: what was posted before is no counter's, so a repetition of it is refused as Unknown",
+        ),
+        Word::Flag(
+            "no-hello",
+            "Take what a counter says before it says 'hello X' too, as half a line that an earlier client left in the pipe",
+        ),
+        Word::Flag("hello", "As without --no-hello"),
         Word::Flag(
             "terminal",
             "The terminal is a counter too, behind the others; the office closes where its input ends",
@@ -224,9 +234,13 @@ const JOURNAL: CommandText = CommandText {
         ),
         Word::Number(
             ACCOUNT,
-            "Only records with an entry that names this account",
+            "Only records with an entry that names this account, and of these such entries",
         ),
-        Word::Number(REFERENCE, "Only records with an entry of this reference"),
+        Word::Number(
+            REFERENCE,
+            "Only records with an entry of this reference, and of these such entries",
+        ),
+        Word::Flag("whole", "Of the records that are printed all entries"),
         AS,
         DATE,
     ],

@@ -19,6 +19,7 @@ use ledger_file::{
 use ledger_inspection::{
     BookInspection, BookTask, Inspection, check_archive, inspect_book, inspect_file,
 };
+use office_counters::{RosterPath, is_disk, note_script, remove_roster, take_along};
 use office_engine::{Runtime, Serving, Terminal, ask_standing, close_office, serve};
 use program_ends::{OUT_OF_MEMORY, Status, Watched, fail, tell_words, tell_wrong, unwritten};
 use script_streams::write_all;
@@ -117,6 +118,7 @@ pub fn run_on_device<'a, F: Files<File = File> + Threads + Wait + Sync, R: Read,
         return Ok(());
     };
     let device = device_for_script(rt, alloc, path, running.sectors)?;
+    note_script(rt, alloc, RosterPath::Beside(path))?;
     run_script(rt, alloc, reader, writer, device)?;
     Ok(())
 }
@@ -186,6 +188,7 @@ impl<R: Files<File = File> + Alloc<A = Global> + Clock + Clone + Drop, W: Write>
         format_ledger(self.rt, self.alloc, path, formatting).map_err(|refusal| Fault::of_ledger(
             path, refusal,
         ))?;
+        remove_roster(self.rt, self.alloc, RosterPath::Beside(path))?;
         self.say(format_args!("formatted {}", formatting.slots))
     }
 
@@ -196,6 +199,7 @@ impl<R: Files<File = File> + Alloc<A = Global> + Clock + Clone + Drop, W: Write>
         migrate_ledger(self.rt, self.alloc, older, path, formatting).map_err(
             |refusal| Fault::of_migration(path, refusal),
         )?;
+        self.take_counters_along(RosterPath::Beside(copying.old), path)?;
         self.say(format_args!("migrated {}", formatting.slots))
     }
 
@@ -203,12 +207,20 @@ impl<R: Files<File = File> + Alloc<A = Global> + Clock + Clone + Drop, W: Write>
     fn copy_file<'a>(&mut self, copying: Copying<'a>) -> Result<(), Fault<'a>> {
         let ledger = self.opened_first(copying.old)?;
         self.copy(ledger, copying)?;
+        self.take_counters_along(RosterPath::Beside(copying.old), copying.path)?;
         self.say(format_args!("copied {}", copying.formatting.slots))
     }
 
     // Adds to an archive what it lacks.
     fn add_to_archive<'a>(&mut self, archiving: Archiving<'a>) -> Result<(), Fault<'a>> {
         let Archived { batches, first } = archive(self.rt, self.alloc, archiving)?;
+        let Archiving { ledger, folder } = archiving;
+        take_along(
+            self.rt,
+            self.alloc,
+            RosterPath::Beside(ledger),
+            RosterPath::Inside(folder),
+        )?;
         self.say(format_args!("archived {batches} from {first}"))
     }
 
@@ -218,6 +230,7 @@ impl<R: Files<File = File> + Alloc<A = Global> + Clock + Clone + Drop, W: Write>
         let newest = open_newest(self.rt, self.alloc, copying.old)?;
         check_archive(self.rt, self.alloc, copying.old)?;
         self.copy(newest, copying)?;
+        self.take_counters_along(RosterPath::Inside(copying.old), copying.path)?;
         self.say(format_args!("restored {}", copying.formatting.slots))
     }
 
@@ -231,6 +244,15 @@ impl<R: Files<File = File> + Alloc<A = Global> + Clock + Clone + Drop, W: Write>
             (_, Ok(_)) => Ok(()),
             (_, Err(refusal)) => Err(Fault::of_copy(old, path, refusal)),
         }
+    }
+
+    // The new ledger has the counters that are kept there. A disk has no file beside it.
+    fn take_counters_along<'a>(&self, from: RosterPath<'a>, new: &'a str) -> Result<(), Fault<'a>> {
+        if is_disk(self.rt, new) {
+            return Ok(());
+        }
+        take_along(self.rt, self.alloc, from, RosterPath::Beside(new))?;
+        Ok(())
     }
 
     // A ledger that is to be copied, which is opened first, so that nothing is made if it isn't there.

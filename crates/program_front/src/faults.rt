@@ -9,6 +9,7 @@ use file_device::FileFault;
 use journal_recovery::{MigrateRefusal, OpenName, OpenRefusal};
 use ledger_file::{CopyRefusal, FormatRefusal, LedgerRefusal, PartFault};
 use ledger_inspection::BookFault;
+use office_counters::CountersFault;
 use office_engine::{ControlFault, OfficeFault};
 use program_ends::Status;
 use std::fmt;
@@ -73,6 +74,9 @@ pub enum Fault<'a> {
     /// An archive doesn't have all of a ledger.
     #[error("{0}")]
     Archive(#[from] ArchiveFault<'a>),
+    /// The counters of a ledger can't be taken along.
+    #[error("{0}")]
+    Counters(#[from] CountersFault<'a>),
     /// An archive isn't a sound book, so no ledger is made of it.
     #[error("{0}")]
     Book(#[from] BookFault<'a>),
@@ -96,7 +100,8 @@ impl<'a> Fault<'a> {
             Fault::Archive(fault) => fault.status(),
             Fault::Book(fault) => fault.status(),
             Fault::NoLedger { refusal, .. } => Status::from(refusal),
-            Fault::Unread { .. } => Status::Failed,
+            Fault::Counters(fault) if fault.cause.is_refusal() => Status::Refused,
+            Fault::Counters(_) | Fault::Unread { .. } => Status::Failed,
         }
     }
 

@@ -1,4 +1,4 @@
-//! The options that several commands have, each with its name and its limits.
+//! Options with a number, each with its name and its limits, and how options of other kinds are made.
 ghost use Rattle.std.specs.Prelude.{◌≡◌, ◌≤◌, ℕ, List, None, Some, false, IfOk, IfSome};
 ghost use Rattle.std.specs.Str.Parse.{digits_value, without_leading_plus};
 ghost use Rattle.clap.specs.Words.{first_value, found_of, one_text, rule_of};

@@ -15,7 +15,8 @@ use ledger_file::Formatting;
 use ledger_inspection::{
     BookInspection, BookTask, Date, Format, Inspection, JournalWish, Locking, Selection, Task,
 };
-use office_engine::Serving;
+use office_counters::{is_name, name_of};
+use office_engine::{CounterFolder, Serving, TERMINAL};
 use std::alloc::{AllocError, AllocFailed, Global};
 use std::num::NonZeroU64;
 use thiserror::Error as Sentence;
@@ -59,6 +60,10 @@ enum WrongWord {
     NewIsLedger,
     #[error("NEW is FOLDER; take another path")]
     NewIsFolder,
+    #[error("a counter's name has 1 to 64 letters, digits, - and _: give it one by NAME=PATH")]
+    NoName,
+    #[error("two counters have the same name: give one another by NAME=PATH")]
+    SameName,
 }
 
 impl From<OutOfRange> for WrongWord {
@@ -114,22 +119,54 @@ fn serving<'a>(alloc: Global, options: &ArgMatches<'a>) -> Result<Request<'a>, W
     let sectors = SECTORS.given(options)?;
     let stations = STATIONS.given(options)?;
     let format = slots(FORMAT.given(options)?);
-    let mut counters = texts(alloc, options, "counter")?;
-    if let Some(folder) = options.get_str("control") {
-        counters.push(folder)?;
-    }
+    let terminal = options.get_flag("terminal");
     Ok(Request::Serve(Serving {
         path,
         sectors,
-        counters,
-        hello: options.get_flag("hello"),
-        terminal: options.get_flag("terminal"),
+        counters: counters(alloc, options, terminal)?,
+        counters_file: options.get_str("counters-file"),
+        counters_anew: options.get_flag("counters-anew"),
+        hello: !options.get_flag("no-hello"),
+        terminal,
         stations,
         format,
         overwrite: options.get_flag("overwrite"),
         archive: options.get_str("archive"),
         copies: options.get_str("copies"),
     }))
+}
+
+// The counters of an office, by names that differ, with that of whoever runs it behind the others.
+fn counters<'a>(
+    alloc: Global,
+    options: &ArgMatches<'a>,
+    has_terminal: bool,
+) -> Result<Vec<CounterFolder<'a>>, WrongWord> {
+    let mut words = texts(alloc, options, "counter")?;
+    if let Some(word) = options.get_str("control") {
+        words.push(word)?;
+    }
+    let mut counters: Vec<CounterFolder<'a>> = Vec::new(alloc);
+    for word in words {
+        let counter = counter(word)?;
+        if counters.iter().any(|other| other.name == counter.name)
+            || has_terminal && counter.name == TERMINAL
+        {
+            return Err(WrongWord::SameName);
+        }
+        counters.push(counter)?;
+    }
+    Ok(counters)
+}
+
+// The counter of a word.
+fn counter(word: &str) -> Result<CounterFolder<'_>, WrongWord> {
+    let (name, folder) = name_of(word);
+    if is_name(name) {
+        Ok(CounterFolder { name, folder })
+    } else {
+        Err(WrongWord::NoName)
+    }
 }
 
 // How long an office may take to close, unless that is said.
@@ -279,10 +316,12 @@ fn task(name: &str, options: &ArgMatches<'_>) -> Result<Task, WrongWord> {
 }
 
 fn selection(options: &ArgMatches<'_>) -> Result<Selection, WrongWord> {
+    let (account, reference) = (account(options)?, REFERENCE.given(options)?);
     Ok(Selection {
         from: FROM.given(options)?.unwrap_or(0),
-        account: account(options)?,
-        reference: REFERENCE.given(options)?,
+        account,
+        reference,
+        whole: options.get_flag("whole") || account.is_none() && reference.is_none(),
     })
 }
 

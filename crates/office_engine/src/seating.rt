@@ -1,0 +1,141 @@
+//! Which station each counter of an office has.
+use crate::faults::OfficeFault;
+use crate::serving::Serving;
+use crate::standing::own_number;
+use office_counters::{
+    CountersFault, Left, Roster, RosterFault, RosterPath, is_disk, read_roster, write_roster,
+};
+use std::alloc::Global;
+use std::fs::{File, Files};
+use std::time::Clock;
+
+/// The name of the terminal's counter.
+pub const TERMINAL: &str = "terminal";
+
+/// The stations of the counters that an office is opened for.
+#[derive(Drop)]
+pub(crate) struct Seating<'a> {
+    /// Where that is kept.
+    pub place: RosterPath<'a>,
+    roster: Roster,
+    /// Those of the counters as they are asked for, and that of the terminal behind them.
+    pub seats: Vec<u8>,
+}
+
+impl<'a> Seating<'a> {
+    /// Gives each counter its station, on a ledger whose next batch has this number. That, and that an office is open,
+    /// is written down durably.
+    pub(crate) fn begin<R: Files<File = File> + Clock>(
+        rt: &R,
+        alloc: Global,
+        serving: &Serving<'a>,
+        next: u64,
+    ) -> Result<Seating<'a>, OfficeFault<'a>> {
+        let place = place_of(rt, serving)?;
+        let mut roster = roster_of(rt, alloc, serving, place, next)?;
+        roster.settle(next);
+        let seats = match seats_of(alloc, serving, &mut roster) {
+            Ok(seats) => seats,
+            Err(cause) => return Err(OfficeFault::of_counters(CountersFault { place, cause })),
+        };
+        let seating = Seating {
+            place,
+            roster,
+            seats,
+        };
+        seating.write(rt, alloc)?;
+        Ok(seating)
+    }
+
+    /// How many stations the office has, where so many are planned: no counter is without its own.
+    pub(crate) fn stations(&self, planned: u64) -> u64 {
+        planned.max(self.roster.names().len() as u64)
+    }
+
+    /// From which batch on only offices posted.
+    pub(crate) fn since(&self) -> u64 {
+        self.roster.since()
+    }
+
+    /// Keeps the same counters in an archive.
+    pub(crate) fn write_into<R: Files<File = File>>(
+        &self,
+        rt: &R,
+        alloc: Global,
+        archive: &'a str,
+    ) -> Result<(), OfficeFault<'a>> {
+        write_roster(rt, alloc, RosterPath::Inside(archive), &self.roster).map_err(
+            OfficeFault::of_counters,
+        )
+    }
+
+    /// Writes down durably that the office is closed, where the next batch has this number.
+    pub(crate) fn close<R: Files<File = File>>(
+        &mut self,
+        rt: &R,
+        alloc: Global,
+        next: u64,
+    ) -> Result<(), OfficeFault<'a>> {
+        self.roster.leave(Left::Closed(next));
+        self.write(rt, alloc)
+    }
+
+    fn write<R: Files<File = File>>(&self, rt: &R, alloc: Global) -> Result<(), OfficeFault<'a>> {
+        write_roster(rt, alloc, self.place, &self.roster).map_err(OfficeFault::of_counters)
+    }
+}
+
+// Where the counters are kept: beside the ledger, unless it is said where, which has to be said of a disk.
+fn place_of<'a, R: Files<File = File>>(
+    rt: &R,
+    serving: &Serving<'a>,
+) -> Result<RosterPath<'a>, OfficeFault<'a>> {
+    if let Some(path) = serving.counters_file {
+        return Ok(RosterPath::At(path));
+    }
+    if is_disk(rt, serving.path) {
+        let (place, cause) = (RosterPath::At(serving.path), RosterFault::Disk);
+        return Err(OfficeFault::of_counters(CountersFault { place, cause }));
+    }
+    Ok(RosterPath::Beside(serving.path))
+}
+
+// The roster that is kept there; a new one of an empty ledger that has none, and where that is asked for.
+fn roster_of<'a, R: Files<File = File> + Clock>(
+    rt: &R,
+    alloc: Global,
+    serving: &Serving<'a>,
+    place: RosterPath<'a>,
+    next: u64,
+) -> Result<Roster, OfficeFault<'a>> {
+    if serving.format.is_some() || serving.counters_anew {
+        return Ok(Roster::new(alloc, own_number(rt), next));
+    }
+    match read_roster(rt, alloc, place) {
+        Ok(Some(roster)) => Ok(roster),
+        Ok(None) if next == 0 => Ok(Roster::new(alloc, own_number(rt), next)),
+        Ok(None) => {
+            let cause = RosterFault::Missing;
+            Err(OfficeFault::of_counters(CountersFault { place, cause }))
+        }
+        Err(fault) => Err(OfficeFault::of_counters(fault)),
+    }
+}
+
+// The stations of those counters.
+fn seats_of(
+    alloc: Global,
+    serving: &Serving<'_>,
+    roster: &mut Roster,
+) -> Result<Vec<u8>, RosterFault> {
+    let mut seats = Vec::new(alloc);
+    for counter in &serving.counters {
+        let station = roster.seat(alloc, counter.name).map_err(RosterFault::from)?;
+        seats.push(station)?;
+    }
+    if serving.terminal {
+        let station = roster.seat(alloc, TERMINAL).map_err(RosterFault::from)?;
+        seats.push(station)?;
+    }
+    Ok(seats)
+}
