@@ -23,7 +23,7 @@ books derbyfig copy office.ledger more.ledger --slots 128 > /dev/null
 books turn_console --device office.ledger <<< 'open 2 00 10' | grep -qx 'opened 2 next 1 total 500' || fail "the console opened another ledger"
 
 mkdir "$work/books/north" && mkfifo "$work/books/north/in" "$work/books/north/out"
-PATH="$usr/bin:$PATH" derbyfig serve "$work/books/office.ledger" --counter "$work/books/north" --hello > /dev/null &
+PATH="$usr/bin:$PATH" derbyfig serve "$work/books/office.ledger" --counter "$work/books/north" > /dev/null &
 counter() { (cd "$work/books" && PATH="$usr/bin:$PATH" derbyfig-counter "$@"); }
 for _ in $(seq 500); do counter north balance 1 > "$work/said" 2> /dev/null && break || sleep 0.02; done
 grep -qx 'balance 1 500' "$work/said" || fail "derbyfig-counter said $(cat "$work/said")"

@@ -8,6 +8,8 @@ trap 'rm -rf "$root"' EXIT
 chmod 755 "$root"
 make --silent install "DESTDIR=$root" PREFIX=/usr "DERBYFIG=$derbyfig" "CONSOLE=$console"
 gzip -9n "$root"/usr/share/man/man1/*.1
+# where zsh looks on Debian
+mv "$root/usr/share/zsh/site-functions" "$root/usr/share/zsh/vendor-completions"
 install -D install/office.sh "$root/usr/lib/derbyfig/office"
 install -D -m 644 'install/derbyfig@.service' "$root/usr/lib/systemd/system/derbyfig@.service"
 install -D -m 644 LICENSE "$root/usr/share/doc/derbyfig/copyright"
@@ -33,6 +35,14 @@ set -e
 if [ "$1" = configure ]; then
     getent passwd derbyfig > /dev/null || useradd --system --user-group --no-create-home \
         --home-dir /var/lib/derbyfig --shell /usr/sbin/nologin derbyfig
+    # of offices from before counters had names, once: the next start gives them stations
+    if [ ! -e /var/lib/derbyfig/names ]; then
+        install -d -o derbyfig -g derbyfig -m 700 /var/lib/derbyfig
+        for ledger in /var/lib/derbyfig/*.ledger; do
+            [ ! -e "$ledger" ] || [ -e "$ledger.counters" ] || : > "${ledger%.ledger}.anew"
+        done
+        : > /var/lib/derbyfig/names
+    fi
     if [ -d /run/systemd/system ]; then
         systemctl daemon-reload
         # those that the upgrade stopped

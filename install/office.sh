@@ -25,14 +25,19 @@ make_counter() {
 
 start() {
     make_counter control 700
-    set -- --counter "$counters/control"
+    set -- --control "$counters/control"
     for counter in $COUNTERS; do
         make_counter "$counter" 750
         set -- "$@" --counter "$counters/$counter"
     done
     [ -e "$kept.ledger" ] || set -- "$@" --format "$SLOTS"
+    # of a ledger from before counters had names, once
+    if [ -e "$kept.anew" ]; then
+        rm "$kept.anew"
+        set -- "$@" --counters-anew
+    fi
     mkdir -p "$kept.books" "$kept.copies"
-    exec derbyfig serve "$kept.ledger" --hello --archive "$kept.books" --copies "$kept.copies" "$@"
+    exec derbyfig serve "$kept.ledger" --archive "$kept.books" --copies "$kept.copies" "$@"
 }
 
 # Until it answers at its own counter. It fails where the office has ended.
