@@ -69,7 +69,7 @@ class Counters:
         self.clients = [kills.Client(number, first + APART * number, port) for number, port in enumerate(ports)]
         machine.ask(PIPES)
         named = " ".join(f"--counter /tmp/{name}" for name in PORTS)
-        machine.say(f"{preload}derbyfig serve {layout.path(self.ledger())} --format {SLOTS} --no-hello {named}")
+        machine.say(f"{preload}derbyfig serve {layout.path(self.ledger())} --format {SLOTS} --no-hello --counters-file /tmp/counters {named}")
         machine.until(f"opened {COUNTERS} next 0 total 0\n".encode())
         note((0, 0))
         for client in self.clients:
