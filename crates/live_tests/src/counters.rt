@@ -163,7 +163,8 @@ pub(crate) fn kept_since<
         kind: Kind::Pipes,
         awaits_hello: false,
     };
-    let counters = vec![in alloc; counter]?;
+    let mut counters = Vec::new(alloc);
+    counters.push(counter).or(Err("no memory for a counter"))?;
     let keeper = Sample { copies: 0 };
     match keep_open(rt, alloc, device, line, counters, moves, keeper) {
         Ok((closed, _)) => Ok(Some((answers, closed))),

@@ -38,6 +38,7 @@ fn opened(alloc: Global, device: MemoryDevice) -> Result<Clerk<MemoryDevice>, Fa
 // Two full banks of so many slots. Station 0 has posted the first batch of the older one, with the reference 5, and its
 // last batch; all others are of station 1.
 fn full(alloc: Global, slots: u64) -> Result<Vec<Sector>, Fail> {
+    let slots = slots.max(1).min(768);
     let mut clerk = opened(alloc, formatted(alloc, slots)?)?;
     for number in 0..slots * 2 {
         if number == slots - 1 {
