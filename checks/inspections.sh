@@ -194,7 +194,10 @@ mkfifo script
 holder=$!
 exec 3> script
 # a look at the ledger would keep it from being locked
-until [ -n "$(find "/proc/$holder/fd" -lname '*/office')" ]; do sleep 0.1; done
+for _ in $(seq 600); do
+    [ -z "$(find "/proc/$holder/fd" -lname '*/office')" ] || break
+    sleep 0.1
+done
 sleep 1
 run 3 nothing "office: another program has it; end that one first" check office
 run 0 "$wanted/check.out" "office: it isn't locked, so what is printed may be torn" check office --unlocked
