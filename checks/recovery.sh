@@ -51,7 +51,7 @@ derbyfig archive office.ledger books > /dev/null
 printf '70\ndeposit 1 10 71\n' > north.state
 run 4 && ! grep -q ',71,' printed || fail "the journal says $(cat printed told)"
 derbyfig serve office.ledger --counters-anew --counter north > /dev/null &
-for _ in $(seq 500); do derbyfig status north > /dev/null 2>&1 && break || sleep 0.02; done
+for _ in $(seq 3000); do derbyfig status north > /dev/null 2>&1 && break || sleep 0.02; done
 status=0
 derbyfig-counter -s north.state north > printed 2> told || status=$?
 [ "$status" -eq 4 ] || fail "a counter that is unknown is told $status, $(cat printed told)"
@@ -66,7 +66,7 @@ page=$work/export.md
 sed -n "/^\*\*A day's export/,/^Each day gets/p" "$top/docs/FILES.md" > "$page"
 new_office exported
 derbyfig serve office.ledger --archive books --counter north > /dev/null &
-for _ in $(seq 500); do derbyfig status north > /dev/null 2>&1 && break || sleep 0.02; done
+for _ in $(seq 3000); do derbyfig status north > /dev/null 2>&1 && break || sleep 0.02; done
 run 1 && derbyfig-counter -s north.state north deposit 1 10 > /dev/null && run 1 || fail "an export ends with $(cat told)"
 derbyfig close north > /dev/null
 wait
