@@ -13,7 +13,7 @@ mv "$root/usr/share/zsh/site-functions" "$root/usr/share/zsh/vendor-completions"
 install -D install/office.sh "$root/usr/lib/derbyfig/office"
 install -D -m 644 'install/derbyfig@.service' "$root/usr/lib/systemd/system/derbyfig@.service"
 install -D -m 644 LICENSE "$root/usr/share/doc/derbyfig/copyright"
-install -m 644 docs/INSTALL.md docs/FILES.md docs/FORMATS.md "$root/usr/share/doc/derbyfig"
+install -m 644 docs/INSTALL.md docs/FILES.md docs/FORMATS.md docs/RECOVERY.md "$root/usr/share/doc/derbyfig"
 mkdir -m 755 "$root/etc" "$root/etc/derbyfig" "$root/DEBIAN"
 version=$("$root/usr/bin/derbyfig" --version | sed 's/^derbyfig \([0-9.]*\),.*/\1/')
 cat > "$root/DEBIAN/control" << END
