@@ -73,9 +73,13 @@ fn put<R: Files<File = File>>(
     let text = format!(in alloc; "{roster}")?;
     let path = format!(in alloc; "{place}")?;
     let unfinished = format!(in alloc; "{place}.new")?;
-    put_in_place(rt, unfinished.as_str(), path.as_str(), text.as_bytes()).or(Err(
-        RosterFault::Unwritten,
-    ))
+    match put_in_place(rt, unfinished.as_str(), path.as_str(), text.as_bytes()) {
+        Ok(()) => Ok(()),
+        Err(_) => {
+            let _ = fs::remove_file(rt, unfinished.as_str());
+            Err(RosterFault::Unwritten)
+        }
+    }
 }
 
 // Writes what is to stand at a path under another name first, all durably.

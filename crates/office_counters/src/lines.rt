@@ -1,6 +1,5 @@
 //! A roster as the text of its file: a line for its kind, one for the ledger, one for the batch from which on only
 //! offices posted, one for how it was left, and one for each counter.
-use crate::name::is_name;
 use crate::refusal::{RosterFault, SeatRefusal};
 use crate::roster::{Left, Roster};
 use std::alloc::Global;
@@ -66,13 +65,13 @@ fn add_counter(
     number: u64,
 ) -> Result<(), RosterFault> {
     let name = line.strip_prefix("counter ").ok_or(wrong(number))?;
-    if !is_name(name) || roster.station_of(name).is_some() {
+    if roster.station_of(name).is_some() {
         return Err(wrong(number));
     }
     match roster.seat(alloc, name) {
         Ok(_) => Ok(()),
         Err(SeatRefusal::Memory) => Err(RosterFault::Memory),
-        Err(SeatRefusal::Full) => Err(wrong(number)),
+        Err(SeatRefusal::NoName | SeatRefusal::Full) => Err(wrong(number)),
     }
 }
 

@@ -30,6 +30,9 @@ pub enum RosterFault {
     /// A disk has no file beside it.
     #[error("the counters of a disk need --counters-file FILE")]
     Disk,
+    /// A counter has a name that is none.
+    #[error("a counter's name has 1 to 64 letters, digits, - and _: give it one by NAME=PATH")]
+    NoName,
     /// All 64 stations have other counters.
     #[error("64 other counters have the stations; --counters-anew forgets them")]
     Full,
@@ -45,6 +48,7 @@ impl RosterFault {
             RosterFault::NoRoster { .. }
             | RosterFault::Missing
             | RosterFault::Disk
+            | RosterFault::NoName
             | RosterFault::Full => true,
         }
     }
@@ -71,6 +75,8 @@ impl fmt::Display for CountersFault<'_> {
 /// Why a counter has no station.
 #[derive(Clone, Copy, Debug, PartialEq, Eq)]
 pub enum SeatRefusal {
+    /// Its name is none.
+    NoName,
     /// There is no memory.
     Memory,
     /// All 64 stations have other counters.
@@ -81,6 +87,7 @@ impl From<SeatRefusal> for RosterFault {
     fn from(refusal: SeatRefusal) -> RosterFault {
         match refusal {
             SeatRefusal::Memory => RosterFault::Memory,
+            SeatRefusal::NoName => RosterFault::NoName,
             SeatRefusal::Full => RosterFault::Full,
         }
     }

@@ -1,7 +1,9 @@
 //! Which station each counter has, and from which batch on only offices posted.
 ghost use Rattle.std.specs.Prelude.{◌≡◌, ◌<◌, ◌≤◌, ◌++◌, ◌∷◌, [], min, map, true, false, bytes_eq, HoldsAt, All, IsNone, length, string_bytes, slice_get, Contains, Some, None, Err, IfOk, IfErr, IfSome, IsTrue, OnOk, OnErr};
+ghost use Rattle.office_counters.specs.Name.{IsName};
 ghost use Rattle.office_counters.specs.Seats.{Seats, IsAsLeft};
 
+use crate::name::is_name;
 use crate::refusal::SeatRefusal;
 use std::alloc::Global;
 use std::marker::Model;
@@ -74,14 +76,16 @@ impl Roster {
     pub fn since(&self) -> u64
         ensures { result ≡ self.now.since }
     {
-        self.since
+        let Roster { since, .. } = self;
+        *since
     }
 
     /// How the ledger was left.
     pub fn left(&self) -> Left
         ensures { result ≡ self.now.left }
     {
-        self.left
+        let Roster { left, .. } = self;
+        *left
     }
 
     /// The counters' names, that of station 0 first.
@@ -95,6 +99,7 @@ impl Roster {
     pub fn station_of(&self, name: &str) -> Option<u8>
         ensures its_own { IfSome result (λ station. slice_get self.now.names station ≡ Some name.now) }
         ensures none { result ≡ None → Contains self.now.names name.now → ⊥ }
+        ensures most { length self.now.names ≤ 64 }
     {
         station_in(self.names.as_slice(), name)
     }
@@ -108,6 +113,9 @@ impl Roster {
         ensures known { Contains self.old.names name.now → self.new.names ≡ self.old.names }
         ensures new { (Contains self.old.names name.now → ⊥) → IfOk result (λ station.
             self.new.names ≡ self.old.names ++ name.now ∷ []) }
+        ensures named { (Contains self.old.names name.now → ⊥) → IfOk result (λ station. IsName name.now) }
+        ensures no_name { result ≡ Err SeatRefusal.NoName
+            → (IsName name.now → ⊥) × (Contains self.old.names name.now → ⊥) }
         ensures full { result ≡ Err SeatRefusal.Full
             → (length self.old.names ≡ 64) × (Contains self.old.names name.now → ⊥) }
         ensures refused { IfErr result (λ refusal. self.new ≡ self.old) }
@@ -119,7 +127,26 @@ impl Roster {
         if let Some(station) = self.station_of(name) {
             return Ok(station);
         }
+        self.add(alloc, name)
+    }
+
+    // The station of a new counter.
+    fn add(&mut self, alloc: Global, name: &str) -> Result<u8, SeatRefusal>
+        ensures its_own { IfOk result (λ station. slice_get self.new.names station ≡ Some name.now) }
+        ensures new { IfOk result (λ station. self.new.names ≡ self.old.names ++ name.now ∷ []) }
+        ensures named { IfOk result (λ station. IsName name.now) }
+        ensures no_name { result ≡ Err SeatRefusal.NoName → IsName name.now → ⊥ }
+        ensures full { result ≡ Err SeatRefusal.Full → length self.old.names ≡ 64 }
+        ensures refused { IfErr result (λ refusal. self.new ≡ self.old) }
+        ensures since { self.new.since ≡ self.old.since }
+        ensures left { self.new.left ≡ self.old.left }
+        ensures ledger { self.new.ledger ≡ self.old.ledger }
+        ensures most { length self.new.names ≤ 64 }
+    {
         let station = self.names.len();
+        if !is_name(name) {
+            return Err(SeatRefusal::NoName);
+        }
         if station >= MOST_COUNTERS {
             return Err(SeatRefusal::Full);
         }
