@@ -5,6 +5,7 @@ import random
 import sys
 
 import copies
+import counters
 import holdings
 import makings
 import parts
@@ -30,6 +31,9 @@ CASES = (
     copies.of_earlier_versions,
     copies.that_are_refused,
     copies.that_leave_the_new_file,
+    counters.before_a_copy_is_a_ledger,
+    counters.of_a_refused_copy,
+    counters.of_nobody,
 )
 
 

@@ -10,8 +10,10 @@ SLOTS = 3
 # What a copy is made under, before it has its name.
 UNFINISHED = "unfinished"
 
-# At which calls a copy is ended or fails, and how often they were made before: its writes, its syncs, and its naming.
-CALLS = (("pwrite64", 1), ("pwrite64", 2), ("pwrite64", 9), ("ftruncate", 1), ("fsync", 1), ("fdatasync", 1))
+# At which calls a copy is ended or fails, and how often they were made before: its writes, its syncs, those of its
+# counters, and their naming and its own.
+CALLS = (("pwrite64", 1), ("pwrite64", 2), ("pwrite64", 9), ("ftruncate", 1), ("fsync", 1), ("fdatasync", 1), ("write", 1),
+         ("fsync", 2), ("rename", 1), ("rename", 2))
 
 
 def folder(case, name):
@@ -64,21 +66,28 @@ def ledgers(copies):
     return sorted(name for name in os.listdir(copies) if "counters" not in name)
 
 
+def counters(ledger):
+    """The file of a ledger's counters."""
+    return ledger.with_name(f"{ledger.name}.counters")
+
+
 def cut(case, copies, name, call, number, what):
     """The words before an office, of which the call of that number on a copy is cut off."""
-    paths = [word for path in (copies / UNFINISHED, copies / name) for word in ("-P", str(path))]
+    made = (copies / UNFINISHED, copies / name, counters(copies / name), f"{counters(copies / name)}.new")
+    paths = [word for path in made for word in ("-P", str(path))]
     return ("strace", "-f", "-o", str(case.folder / "trace"), *paths, "-e", f"inject={call}:{what}:when={number}")
 
 
 def behind_kills(case):
-    """A copy that is killed, at whatever call, leaves nothing under its name, and the next office makes it."""
+    """A copy that is killed, at whatever call, leaves nothing under its name, or a whole one with its counters, and the next
+    office makes it."""
     client, = case.counters(1)
     copies, name = folder(case, "copies"), f"{1:020}"
     with case.formatted([client], SLOTS) as office:
         office.opened(client)
         require_same(client.ask("deposit 1 5 1"), ["posted 0 1"], "a posting")
         close(office, client)
-    for call, number in (*CALLS, ("rename", 1)):
+    for call, number in CALLS:
         before = cut(case, copies, name, call, number, "signal=KILL")
         with case.office([client], "--copies", str(copies), before=before) as office:
             office.opened(client)
@@ -87,6 +96,7 @@ def behind_kills(case):
         client.leave()
         if (copies / name).exists():
             require_same(case.listed("balances", copies / name), case.listed("balances"), f"a copy killed at {call} {number}")
+            require_same(counters(copies / name).read_text(), counters(case.device).read_text(), "its counters")
             (copies / name).unlink()
         with case.office([client], "--copies", str(copies)) as office:
             office.opened(client)
@@ -127,14 +137,16 @@ def on_a_full_disk(case):
         office.opened(client)
         require_same(client.ask("deposit 1 5 1"), ["posted 0 1"], "a posting")
         close(office, client)
-    for call, number in (*CALLS, ("rename", 1)):
+    for call, number in CALLS:
         before = cut(case, copies, name, call, number, "error=ENOSPC")
         with case.office([client], "--copies", str(copies), before=before) as office:
             office.opened(client)
             require_same(client.ask("copy"), ["refused Unwritten"], f"without room at {call} {number}")
-            require_same(ledgers(copies), [], f"what is left without room at {call} {number}")
+            require_same(os.listdir(copies), [], f"what is left without room at {call} {number}")
             require_same(client.ask("copy"), ["copied 1"], "once there is room")
-            (copies / name).unlink()
+            require_same(counters(copies / name).read_text(), counters(case.device).read_text(), "the copy's counters")
+            for path in (copies / name, counters(copies / name)):
+                path.unlink()
             close(office, client)
 
 

@@ -8,7 +8,8 @@ use crate::faults::{ArchiveFault, FolderFault};
 use crate::folder::{Folder, are_one_folder};
 use file_device::{DeviceRefusal, FileFault};
 use journal_recovery::{MigrateRefusal, OpenRefusal, Recovered, recover};
-use ledger_file::{CopyRefusal, Formatting, LedgerRefusal, copy_ledger};
+use ledger_file::{CopyRefusal, Formatting, LedgerRefusal, open_for_copy};
+use office_counters::{RosterPath, remove_roster, take_along};
 use program_ends::Status;
 use sector_device::Device;
 use std::alloc::{AllocError, Global};
@@ -121,8 +122,9 @@ impl CopiesFault {
 }
 
 /// Copies the ledger on a device into a folder, with as many slots, under the number of its next batch in twenty
-/// digits. The copy is made under the name `unfinished`, synced, given its own, and then the folder is synced: whatever
-/// ends this early, nothing stands under a copy's name but a whole one. The device is only read, and handed back.
+/// digits. The copy is made under the name `unfinished` and synced. Then the ledger's counters, which are kept at that
+/// path, are kept beside the copy's name too, the copy is given it, and the folder is synced: whatever ends this early,
+/// nothing stands under a copy's name but a whole one, with its counters. The device is only read, and handed back.
 ///
 /// # Errors
 /// [`FolderCopyRefusal`], the first that holds.
@@ -131,6 +133,7 @@ pub fn copy_to_folder<D: Device, R: Files<File = File>>(
     alloc: Global,
     device: D,
     folder: &Folder<'_>,
+    counters: RosterPath<'_>,
 ) -> (D, Result<u64, FolderCopyRefusal>)
     ensures call { AreCalls (D.state device) (D.state result.0) (IsErrAnd result.1 IsReadFault) }
 
@@ -146,70 +149,103 @@ pub fn copy_to_folder<D: Device, R: Files<File = File>>(
     };
     let (number, slots) = (journal.next(), journal.slots());
     let device = journal.into_device();
-    let (device, copied) = copy_as(rt, alloc, device, folder, number, slots);
-    match copied {
+    let (unfinished, own) = match ways(rt, alloc, folder, number) {
+        Ok(names) => names,
+        Err(refusal) => return (device, Err(refusal)),
+    };
+    let (device, copied) = copy_to(rt, alloc, device, unfinished.as_str(), slots);
+    if let Err(refusal) = copied {
+        return (device, Err(refusal));
+    }
+    match put_in_place(
+        rt,
+        alloc,
+        folder,
+        (unfinished.as_str(), own.as_str()),
+        counters,
+    ) {
         Ok(()) => (device, Ok(number)),
         Err(refusal) => (device, Err(refusal)),
     }
 }
 
-// Copies the ledger under that number.
-fn copy_as<D: Device, R: Files<File = File>>(
+// The path under which the copy of that number is made, and its own, which nothing has.
+fn ways<R: Files<File = File>>(
+    rt: &R,
+    alloc: Global,
+    folder: &Folder<'_>,
+    number: u64,
+) -> Result<(String, String), FolderCopyRefusal>
+    ensures { IfErr result (λ refusal. IsReadFault refusal → ⊥) }
+{
+    let Ok(unfinished) = folder.unfinished(alloc) else {
+        return Err(FolderCopyRefusal::Memory);
+    };
+    let volume = folder.volume(number);
+    let Ok(own) = format!(in alloc; "{volume}") else {
+        return Err(FolderCopyRefusal::Memory);
+    };
+    if fs::symlink_metadata(rt, own.as_str()).is_ok() {
+        return Err(FolderCopyRefusal::Occupied);
+    }
+    match folder.clear(rt, unfinished.as_str()) {
+        Ok(()) => Ok((unfinished, own)),
+        Err(_) => Err(FolderCopyRefusal::Unwritten),
+    }
+}
+
+// Copies the ledger to that path.
+fn copy_to<D: Device, R: Files<File = File>>(
     rt: &R,
     alloc: Global,
     device: D,
-    folder: &Folder<'_>,
-    number: u64,
+    path: &str,
     slots: u64,
 ) -> (D, Result<(), FolderCopyRefusal>)
     ensures call { AreCalls (D.state device) (D.state result.0) (IsErrAnd result.1 IsReadFault) }
     ensures looks { LooksOnly (D.state device) (D.state result.0) }
 {
-    let Ok(unfinished) = folder.unfinished(alloc) else {
-        return (device, Err(FolderCopyRefusal::Memory));
-    };
-    let volume = folder.volume(number);
-    let Ok(own) = format!(in alloc; "{volume}") else {
-        return (device, Err(FolderCopyRefusal::Memory));
-    };
-    if let Err(refusal) = make_way(rt, folder, unfinished.as_str(), own.as_str()) {
-        return (device, Err(refusal));
-    }
     let formatting = Formatting {
         slots: NonZeroU64::new(slots).unwrap_or(NonZeroU64::MIN),
         sectors: 0,
         overwrite: false,
     };
-    let (device, copied) = copy_ledger(rt, alloc, device, unfinished.as_str(), formatting);
-    let placed = match copied {
-        Ok(_) => folder.put_in_place(rt, unfinished.as_str(), own.as_str()),
+    let (device, opened) = open_for_copy(rt, alloc, device, path, formatting);
+    let place = match opened {
+        Ok(place) => place,
         Err(refusal) => return (device, Err(refusal_of(refusal))),
     };
-    match placed {
-        Ok(()) => (device, Ok(())),
-        Err(_) => {
-            folder.take_away(rt, unfinished.as_str());
-            (device, Err(FolderCopyRefusal::Unwritten))
-        }
+    let (device, copied) = place.copy(rt, alloc, device);
+    match copied {
+        Ok(_) => (device, Ok(())),
+        Err(refusal) => (device, Err(refusal_of(CopyRefusal::Copy(refusal)))),
     }
 }
 
-// Finds out that nothing has the copy's name, and removes what an earlier one left that wasn't finished.
-fn make_way<R: Files<File = File>>(
+// Keeps the counters of a copy, and gives it its own name; else nothing is left of it.
+fn put_in_place<R: Files<File = File>>(
     rt: &R,
+    alloc: Global,
     folder: &Folder<'_>,
-    unfinished: &str,
-    own: &str,
+    names: (&str, &str),
+    counters: RosterPath<'_>,
 ) -> Result<(), FolderCopyRefusal>
     ensures { IfErr result (λ refusal. IsReadFault refusal → ⊥) }
 {
-    if fs::symlink_metadata(rt, own).is_ok() {
-        return Err(FolderCopyRefusal::Occupied);
+    let (unfinished, own) = names;
+    let beside = RosterPath::Beside(own);
+    if take_along(rt, alloc, counters, beside).is_ok() {
+        if folder.put_in_place(rt, unfinished, own).is_ok() {
+            return Ok(());
+        }
     }
-    match folder.clear(rt, unfinished) {
-        Ok(()) => Ok(()),
-        Err(_) => Err(FolderCopyRefusal::Unwritten),
+    if fs::symlink_metadata(rt, unfinished).is_err() {
+        // it has its own name, which isn't durable
+        folder.take_away(rt, own);
     }
+    folder.take_away(rt, unfinished);
+    let _ = remove_roster(rt, alloc, beside);
+    Err(FolderCopyRefusal::Unwritten)
 }
 
 // Why the ledger wasn't copied.

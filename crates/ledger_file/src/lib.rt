@@ -8,16 +8,15 @@
 //! `checks/files.sh` has examples.
 #![tactic(auto)]
 
+mod copying;
 mod opening;
 mod plan;
 mod refusal;
 
+pub use copying::{CopyPlace, open_for_copy, open_for_migration};
 pub use file_device::{DeviceRefusal, DiskFault, FileDevice, FileFault, Making};
 pub use gate_journal::FormatRefusal;
 pub use journal_recovery::MigrateRefusal;
-pub use opening::{
-    Formatting, MOST_SECTORS, copy_ledger, format_ledger, migrate_ledger, open_for_script,
-    open_ledger,
-};
+pub use opening::{Formatting, MOST_SECTORS, format_ledger, open_for_script, open_ledger};
 pub use plan::{HeldFault, PartFault, check_formatting, sectors_planned};
 pub use refusal::{CopyRefusal, LedgerRefusal};

@@ -1,18 +1,11 @@
 //! Opening a file as a ledger, and making one.
-ghost use Rattle.std.specs.Prelude.{◌≡◌, ◌≢◌, ◌+◌, ◌*◌, ◌<◌, ◌≤◌, ◌^◌, ◌↔◌, max, false, IsOk, IsTrue, IfOk, Err};
+ghost use Rattle.std.specs.Prelude.{◌≡◌, ◌+◌, ◌*◌, ◌<◌, ◌≤◌, ◌^◌, ◌↔◌, max, false, IsOk, IsTrue, IfOk};
 ghost use Rattle.std.specs.Int.NonZero.{non_zero_u64_get};
-ghost use Rattle.sector_device.specs.Device.{AreCalls};
-ghost use Rattle.sector_device.specs.Crash.{LooksOnly};
-ghost use Rattle.journal_recovery.specs.Older.{OldRecoveryRefuses};
-ghost use Rattle.journal_recovery.specs.Refused.{RecoveryRefuses};
-ghost use Rattle.ledger_file.specs.Sound.{IsLedger, IsOldLedger};
 
 use crate::plan::{check_formatting, sectors_planned};
-use crate::refusal::{CopyRefusal, LedgerRefusal};
+use crate::refusal::LedgerRefusal;
 use file_device::{DeviceFile, DeviceOn, DeviceRefusal, LockedFile, MadeFile, Making, Wanted};
 use gate_journal::{FirstSector, FormatRefusal, MOST_SLOTS, format, sectors_needed};
-use journal_recovery::{MigrateRefusal, OpenRefusal, copy, migrate, read_old, recover};
-use sector_device::Device;
 use std::alloc::Global;
 use std::fs::Files;
 use std::num::NonZeroU64;
@@ -103,7 +96,7 @@ fn sectors_for_script<F: DeviceFile + Drop>(file: &LockedFile<'_, F>, asked: u64
 
 /// Makes an empty ledger at a path, where a file is made if none is there. What is there has to hold nothing, unless it
 /// may be overwritten: each byte of a file is looked at, and of a disk the first 256 sectors. A file gets the sectors
-/// that the ledger needs; one that this call made is removed if there is no room for them. What is refused keeps its
+/// that the ledger needs; one that this call made is removed if it doesn't become a ledger. What is refused keeps its
 /// bytes and its length.
 ///
 /// # Errors
@@ -119,112 +112,23 @@ pub fn format_ledger<F: DeviceFile + Drop, R: Files<File = F>>(
         39 + 4 * non_zero_u64_get formatting.slots ≤ device.inner.sectors) }
     ensures fits { IfOk result (λ device. device.inner.sectors * 512 < 2 ^ 63) }
 {
-    let (mut device, _) = device_to_format(rt, alloc, path, formatting)?;
-    format(&mut device, formatting.slots.get())?;
-    Ok(device)
-}
-
-/// Copies the ledger of an older device to a path, as [`format_ledger`] makes one there. The older device is found
-/// sound before anything is opened at the path, so a refusal of it leaves the path as it is. It is read alone, and let
-/// go of. If the copy is refused later, a file that this call made is removed.
-///
-/// # Errors
-/// [`CopyRefusal`], the first that holds: `Copy(Source)` comes first. After `Copy(Target)` nothing is known of the
-/// sectors of a file or a disk that was there.
-pub fn migrate_ledger<D: Device + Drop, F: DeviceFile + Drop, R: Files<File = F>>(
-    rt: &R,
-    alloc: Global,
-    old: D,
-    path: &str,
-    formatting: Formatting,
-) -> Result<DeviceOn<F>, CopyRefusal>
-    ensures enough { IfOk result (λ device. formatting.sectors ≤ device.inner.sectors) }
-    ensures needed { IfOk result (λ device.
-        39 + 4 * non_zero_u64_get formatting.slots ≤ device.inner.sectors) }
-    ensures fits { IfOk result (λ device. device.inner.sectors * 512 < 2 ^ 63) }
-    ensures source { (D.state old).honest → (refusal : OpenRefusal)
-        → result ≡ Err (CopyRefusal.Copy (MigrateRefusal.Source refusal))
-        → refusal ≢ OpenRefusal.Memory → refusal ≢ OpenRefusal.Device
-        → OldRecoveryRefuses (D.state old).reads refusal }
-    ensures sound_first { (D.state old).honest
-        → ((refusal : OpenRefusal)
-        → result ≢ Err (CopyRefusal.Copy (MigrateRefusal.Source refusal)))
-        → IsOldLedger (D.state old).reads }
-{
-    let (old, found) = read_old(alloc, old);
-    if let Err(refusal) = found {
-        return Err(CopyRefusal::Copy(MigrateRefusal::Source(refusal)));
-    }
     let (mut device, made) = device_to_format(rt, alloc, path, formatting)?;
-    let (_old, migrated) = migrate(alloc, old, &mut device, formatting.slots.get());
-    if let Err(refusal) = migrated {
-        return Err(taken_back(rt, made, refusal));
+    if let Err(refusal) = format(&mut device, formatting.slots.get()) {
+        take_back(rt, made);
+        return Err(LedgerRefusal::Format(refusal));
     }
     Ok(device)
 }
 
-/// The same of a device of the present layout, which is handed back.
-///
-/// # Errors
-/// As of [`migrate_ledger`].
-pub fn copy_ledger<D: Device, F: DeviceFile + Drop, R: Files<File = F>>(
-    rt: &R,
-    alloc: Global,
-    old: D,
-    path: &str,
-    formatting: Formatting,
-) -> (D, Result<DeviceOn<F>, CopyRefusal>)
-    ensures enough { IfOk result.1 (λ device. formatting.sectors ≤ device.inner.sectors) }
-    ensures needed { IfOk result.1 (λ device.
-        39 + 4 * non_zero_u64_get formatting.slots ≤ device.inner.sectors) }
-    ensures fits { IfOk result.1 (λ device. device.inner.sectors * 512 < 2 ^ 63) }
-    ensures call { AreCalls (D.state old) (D.state result.0)
-        (result.1 ≡ Err (CopyRefusal.Copy (MigrateRefusal.Source OpenRefusal.Device))) }
-
-    // On an honest device.
-    ensures looks { LooksOnly (D.state old) (D.state result.0) }
-    ensures source { (D.state old).honest → (refusal : OpenRefusal)
-        → result.1 ≡ Err (CopyRefusal.Copy (MigrateRefusal.Source refusal))
-        → refusal ≢ OpenRefusal.Memory → refusal ≢ OpenRefusal.Device
-        → RecoveryRefuses (D.state old).reads refusal }
-    ensures sound_first { (D.state old).honest
-        → ((refusal : OpenRefusal)
-        → result.1 ≢ Err (CopyRefusal.Copy (MigrateRefusal.Source refusal)))
-        → IsLedger (D.state old).reads }
-{
-    let old = match recover(alloc, old) {
-        Ok(found) => found.journal.into_device(),
-        Err((old, refusal)) => {
-            return (old, Err(CopyRefusal::Copy(MigrateRefusal::Source(refusal))));
-        }
-    };
-    let (mut device, made) = match device_to_format(rt, alloc, path, formatting) {
-        Ok(both) => both,
-        Err(refusal) => return (old, Err(CopyRefusal::from(refusal))),
-    };
-    let (old, copied) = copy(alloc, old, &mut device, formatting.slots.get());
-    match copied {
-        Ok(()) => (old, Ok(device)),
-        Err(refusal) => (old, Err(taken_back(rt, made, refusal))),
-    }
-}
-
-// That nothing was copied. A file that was made for the copy is removed.
-fn taken_back<F: DeviceFile + Drop, R: Files<File = F>>(
-    rt: &R,
-    made: Option<MadeFile<'_>>,
-    refusal: MigrateRefusal,
-) -> CopyRefusal
-    ensures { result ≡ CopyRefusal.Copy refusal }
-{
+/// Removes the file that was made for a ledger.
+pub(crate) fn take_back<R: Files>(rt: &R, made: Option<MadeFile<'_>>) {
     if let Some(made) = made {
         made.remove(rt);
     }
-    CopyRefusal::Copy(refusal)
 }
 
-// The device on which a ledger is to be made, and its file, if this call made it.
-fn device_to_format<'a, F: DeviceFile + Drop, R: Files<File = F>>(
+/// The device on which a ledger is to be made, and its file, if this call made it.
+pub(crate) fn device_to_format<'a, F: DeviceFile + Drop, R: Files<File = F>>(
     rt: &R,
     alloc: Global,
     path: &'a str,

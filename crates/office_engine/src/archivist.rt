@@ -14,7 +14,7 @@ use archive_engine::{
 };
 use file_device::FileNumber;
 use live_office::{CopyRefusal, Keeper, Kept, Seen};
-use office_counters::{RosterPath, read_roster, write_roster};
+use office_counters::RosterPath;
 use sector_device::Device;
 use std::alloc::{Alloc, Global};
 use std::fs;
@@ -30,9 +30,8 @@ pub(crate) struct Archivist<'a, 'r, R> {
     folder: Option<Folder<'a>>,
     // The path of the archive.
     books: Option<&'a str>,
-    // The folder of the copies, and its path.
+    // The folder of the copies.
     copies: Option<Folder<'a>>,
-    copies_at: Option<&'a str>,
     counters: &'r [CounterFolder<'a>],
     // Their stations, once they have these.
     seats: Vec<u8>,
@@ -72,7 +71,6 @@ impl<'a, 'r, R: Files<File = File> + Alloc<A = Global> + Clone + Drop> Archivist
             folder,
             books: serving.archive,
             copies,
-            copies_at: serving.copies,
             counters: serving.counters.as_slice(),
             seats: Vec::new(alloc),
             since: 0,
@@ -128,22 +126,6 @@ impl<'a, 'r, R: Files<File = File> + Alloc<A = Global> + Clone + Drop> Archivist
         }
         None
     }
-
-    // Keeps the ledger's counters beside its copy of that number, if they are kept.
-    fn copy_counters(&self, number: u64) -> bool {
-        let folder = self.copies_at.unwrap_or(".");
-        let Ok(path) = format!(in self.alloc; "{folder}/{number:020}") else {
-            return false;
-        };
-        match read_roster(self.rt, self.alloc, self.place) {
-            Ok(Some(roster)) => {
-                let place = RosterPath::Beside(path.as_str());
-                write_roster(self.rt, self.alloc, place, &roster).is_ok()
-            }
-            Ok(None) => true,
-            Err(_) => false,
-        }
-    }
 }
 
 impl<D: Device, R: Files<File = File> + Alloc<A = Global> + Clone + Drop> Keeper<D>
@@ -172,10 +154,9 @@ impl<D: Device, R: Files<File = File> + Alloc<A = Global> + Clone + Drop> Keeper
         let Some(folder) = &self.copies else {
             return (device, Err(CopyRefusal::NoFolder));
         };
-        let (device, copied) = copy_to_folder(self.rt, self.alloc, device, folder);
+        let (device, copied) = copy_to_folder(self.rt, self.alloc, device, folder, self.place);
         match copied {
-            Ok(number) if self.copy_counters(number) => (device, Ok(number)),
-            Ok(_) => (device, Err(CopyRefusal::Unwritten)),
+            Ok(number) => (device, Ok(number)),
             Err(refusal) => (device, Err(told_as(refusal))),
         }
     }

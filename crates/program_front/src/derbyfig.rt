@@ -14,7 +14,8 @@ use clap::Error;
 use console_engine::{ScriptFault, run_script};
 use file_device::{FileDevice, Locking, Making, ReadOnlyFile};
 use ledger_file::{
-    Formatting, LedgerRefusal, copy_ledger, format_ledger, migrate_ledger, open_for_script,
+    CopyPlace, CopyRefusal, Formatting, LedgerRefusal, format_ledger, open_for_copy,
+    open_for_migration, open_for_script,
 };
 use ledger_inspection::{
     BookInspection, BookTask, Inspection, check_archive, inspect_book, inspect_file,
@@ -194,20 +195,29 @@ impl<R: Files<File = File> + Alloc<A = Global> + Clock + Clone + Drop, W: Write>
 
     // Copies an older ledger.
     fn migrate_file<'a>(&mut self, copying: Copying<'a>) -> Result<(), Fault<'a>> {
-        let (path, formatting) = (copying.path, copying.formatting);
-        let older = self.opened_first(copying.old)?;
-        migrate_ledger(self.rt, self.alloc, older, path, formatting).map_err(
-            |refusal| Fault::of_migration(path, refusal),
-        )?;
-        self.take_counters_along(RosterPath::Beside(copying.old), path)?;
-        self.say(format_args!("migrated {}", formatting.slots))
+        let Copying {
+            old,
+            path,
+            formatting,
+        } = copying;
+        let older = self.opened_first(old)?;
+        let (older, opened) = open_for_migration(self.rt, self.alloc, older, path, formatting);
+        let place = opened.map_err(|refusal| Fault::of_migration(path, refusal))?;
+        let place = self.counters_first(place, RosterPath::Beside(old), path)?;
+        let is_made = place.made.is_some();
+        match place.migrate(self.rt, self.alloc, older) {
+            (_, Ok(_)) => self.say(format_args!("migrated {}", formatting.slots)),
+            (_, Err(refusal)) => {
+                self.forget_counters(is_made, path);
+                Err(Fault::of_migration(path, CopyRefusal::Copy(refusal)))
+            }
+        }
     }
 
     // Copies a ledger of the present layout.
     fn copy_file<'a>(&mut self, copying: Copying<'a>) -> Result<(), Fault<'a>> {
         let ledger = self.opened_first(copying.old)?;
-        self.copy(ledger, copying)?;
-        self.take_counters_along(RosterPath::Beside(copying.old), copying.path)?;
+        self.copy(ledger, RosterPath::Beside(copying.old), copying)?;
         self.say(format_args!("copied {}", copying.formatting.slots))
     }
 
@@ -229,30 +239,62 @@ impl<R: Files<File = File> + Alloc<A = Global> + Clock + Clone + Drop, W: Write>
     fn restore<'a>(&mut self, copying: Copying<'a>) -> Result<(), Fault<'a>> {
         let newest = open_newest(self.rt, self.alloc, copying.old)?;
         check_archive(self.rt, self.alloc, copying.old)?;
-        self.copy(newest, copying)?;
-        self.take_counters_along(RosterPath::Inside(copying.old), copying.path)?;
+        self.copy(newest, RosterPath::Inside(copying.old), copying)?;
         self.say(format_args!("restored {}", copying.formatting.slots))
     }
 
-    fn copy<'a>(&self, ledger: ReadOnlyFile, copying: Copying<'a>) -> Result<(), Fault<'a>> {
+    // Copies a ledger whose counters are kept there.
+    fn copy<'a>(
+        &self,
+        ledger: ReadOnlyFile,
+        counters: RosterPath<'a>,
+        copying: Copying<'a>,
+    ) -> Result<(), Fault<'a>> {
         let Copying {
             old,
             path,
             formatting,
         } = copying;
-        match copy_ledger(self.rt, self.alloc, ledger, path, formatting) {
+        let (ledger, opened) = open_for_copy(self.rt, self.alloc, ledger, path, formatting);
+        let place = opened.map_err(|refusal| Fault::of_copy(old, path, refusal))?;
+        let place = self.counters_first(place, counters, path)?;
+        let is_made = place.made.is_some();
+        match place.copy(self.rt, self.alloc, ledger) {
             (_, Ok(_)) => Ok(()),
-            (_, Err(refusal)) => Err(Fault::of_copy(old, path, refusal)),
+            (_, Err(refusal)) => {
+                self.forget_counters(is_made, path);
+                Err(Fault::of_copy(old, path, CopyRefusal::Copy(refusal)))
+            }
         }
     }
 
-    // The new ledger has the counters that are kept there. A disk has no file beside it.
-    fn take_counters_along<'a>(&self, from: RosterPath<'a>, new: &'a str) -> Result<(), Fault<'a>> {
+    // A new ledger has the counters that are kept there, and has them before it is one: without them an office would
+    // give their stations to others. A disk has no file beside it.
+    fn counters_first<'a>(
+        &self,
+        place: CopyPlace<'a, File>,
+        from: RosterPath<'a>,
+        new: &'a str,
+    ) -> Result<CopyPlace<'a, File>, Fault<'a>> {
         if is_disk(self.rt, new) {
-            return Ok(());
+            return Ok(place);
         }
-        take_along(self.rt, self.alloc, from, RosterPath::Beside(new))?;
-        Ok(())
+        match take_along(self.rt, self.alloc, from, RosterPath::Beside(new)) {
+            Ok(()) => Ok(place),
+            Err(fault) => {
+                let is_made = place.made.is_some();
+                place.give_up(self.rt);
+                self.forget_counters(is_made, new);
+                Err(Fault::from(fault))
+            }
+        }
+    }
+
+    // The counters of a copy that was made and removed again are removed too, as far as the system lets them.
+    fn forget_counters(&self, is_made: bool, new: &str) {
+        if is_made && !is_disk(self.rt, new) {
+            let _ = remove_roster(self.rt, self.alloc, RosterPath::Beside(new));
+        }
     }
 
     // A ledger that is to be copied, which is opened first, so that nothing is made if it isn't there.
