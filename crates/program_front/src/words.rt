@@ -142,21 +142,29 @@ fn counters<'a>(
     options: &ArgMatches<'a>,
     has_terminal: bool,
 ) -> Result<Vec<CounterFolder<'a>>, WrongWord> {
-    let mut words = texts(alloc, options, "counter")?;
-    if let Some(word) = options.get_str("control") {
-        words.push(word)?;
+    let mut counters = Vec::new(alloc);
+    for word in options.get_strs("counter").unwrap_or(&[]) {
+        add_counter(&mut counters, word, has_terminal)?;
     }
-    let mut counters: Vec<CounterFolder<'a>> = Vec::new(alloc);
-    for word in words {
-        let counter = counter(word)?;
-        if counters.iter().any(|other| other.name == counter.name)
-            || has_terminal && counter.name == TERMINAL
-        {
-            return Err(WrongWord::SameName);
-        }
-        counters.push(counter)?;
+    if let Some(word) = options.get_str("control") {
+        add_counter(&mut counters, word, has_terminal)?;
     }
     Ok(counters)
+}
+
+// Adds the counter of a word, whose name is another one than those before.
+fn add_counter<'a>(
+    counters: &mut Vec<CounterFolder<'a>>,
+    word: &'a str,
+    has_terminal: bool,
+) -> Result<(), WrongWord> {
+    let counter = counter(word)?;
+    let is_terminal = has_terminal && counter.name == TERMINAL;
+    if is_terminal || counters.iter().any(|other| other.name == counter.name) {
+        return Err(WrongWord::SameName);
+    }
+    counters.push(counter)?;
+    Ok(())
 }
 
 // The counter of a word.
