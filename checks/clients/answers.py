@@ -86,13 +86,13 @@ def answers_to_last(folder, kind):
         with FakeOffice(client.folder, {"last": told, "post": "posted 3 R"}) as office:
             ran = client.post("deposit 1 5")
         require_same(ran.status, 0, f"{what}: {ran.told}")
-        wanted = ["last", *([f"first {then}"] if is_first else []), f"deposit 1 5 {then}"]
+        wanted = ["name", "last", *([f"first {then}"] if is_first else []), f"deposit 1 5 {then}"]
         require_same(office.heard[1:], wanted, f"{what}: what was said")
 
 
 def cuts(folder, kind):
     """An office that is silent, or ends, at each request: nothing is posted, and the posting isn't begun."""
-    for row, (request, cut) in enumerate((request, cut) for request in ("hello", "last") for cut in (SILENCE, END)):
+    for row, (request, cut) in enumerate((request, cut) for request in ("hello", "name", "last") for cut in (SILENCE, END)):
         what = f"{kind}: {'silence' if cut is SILENCE else 'an end'} at {request}"
         client = Client(kind, new_counter(folder, f"{kind}_cut{row}"), folder / f"{kind}_cut{row}.state")
         ran = post_until(client, {"last": "last none", request: cut}, request)
@@ -139,6 +139,41 @@ def other_states(folder, kind):
         require_same(one.post("deposit 1 5").status, 2, f"{kind}: the first one is another one now")
 
 
+def other_counters(folder, kind):
+    """A state is of one counter of one ledger, as its office tells: at another one nothing is posted, and the counter stays
+    free for its own state."""
+    names = ("name north 42", "name north 43", "name south 42", "refused Closed")
+    for row, told in enumerate(names):
+        what = f"{kind}: {told}"
+        one, two = (new_counter(folder, f"{kind}_names{row}_{place}") for place in ("one", "two"))
+        state = folder / f"{kind}_names{row}.state"
+        with FakeOffice(one, {"last": "last none", "post": "closing", "name": names[0]}):
+            require_same(Client(kind, one, state).post("deposit 1 5").status, 3, f"{what}: the first counter")
+        with FakeOffice(two, {"last": "last none", "post": "posted 3 R", "name": told}) as office:
+            ran = Client(kind, two, state).post("deposit 1 5")
+            said = [line for line in office.heard if line.startswith("deposit")]
+            if row > 0:
+                require_same((ran.status, said), (3 if row == 3 else 2, []), f"{what}: {ran.told}")
+                require("42" in ran.told or row == 3, f"{what}: {ran.told} doesn't tell which counter it is of")
+                require_same(Client(kind, two, folder / f"{kind}_own{row}.state").post("deposit 1 5").status, 3 if row == 3 else 0,
+                             f"{what}: the counter's own state")
+            else:
+                require_same((ran.status, said), (0, ["deposit 1 5 1"]), f"{what}: {ran.told}")
+        if told.startswith("name"):
+            with FakeOffice(two, {"last": "last none", "post": "posted 3 R", "name": told}) as office:
+                require_same(Client(kind, two, state).post("deposit 1 5", takes_over=True).status, 0, f"{what}: it takes over")
+                require_same(Client(kind, two, state).post("deposit 1 5").status, 0, f"{what}: the counter is its own now")
+
+
+def offices_of_before(folder, kind):
+    """An office that knows no name: its counters are used as before."""
+    counter = new_counter(folder, f"{kind}_before")
+    client = Client(kind, counter, folder / f"{kind}_before.state")
+    for told in ("posted 3 R", "posted 4 R"):
+        with FakeOffice(counter, {"last": "last none", "post": told, "name": "wrong unknown command"}):
+            require_same(client.post("deposit 1 5").status, 0, f"{kind}: an office of before, {told}")
+
+
 def bad_states(folder, kind):
     """A state that can't be read or written: nothing is said, and it stays as it is."""
     counter = new_counter(folder, f"{kind}_bad")
@@ -155,4 +190,4 @@ def bad_states(folder, kind):
         require(held is None or state.read_text() == held, f"{kind}: the state {name} was changed")
 
 
-CASES = (answers_to_postings, answers_to_last, cuts, keys, other_states, bad_states)
+CASES = (answers_to_postings, answers_to_last, cuts, keys, other_states, other_counters, offices_of_before, bad_states)

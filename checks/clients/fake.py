@@ -45,7 +45,7 @@ class FakeOffice:
         kind = words[0] if words[0] in ("?", "hello", "last", "first", "name") else "post"
         if kind != "?":
             self.heard.append(line)
-        told = self.answers.get(kind, {"?": "wrong unknown command", "hello": line, "first": line}.get(kind))
+        told = self.answers.get(kind, {"?": "wrong unknown command", "hello": line, "first": line, "name": "name north 42"}.get(kind))
         if told is SILENCE:
             return True
         if told is END:

@@ -115,8 +115,8 @@ ROWS = [
     Row(11, 0, "transfer", "3", "1", "10", 0),
 ]
 
-HELP = ["deposit", "withdraw", "transfer", "seal", "balance", "find", "last", "first", "hello", "copy", "archive", "status", "help",
-        "close", "Accounts", "Said"]
+HELP = ["deposit", "withdraw", "transfer", "seal", "balance", "find", "last", "first", "hello", "copy", "archive", "name", "status",
+        "help", "close", "Accounts", "Said"]
 
 
 def require_closed(office, stations, turns):

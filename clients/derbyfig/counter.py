@@ -85,7 +85,7 @@ class Counter:
             self.state = dataclasses.replace(self.state, key=self.state.key or key)
         else:
             reference = self.state.reference + 1
-            self._remember(State(reference, f"{entry} {reference}", self.state.id, self.state.ledger, key=key))
+            self._remember(State(reference, f"{entry} {reference}", self.state.id, self.state.counter, key=key))
             self._say_posting()
         self._is_answered = True
         return self._deliver()
@@ -145,6 +145,7 @@ class Counter:
                 raise
             raise NoOffice(f"{self.folder}: no office has it") from error
         self._greet()
+        self._find_out()
         self._go_on()
         if self.state.begun and not self.state.answer:
             self._say_posting()
@@ -172,18 +173,34 @@ class Counter:
         except BlockingIOError as error:
             raise InUse(f"{self.folder}: another client is there") from error
 
-    # Reads the state, and finds its name in the lock's file, or writes it there where none is.
+    # Reads the state, and finds its name in the lock's file, unless none is there.
     def _take_state(self) -> None:
         assert self._lock is not None
         self.state = State.read(self.path)
         if self.takes_over:
-            self._remember(dataclasses.replace(self.state.forgotten().named(), ledger=""))
+            self._remember(dataclasses.replace(self.state.forgotten().named(), counter=""))
         elif not self.state.id:
             self._remember(self.state.named())
-        there = os.pread(self._lock, 4096, 0).decode("ascii", "replace").strip()
-        if there and there != self.state.id and not self.takes_over:
+        if self._there() not in ("", self.state.id) and not self.takes_over:
             raise OtherState(f"{self.folder}: another state is used there than {self.path}: one counter has one state")
-        if there != self.state.id:
+
+    # The name of the state that is used there.
+    def _there(self) -> str:
+        assert self._lock is not None
+        return os.pread(self._lock, 4096, 0).decode("ascii", "replace").strip()
+
+    # Finds out which counter it is, and that no other state is used there from now on. An office of before doesn't tell.
+    def _find_out(self) -> None:
+        assert self._lock is not None
+        self._say("name")
+        kind, _, told = self._hear().partition(" ")
+        if kind not in ("name", "wrong"):
+            raise self._break(NoOffice(f"{self.folder}: {kind} {told}"))
+        if kind == "name" and self.state.counter not in ("", told):
+            raise OtherState(f"{self.folder}: it is counter {told}, and {self.path} is that of {self.state.counter}")
+        if kind == "name" and not self.state.counter:
+            self._remember(dataclasses.replace(self.state, counter=told))
+        if self._there() != self.state.id:
             os.ftruncate(self._lock, 0)
             os.pwrite(self._lock, f"{self.state.id}\n".encode("ascii"), 0)
 

@@ -9,18 +9,18 @@ from pathlib import Path
 from .faults import BadState
 
 # The lines behind the first two, which have a name each; an older state has none of them.
-_NAMED = ("id", "ledger", "answer", "key", "last", "last_answer")
+_NAMED = ("id", "counter", "answer", "key", "last", "last_answer")
 
 
 @dataclasses.dataclass(frozen=True)
 class State:
     """The last reference that was used, and the posting that was begun and isn't done with; the answer to that, once it
-    came. The state's own name. The key of the last posting that had one, that posting, and its answer."""
+    came. The state's own name. Its counter's name and its ledger's number, as the office told them. The key of the last posting that had one, that posting, and its answer."""
 
     reference: int = 0
     begun: str = ""
     id: str = ""
-    ledger: str = ""
+    counter: str = ""
     answer: str = ""
     key: str = ""
     last: str = ""

@@ -54,6 +54,7 @@ is_answer (response.Copied next) = false
 is_answer (response.NoCopy refusal) = false
 is_answer (response.Standing standing) = false
 is_answer (response.NoStanding refusal) = false
+is_answer response.Name = false
 is_answer response.Closed = false
 is_answer (response.Wrong wrong) = false
 is_answer response.Help = false
@@ -84,6 +85,7 @@ judged_of (response.Copied next) = []
 judged_of (response.NoCopy refusal) = []
 judged_of (response.Standing standing) = []
 judged_of (response.NoStanding refusal) = []
+judged_of response.Name = []
 judged_of response.Closed = []
 judged_of (response.Wrong wrong) = []
 judged_of response.Help = []
@@ -108,6 +110,7 @@ posting_of (Asked (request.Hello number)) = []
 posting_of (Asked request.Copy) = []
 posting_of (Asked request.Archive) = []
 posting_of (Asked request.Status) = []
+posting_of (Asked request.Name) = []
 posting_of (Asked request.Help) = []
 posting_of (Asked request.Close) = []
 posting_of (Wrong wrong) = []
@@ -142,6 +145,7 @@ IsResponseTo (Asked request.Archive) (response.Archived next) = Unit {0}
 IsResponseTo (Asked request.Archive) response.NoArchive = Unit {0}
 IsResponseTo (Asked request.Status) (response.Standing standing) = Unit {0}
 IsResponseTo (Asked request.Status) (response.NoStanding refusal) = Unit {0}
+IsResponseTo (Asked request.Name) response.Name = Unit {0}
 IsResponseTo (Asked request.Help) response.Help = Unit {0}
 IsResponseTo (Asked request.Close) response.Closing = Unit {0}
 IsResponseTo (Wrong wrong) (response.Wrong told) = told ≡ wrong
@@ -208,11 +212,13 @@ IsLast (Ok found.LookingBack) = ⊥
 IsLast (Err refusal) = Unit {0}
 
 -- A conversation at one moment: every message that was taken from the counter's reader, every response that was handed
--- to its writer, each in order, and the entries that it asked to post and that nobody submitted.
+-- to its writer, each in order, the entries that it asked to post and that nobody submitted, and whether no question is
+-- answered any more.
 pub record ConversationState : Type 0 where
   pub said : List Message
   pub told : List Response
   pub unheard : List Entry
+  pub is_silent : Bool
 
 -- What became of the entries that a counter asked to post, in the order in which it said them: each was submitted, or
 -- it was answered otherwise, for the sake of its reference; but for the last ones, which nobody took up.

@@ -1,5 +1,5 @@
 //! What was said at a counter, and what it was told.
-ghost use Rattle.std.specs.Prelude.{◌≡◌, ◌⊎◌, ◌<◌, ◌≤◌, [], ◌∷◌, ◌++◌, length, IfOk, OnOk};
+ghost use Rattle.std.specs.Prelude.{◌≡◌, ◌⊎◌, ◌<◌, ◌≤◌, [], ◌∷◌, ◌++◌, false, length, true, IfOk, IsTrue, OnOk};
 ghost use Rattle.station_desk.specs.Rings.{FeedState};
 ghost use Rattle.live_office.specs.Conversation.{pending, posting_of, IsOther, IsOver, IsBehindUnanswered, IsToldNoMore};
 
@@ -35,6 +35,8 @@ pub struct Conversation {
     unheard: Vec<Entry>,
     recent: Recent,
     wakers: Arc<Wakers>,
+    // Whether no question is answered any more: one was left without an answer, for which the next would be taken.
+    is_silent: bool,
     // Whether the counter was told that the office closes, behind which it is told nothing.
     is_told_closing: bool,
 }
@@ -49,6 +51,7 @@ impl Model for Conversation {
       said = received c.messages;
       told = sent c.responses;
       unheard = c.unheard.items;
+      is_silent = c.is_silent;
     } };
 }
 
@@ -68,6 +71,7 @@ impl Conversation {
           said = received messages;
           told = sent responses;
           unheard = unheard.items;
+          is_silent = is_told_closing;
         } }
     {
         Conversation {
@@ -76,6 +80,7 @@ impl Conversation {
             unheard,
             recent,
             wakers,
+            is_silent: is_told_closing,
             is_told_closing,
         }
     }
@@ -123,6 +128,7 @@ impl Conversation {
     /// Answers a question that comes too late, if all before it is answered.
     pub(crate) fn refuse(&mut self, message: &Message, is_answered: bool)
         ensures over { (feed : FeedState) → IsOver feed self.old → IsOver feed self.new }
+        ensures no_more { self.old.is_silent ≡ true → self.new ≡ self.old }
         ensures silent { IsBehindUnanswered is_answered self.old.unheard
             → self.new.told ≡ self.old.told }
         ensures unheard { self.new.unheard ≡ self.old.unheard }
@@ -141,7 +147,8 @@ impl Conversation {
                 | Request::First { .. }
                 | Request::Copy
                 | Request::Archive
-                | Request::Status,
+                | Request::Status
+                | Request::Name,
             ) => self.tell(Response::Closed),
             Message::Asked(Request::Hello { number }) => {
                 self.tell(Response::Hello { number: *number })
@@ -169,27 +176,46 @@ impl Conversation {
         ensures over { (feed : FeedState) → IsOver feed self.old → IsOver feed self.new }
         ensures told { IsToldNoMore self.old.told self.new.told }
     {
-        self.tell(Response::Closing);
+        if !self.is_told_closing {
+            self.hand_on(Response::Closing);
+        }
+        self.is_silent = true;
         self.is_told_closing = true;
     }
 
-    // Tells the counter something else than an answer, if there is a place for it.
+    // Tells the counter something else than an answer. Where there is no place for it, it is told no more of that kind.
     fn tell(&mut self, response: Response)
         requires other { IsOther response }
         ensures over { (feed : FeedState) → IsOver feed self.old → IsOver feed self.new }
-        ensures told { (self.new.told ≡ self.old.told)
-            ⊎ (self.new.told ≡ self.old.told ++ response ∷ []) }
+        ensures no_more { self.old.is_silent ≡ true → self.new ≡ self.old }
+        ensures told { (self.new.told ≡ self.old.told ++ response ∷ [])
+            ⊎ ((self.new.told ≡ self.old.told) × (self.new.is_silent ≡ true)) }
         ensures unheard { self.new.unheard ≡ self.old.unheard }
     {
-        if self.is_told_closing {
+        if self.is_silent {
             return;
         }
+        if !self.hand_on(response) {
+            self.is_silent = true;
+        }
+    }
+
+    // Hands a response that is no answer to the counter's writer, if there is a place for it.
+    fn hand_on(&mut self, response: Response) -> bool
+        requires other { IsOther response }
+        ensures over { (feed : FeedState) → IsOver feed self.old → IsOver feed self.new }
+        ensures told { IsTrue result → self.new.told ≡ self.old.told ++ response ∷ [] }
+        ensures untold { result ≡ false → self.new.told ≡ self.old.told }
+        ensures unheard { self.new.unheard ≡ self.old.unheard }
+        ensures silent { self.new.is_silent ≡ self.old.is_silent }
+    {
         match self.responses.push(response) {
             Ok(()) => {
                 self.recent.note(response);
                 self.wakers.note_given();
+                true
             }
-            Err(_) => {}
+            Err(_) => false,
         }
     }
 

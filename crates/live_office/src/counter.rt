@@ -2,6 +2,7 @@
 ghost use Rattle.std.specs.Prelude.{◌≡◌, [], IfOk};
 ghost use Rattle.rtrb.specs.Ring.{producer_capacity};
 
+use crate::identity::Identity;
 use crate::reader::Reader;
 use crate::recent::Recent;
 use crate::scheduler::Scheduler;
@@ -35,6 +36,8 @@ pub struct Counter<I: Read, O: Write> {
     pub station: u8,
     /// From the batch of this number on only offices posted: what stands before it is no counter's.
     pub since: u64,
+    /// What it is told when it asks for its name.
+    pub identity: Identity,
     /// What it says.
     pub input: I,
     /// What it is told.
@@ -80,6 +83,7 @@ pub(crate) fn begin_session<
     let Counter {
         station,
         since,
+        identity,
         input,
         output,
         kind,
@@ -94,7 +98,7 @@ pub(crate) fn begin_session<
     let wakers = new_wakers(alloc)?;
     let reader = Reader::new(input, LineCutter::new(alloc)?, said, awaits_hello);
     start_reader(rt, reader, &wakers, scheduler)?;
-    let writer = Writer::new(alloc, output, prompt, told)?;
+    let writer = Writer::new(alloc, output, prompt, identity, told)?;
     start_writer(rt, writer, &wakers, scheduler)?;
     let (recent, closes_at_end) = (Recent::new(alloc)?, kind == Kind::Terminal);
     Ok(Session::new(

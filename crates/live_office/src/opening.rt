@@ -125,7 +125,7 @@ fn seat_all<
 }
 
 // Takes out the counter of a station, if it has one.
-fn counter_of<I: Read, O: Write>(
+fn counter_of<I: Read + Drop, O: Write + Drop>(
     station: u8,
     waiting: &mut Vec<Counter<I, O>>,
 ) -> Option<Counter<I, O>>
@@ -134,7 +134,8 @@ fn counter_of<I: Read, O: Write>(
     let place = waiting
         .iter()
         .position(|counter| counter.station == station)?;
-    Some(waiting.swap_remove(place))
+    let counter = waiting.swap_remove(place);
+    (counter.station == station).then_some(counter)
 }
 
 // The session of a station, with its counter where it has one.

@@ -26,6 +26,7 @@ first R               references of this counter begin with R, if none is in sig
 hello X               the same as an answer, so that a client knows which are its own
 copy                  a copy of the ledger in the folder for copies
 archive               all batches by now go to the archive
+name                  which counter this is, and the number of its ledger
 status                how the office stands: its next batch, free slots, turns, clients, how far its archive is
 help                  these requests
 close                 the office closes
@@ -103,6 +104,8 @@ pub enum Response {
     Standing(Standing),
     /// Why that isn't told.
     NoStanding(StandingRefusal),
+    /// By what the counter is known, which its writer tells.
+    Name,
     /// The office closed before the question was answered.
     Closed,
     /// The line is no request.
@@ -194,6 +197,7 @@ impl fmt::Display for Response {
             Response::NoCopy(refusal) => write!(f, "refused {refusal:?}"),
             Response::Standing(standing) => write!(f, "{standing}"),
             Response::NoStanding(refusal) => write!(f, "refused {refusal:?}"),
+            Response::Name => f.write_str("name"),
             Response::Closed => f.write_str("refused Closed"),
             Response::Wrong(wrong) => write!(f, "wrong {wrong}"),
             Response::Help => f.write_str(REQUESTS),

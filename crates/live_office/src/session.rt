@@ -223,6 +223,7 @@ impl Session {
             Message::Asked(Request::Copy) => self.tell_copied(rt, scheduler),
             Message::Asked(Request::Archive) => self.tell_archived(rt, scheduler),
             Message::Asked(Request::Status) => self.tell_standing(rt, scheduler),
+            Message::Asked(Request::Name) => self.respond(Response::Name),
             Message::Asked(Request::Help) => self.respond(Response::Help),
             Message::Asked(Request::Close) => self.close(scheduler),
             Message::Wrong(wrong) => self.respond(Response::Wrong(wrong)),

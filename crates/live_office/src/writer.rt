@@ -1,4 +1,5 @@
 //! The thread that writes what a counter is told.
+use crate::identity::Identity;
 use crate::responses::Response;
 use crate::scheduler::Scheduler;
 use crate::wakers::Wakers;
@@ -23,6 +24,7 @@ pub(crate) struct Writer<O: Write> {
     output: O,
     // What is written where a counter may say its next line.
     prompt: &'static str,
+    identity: Identity,
     text: String,
     responses: Consumer<Response>,
     // Whether the stream has failed. Then nothing is written any more.
@@ -35,11 +37,13 @@ impl<O: Write + Drop> Writer<O> {
         alloc: Global,
         output: O,
         prompt: &'static str,
+        identity: Identity,
         responses: Consumer<Response>,
     ) -> Result<Writer<O>, AllocError> {
         Ok(Writer {
             output,
             prompt,
+            identity,
             text: String::with_capacity(alloc, FULL + LONGEST)?,
             responses,
             has_failed: false,
@@ -73,11 +77,19 @@ impl<O: Write + Drop> Writer<O> {
                 break;
             };
             count = count.saturating_add(1);
-            if writeln!(self.text, "{response}").is_err() {
+            if self.add(response).is_err() {
                 self.write(NO_MEMORY);
             }
         }
         count
+    }
+
+    // Adds the line of a response, or its lines, to what is gathered.
+    fn add(&mut self, response: Response) -> Result<(), AllocError> {
+        match response {
+            Response::Name => writeln!(self.text, "name {}", self.identity),
+            response => writeln!(self.text, "{response}"),
+        }
     }
 
     // Writes what is gathered, and the prompt.

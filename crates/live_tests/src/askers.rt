@@ -1,7 +1,7 @@
 //! Two counters that ask at the same time.
 use crate::counters::are_told;
 use crate::keepers::Sample;
-use live_office::{Closed, Counter, Kind, keep_open};
+use live_office::{Closed, Counter, Identity, Kind, keep_open};
 use office_day::Clerk;
 use sector_device::MemoryDevice;
 use std::alloc::{AllocError, Global};
@@ -104,6 +104,7 @@ impl Write for Told {
 // A counter that says these lines, and is told by a pipe; what it is told first lies there until the other one was told
 // so many lines.
 fn counter_of(
+    alloc: Global,
     station: u8,
     (lines, awaited): (&'static [Line], u64),
     pipe: PipeWriter,
@@ -124,6 +125,7 @@ fn counter_of(
     Ok(Counter {
         station,
         since: 0,
+        identity: Identity::nobody(alloc),
         input,
         output,
         kind: Kind::Pipes,
@@ -153,8 +155,8 @@ fn both_asked<R: Abort + Files + Threads + Wait + Clock + Sync + Send + Clone + 
     let told = Arc::new(alloc, AtomicU64::new(0))?;
     let other_told = Arc::new(alloc, AtomicU64::new(0))?;
     let counters = vec![in alloc;
-        counter_of(0, (lines, awaited), first_pipe, &told, &other_told)?,
-        counter_of(1, (others, 0), second_pipe, &other_told, &told)?,
+        counter_of(alloc, 0, (lines, awaited), first_pipe, &told, &other_told)?,
+        counter_of(alloc, 1, (others, 0), second_pipe, &other_told, &told)?,
     ]?;
     let keeper = Sample { copies: 0 };
     let line = line([0, 0], [1, 0])?;

@@ -1,7 +1,7 @@
 //! Counters of an office in memory.
 use crate::keepers::Sample;
 use fault_injector::{OneFault, Op};
-use live_office::{Closed, Counter, Kind, keep_open};
+use live_office::{Closed, Counter, Identity, Kind, keep_open};
 use office_day::{End, Line};
 use sector_device::MemoryDevice;
 use std::alloc::Global;
@@ -56,6 +56,7 @@ fn in_pieces(said: &'static [u8]) -> InPieces {
 
 const REQUESTS: &[u8] = b"\
 status
+name
 last
 deposit 1 500 7
 balance 1
@@ -93,6 +94,7 @@ deposit 1 1
 
 const RESPONSES: &[u8] = b"\
 office next 0 free 4 turns 0 clients 2 archived none
+name north 42
 last none
 posted 0 7
 balance 1 500
@@ -158,6 +160,10 @@ pub(crate) fn kept_since<
     let counter = Counter {
         station: 0,
         since,
+        identity: Identity {
+            name: "north".to_owned(alloc).or(Err("no memory for a name"))?,
+            ledger: 42,
+        },
         input,
         output,
         kind: Kind::Pipes,

@@ -15,12 +15,12 @@ use four_state::{Line, MOST_STATIONS};
 use journal_recovery::{Recovered, recover};
 use ledger_file::{FileDevice, Formatting, format_ledger, open_ledger};
 use live_office::{
-    Closed, Conversation, Counter, Entry, Kept, Kind, are_threads_granted, keep_open,
+    Closed, Conversation, Counter, Entry, Identity, Kept, Kind, are_threads_granted, keep_open,
 };
 use office_day::{End, StationDay, TurnRefusal};
 use script_streams::{Output, StreamFault};
 use sector_device::Device;
-use std::alloc::Global;
+use std::alloc::{AllocError, Global};
 use std::fs::{File, Files};
 use std::io::{Read, Write};
 
@@ -77,58 +77,73 @@ pub fn serve<
     let archivist = Archivist::open(rt, alloc, serving)?;
     let mut output = Output::new(alloc, writer)?;
     let device = open_device(rt, alloc, serving, plan.formatting, &mut output)?;
-    let office = Unopened { device, counters };
-    serve_on(
-        rt,
-        alloc,
-        serving,
-        plan.stations,
-        office,
-        archivist,
-        &mut output,
-    )
+    let office = ready_office(rt, alloc, serving, plan.stations, device, archivist)?;
+    keep_on(rt, alloc, office, counters, &mut output)
 }
 
-// What an office is opened on.
+// What an office is opened on, and who keeps its archive.
 #[derive(Drop)]
-struct Unopened<I: Read, O: Write> {
-    device: FileDevice,
-    counters: Vec<AnyCounter<I, O>>,
+struct Ready<'a, 'r, R> {
+    ledger: Opened<FileDevice>,
+    seating: Seating<'a>,
+    archivist: Archivist<'a, 'r, R>,
+    stations: u64,
+    // How many turns a span has.
+    moves: u64,
 }
 
-// The same on an open device, for counters whose pipes are open.
-fn serve_on<
+// Brings the archive up to the ledger on the device, and gives each counter its station.
+fn ready_office<'a, 'r, R: Runtime>(
+    rt: &'r R,
+    alloc: Global,
+    serving: &'r Serving<'a>,
+    planned: u64,
+    device: FileDevice,
+    mut archivist: Archivist<'a, 'r, R>,
+) -> Result<Ready<'a, 'r, R>, OfficeFault<'a>> {
+    let (device, _) = archivist.add(device)?;
+    let ledger = look_at(alloc, serving.path, device)?;
+    let seating = Seating::begin(rt, alloc, serving, ledger.next)?;
+    let stations = seating.stations(planned);
+    if !are_threads_granted(rt, alloc, stations, seating.seats.len())? {
+        return Err(OfficeFault::Threads);
+    }
+    archivist.learn(&seating)?;
+    let moves = turns_of_span(ledger.slots, serving.archive.is_some());
+    Ok(Ready {
+        ledger,
+        seating,
+        archivist,
+        stations,
+        moves,
+    })
+}
+
+// Keeps the office open until it is closed.
+fn keep_on<
     'a,
-    'r,
     R: Runtime,
     I: Read + Send + Drop + 'static,
     O: Write + Send + Drop + 'static,
     W: Write,
 >(
-    rt: &'r R,
+    rt: &R,
     alloc: Global,
-    serving: &'r Serving<'a>,
-    stations: u64,
-    office: Unopened<I, O>,
-    mut archivist: Archivist<'a, 'r, R>,
+    office: Ready<'a, '_, R>,
+    counters: Vec<AnyCounter<I, O>>,
     output: &mut Output<'_, W>,
 ) -> Result<(), OfficeFault<'a>> {
-    let Unopened { device, counters } = office;
-    let (device, _) = archivist.add(device)?;
-    let opened = look_at(alloc, serving.path, device)?;
-    let mut seating = Seating::begin(rt, alloc, serving, opened.next)?;
-    let stations = seating.stations(stations);
-    if !are_threads_granted(rt, alloc, stations, counters.len())? {
-        return Err(OfficeFault::Threads);
-    }
-    archivist.learn(&seating)?;
-    let counters = seated(counters, &seating);
-    let (next, total) = (opened.next, opened.total);
-    output.line(format_args!("opened {stations} next {next} total {total}"))?;
-    output.flush()?;
-    let line = first_line(stations)?;
-    let moves = turns_of_span(opened.slots, serving.archive.is_some());
-    match keep_open(rt, alloc, opened.device, line, counters, moves, archivist) {
+    tell_opened(&office, output)?;
+    let line = first_line(office.stations)?;
+    let Ready {
+        ledger,
+        mut seating,
+        archivist,
+        moves,
+        ..
+    } = office;
+    let counters = seated(alloc, counters, &seating)?;
+    match keep_open(rt, alloc, ledger.device, line, counters, moves, archivist) {
         Ok((closed, archivist)) => {
             let next = closed.clerk.next();
             let _device = end(closed, archivist, output)?;
@@ -138,17 +153,30 @@ fn serve_on<
     }
 }
 
+// Tells that the office is open.
+fn tell_opened<R, W: Write>(
+    office: &Ready<'_, '_, R>,
+    output: &mut Output<'_, W>,
+) -> Result<(), StreamFault> {
+    let Opened { next, total, .. } = office.ledger;
+    let stations = office.stations;
+    output.line(format_args!("opened {stations} next {next} total {total}"))?;
+    output.flush()
+}
+
 // The counters at their stations.
-fn seated<I: Read, O: Write>(
+fn seated<I: Read + Drop, O: Write + Drop>(
+    alloc: Global,
     counters: Vec<AnyCounter<I, O>>,
     seating: &Seating<'_>,
-) -> Vec<AnyCounter<I, O>> {
+) -> Result<Vec<AnyCounter<I, O>>, AllocError> {
     let mut counters = counters;
     for (counter, station) in counters.iter_mut().zip(seating.seats.iter()) {
         counter.station = *station;
         counter.since = seating.since();
+        counter.identity = seating.identity(alloc, *station)?;
     }
-    counters
+    Ok(counters)
 }
 
 // Tells how the office ended, and adds to its archive what that lacks. The device comes back of one that ended well.
@@ -182,17 +210,21 @@ fn open_counters<'a, R: Files<File = File>, I: Read + Drop, O: Write + Drop>(
         let counter = open_counter(rt, alloc, folder, serving.hello, &mut opened)?;
         counters.push(counter).or(Err(OfficeFault::Memory))?;
     }
-    if serving.terminal && counters.push(terminal_counter(terminal)).is_err() {
+    if serving.terminal && counters.push(terminal_counter(alloc, terminal)).is_err() {
         return Err(OfficeFault::Memory);
     }
     Ok(counters)
 }
 
-fn terminal_counter<I: Read, O: Write>(terminal: Terminal<I, O>) -> AnyCounter<I, O> {
+fn terminal_counter<I: Read, O: Write>(
+    alloc: Global,
+    terminal: Terminal<I, O>,
+) -> AnyCounter<I, O> {
     let Terminal { input, output } = terminal;
     Counter {
         station: 0,
         since: 0,
+        identity: Identity::nobody(alloc),
         input: Source::Terminal(input),
         output: Target::Terminal(output),
         kind: Kind::Terminal,
@@ -213,6 +245,7 @@ fn open_counter<'a, R: Files<File = File>, I: Read, O: Write>(
     Ok(Counter {
         station: 0,
         since: 0,
+        identity: Identity::nobody(alloc),
         input: Source::Pipe(input),
         output: Target::Pipe(output),
         kind: Kind::Pipes,

@@ -2,10 +2,11 @@
 use crate::faults::OfficeFault;
 use crate::serving::Serving;
 use crate::standing::own_number;
+use live_office::Identity;
 use office_counters::{
     CountersFault, Left, Roster, RosterFault, RosterPath, is_disk, read_roster, write_roster,
 };
-use std::alloc::Global;
+use std::alloc::{AllocError, Global};
 use std::fs::{File, Files};
 use std::time::Clock;
 
@@ -55,6 +56,18 @@ impl<'a> Seating<'a> {
     /// From which batch on only offices posted.
     pub(crate) fn since(&self) -> u64 {
         self.roster.since()
+    }
+
+    /// By what the counter of a station is known.
+    pub(crate) fn identity(&self, alloc: Global, station: u8) -> Result<Identity, AllocError> {
+        let ledger = self.roster.ledger();
+        match self.roster.names().get(station as usize) {
+            Some(name) => Ok(Identity {
+                name: name.as_str().to_owned(alloc)?,
+                ledger,
+            }),
+            None => Ok(Identity::nobody(alloc)),
+        }
     }
 
     /// Keeps the same counters in an archive.

@@ -70,6 +70,10 @@ pub status_told : (words : List Word) → request_fault (codes "status" ∷ word
 unfolding request_fault
 status_told words = behind (codes "status") ([] ∷ []) words
 
+pub name_told : (words : List Word) → request_fault (codes "name" ∷ words) ≡ told_of_one [] words
+unfolding request_fault
+name_told words = behind (codes "name") ([] ∷ []) words
+
 pub help_told : (words : List Word) → request_fault (codes "help" ∷ words) ≡ told_of_one [] words
 unfolding request_fault
 help_told words = behind (codes "help") ([] ∷ []) words
@@ -102,6 +106,6 @@ seal_told (GivenOr line) words = behind (codes "seal") ((Account ∷ []) ∷ wit
 -- what each of the two grammars knows of its names, and that of entries
 pub ruleset commands = (format_told, open_told, turn_told, bits_told, balances_told, crash_told, day_told, fills_named)
 
-pub ruleset requests = (balance_told, find_told, last_told, first_told, hello_told, copy_told, archive_told, status_told, help_told, close_told, fills_named)
+pub ruleset requests = (balance_told, find_told, last_told, first_told, hello_told, copy_told, archive_told, status_told, name_told, help_told, close_told, fills_named)
 
 pub ruleset kinds = (deposit_told, withdraw_told, transfer_told, seal_told, entry_named)

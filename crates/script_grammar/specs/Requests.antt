@@ -8,6 +8,7 @@ use Rattle.script_grammar.specs.declared.entries.Reference.TheVariants.{GivenOr}
 use Rattle.script_grammar.specs.declared.faults.LineFault.{LineFault}
 use Rattle.script_grammar.specs.declared.requests.Request.{Request}
 use Rattle.script_grammar.specs.declared.requests.Request.TheVariants.{Post, Balance, Find, Last, First, Hello, Copy, Archive, Status, Help, Close}
+use Rattle.script_grammar.specs.declared.requests.Request.TheVariants as request
 
 -- the form of each request but entries
 abbrev pub balance_request : List Field
@@ -34,6 +35,9 @@ archive_request = Name (codes "archive") ∷ []
 abbrev pub status_request : List Field
 status_request = Name (codes "status") ∷ []
 
+abbrev pub name_request : List Field
+name_request = Name (codes "name") ∷ []
+
 abbrev pub help_request : List Field
 help_request = Name (codes "help") ∷ []
 
@@ -43,8 +47,8 @@ close_request = Name (codes "close") ∷ []
 -- the forms of a counter's lines
 abbrev pub request_forms : List (List Field)
 request_forms =
-    entries_given ++ (balance_request ∷ find_request ∷ last_request ∷ first_request ∷ hello_request ∷ copy_request ∷ archive_request ∷ status_request ∷ help_request
-    ∷ close_request ∷ [])
+    entries_given ++ (balance_request ∷ find_request ∷ last_request ∷ first_request ∷ hello_request ∷ copy_request ∷ archive_request ∷ status_request ∷ name_request
+    ∷ help_request ∷ close_request ∷ [])
 
 -- what is wrong with a counter's line of these words, the first that holds
 unfoldable pub request_fault : List (List ℕ) → Option LineFault
@@ -61,6 +65,7 @@ SpellsRequest words (Hello number) = Fills words hello_request (NumberIs number 
 SpellsRequest words Copy = Fills words copy_request []
 SpellsRequest words Archive = Fills words archive_request []
 SpellsRequest words Status = Fills words status_request []
+SpellsRequest words request.Name = Fills words name_request []
 SpellsRequest words Help = Fills words help_request []
 SpellsRequest words Close = Fills words close_request []
 

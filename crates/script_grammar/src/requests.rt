@@ -32,6 +32,8 @@ pub enum Request {
     Archive,
     /// `status`: how the office stands.
     Status,
+    /// `name`: which counter this is, and of which ledger.
+    Name,
     /// `help`: which requests there are.
     Help,
     /// `close`: the office closes.
@@ -88,6 +90,9 @@ fn read_requested(name: &[u8], words: Words<'_>) -> Result<Request, LineFault>
     } else if is(name, "status") {
         let Nothing = exactly(words)?;
         Ok(Request::Status)
+    } else if is(name, "name") {
+        let Nothing = exactly(words)?;
+        Ok(Request::Name)
     } else if is(name, "help") {
         let Nothing = exactly(words)?;
         Ok(Request::Help)

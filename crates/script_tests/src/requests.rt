@@ -24,6 +24,7 @@ fn each_request_is_read(rt: HostRuntime) {
     assert!(rt;
         request(b"help") == Some(Request::Help)
             && request(b"status") == Some(Request::Status)
+            && request(b" name ") == Some(Request::Name)
             && request(b"close") == Some(Request::Close)
     );
 }
