@@ -9,13 +9,16 @@ import sys
 
 import archives
 import coming
+import earlier
 import folders
 import kills
+import locks
 import names
 import order
 import refusals
 import retries
 import talking
+import told
 import waiting
 from office import Case, Mismatch
 
@@ -58,6 +61,20 @@ CASES = (
     retries.unknown_at_most,
     retries.out_of_sight,
     retries.in_the_archive,
+    earlier.over_several_files,
+    earlier.begun_late,
+    earlier.in_a_long_file,
+    earlier.in_many_batches_at_once,
+    earlier.amid_a_fault,
+    earlier.before_hello,
+    locks.beside_an_open_office,
+    locks.beside_who_adds_to_an_archive,
+    locks.without_locks,
+    told.exactly_as_far,
+    told.wishes_amid_others,
+    told.close_of_one_that_goes_on,
+    told.behind_what_a_killed_one_left,
+    told.what_came_late,
     names.in_any_order,
     names.refused_names,
     names.anew,
@@ -76,8 +93,8 @@ def attempt(words, name, work):
     case = Case(words.program, folder, words)
     try:
         return work(case) or 0
-    except (Mismatch, OSError, ValueError, IndexError) as told:
-        print(f"{name}: {told if isinstance(told, Mismatch) else repr(told)}")
+    except (Mismatch, OSError, ValueError, IndexError) as fault:
+        print(f"{name}: {fault if isinstance(fault, Mismatch) else repr(fault)}")
         return None
     finally:
         case.end()
