@@ -2,9 +2,10 @@
 # Gives files of every kind to turn_console and to the commands of derbyfig, and compares the bytes and the length of
 # each before and after: parts of a ledger, ledgers of earlier versions, files of other programs, files that may not
 # be opened, file systems without room, and files whose making was ended by kill -9; and where a copy is refused, also
-# a disk and what is behind a link. One line for each case, and status 1 if one fails. Words: the built turn_console,
-# the built derbyfig. Needed beside the toolchain: Python. The files are made below the folder BENCH_FOLDER, /var/tmp
-# without it.
+# a disk and what is behind a link. Compares what each command makes with a ledger's format, byte by byte, and with
+# the numbers that `check` tells of both banks. One line for each case, and status 1 if one fails. Words: the built
+# turn_console, the built derbyfig. Needed beside the toolchain: Python. The files are made below the folder
+# BENCH_FOLDER, /var/tmp without it.
 set -euo pipefail
 console=$(realpath "${1:?the first word is the built turn_console}")
 derbyfig=$(realpath "${2:?the second word is the built derbyfig}")

@@ -6,6 +6,7 @@ import sys
 
 import copies
 import holdings
+import likenesses
 import makings
 import parts
 from programs import Mismatch, Programs
@@ -30,6 +31,11 @@ CASES = (
     copies.of_earlier_versions,
     copies.that_are_refused,
     copies.that_leave_the_new_file,
+    likenesses.by_copy,
+    likenesses.by_a_counter,
+    likenesses.by_archive_and_restore,
+    likenesses.by_migrate,
+    likenesses.by_format,
 )
 
 
