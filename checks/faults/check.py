@@ -4,6 +4,7 @@ import sys
 
 import exports
 import makings
+import names
 import offices
 import sources
 from failing import Failing, Mismatch
@@ -14,6 +15,8 @@ CASES = (
     makings.over_what_is_there,
     makings.of_an_archive,
     makings.that_cant_be_told,
+    names.of_a_file_that_cant_be_read,
+    names.of_what_has_the_name_by_then,
     sources.that_cant_be_read,
     sources.without_memory,
     offices.of_copies,

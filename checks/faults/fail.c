@@ -3,8 +3,8 @@
    FAIL_ERROR the number of the error. Counted are the calls on what lies under the folder FAIL_UNDER; of those that print,
    each on standard output; and of requests for memory those behind the first opening under that folder. With the kind
    `change` no call fails: before that reading of a file under the folder, its byte at CHANGE_AT becomes another one, or
-   the file ends there if CHANGE_CUTS is set. A line on file descriptor 9 names the file of
-   a call that fails, or `memory`, or `standard output`. */
+   the file ends there if CHANGE_CUTS is set. What is at FAIL_PUTS gets the name of the file of the call that fails. A line
+   on file descriptor 9 names the file of a call that fails, or `memory`, or `standard output`. */
 #define _GNU_SOURCE
 #include <dlfcn.h>
 #include <errno.h>
@@ -39,6 +39,8 @@ static bool fails(const char *kind, const char *path) {
     long at = number("FAIL_AT", 0), made = atomic_fetch_add(&calls, 1) + 1;
     if (made < at || made >= at + number("FAIL_COUNT", 1)) return false;
     if (syscall(SYS_write, 9, path, strlen(path)) < 0 || syscall(SYS_write, 9, "\n", 1) < 0) abort();
+    const char *other = getenv("FAIL_PUTS");
+    if (other && (syscall(SYS_unlink, path) != 0 || syscall(SYS_rename, other, path) != 0)) abort();
     errno = number("FAIL_ERROR", EIO);
     return true;
 }

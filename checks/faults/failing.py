@@ -45,8 +45,8 @@ class Run:
 
 @dataclasses.dataclass(frozen=True)
 class Fault:
-    """Calls that fail: of which kind, the number of the first, how many, and by which error. Or a change of the file at
-    that byte, before the reading of that number."""
+    """Calls that fail: of which kind, the number of the first, how many, and by which error; and what then gets the name of
+    the file. Or a change of the file at that byte, before the reading of that number."""
 
     kind: str
     at: int = 1
@@ -54,10 +54,12 @@ class Fault:
     error: int = errno.EIO
     changes: int = 0
     cuts: bool = False
+    puts: str = ""
 
     def environment(self, under):
         words = {"FAIL_KIND": self.kind, "FAIL_AT": self.at, "FAIL_COUNT": self.count, "FAIL_ERROR": self.error,
-                 "FAIL_UNDER": under, "CHANGE_AT": self.changes, **({"CHANGE_CUTS": "yes"} if self.cuts else {})}
+                 "FAIL_UNDER": under, "CHANGE_AT": self.changes, **({"CHANGE_CUTS": "yes"} if self.cuts else {}),
+                 **({"FAIL_PUTS": self.puts} if self.puts else {})}
         return {name: str(word) for name, word in words.items()}
 
     def __str__(self):

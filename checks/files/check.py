@@ -5,6 +5,7 @@ import random
 import sys
 
 import copies
+import erasures
 import holdings
 import likenesses
 import makings
@@ -36,6 +37,10 @@ CASES = (
     likenesses.by_archive_and_restore,
     likenesses.by_migrate,
     likenesses.by_format,
+    erasures.of_what_a_disk_holds,
+    erasures.of_who_uses_a_disk,
+    erasures.of_files_that_begin_with_zeros,
+    erasures.of_real_disks,
 )
 
 
