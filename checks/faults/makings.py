@@ -105,7 +105,7 @@ def require_left(making, run, before, made, wanted, of):
         require_same(made.get(ledger) == wanted[ledger], True, f"the ledger behind {of}")
     elif ledger not in before and not making.stays:
         require_same(sorted(made), [], f"what is left behind {of}")
-    elif "grow 1 " in of:
+    elif ("grow 1 " in of or "write 1 " in of) and len(before.get(ledger, b"")) < len(wanted[ledger]):
         require_same(made == before, True, f"what couldn't grow, behind {of}")
     require_same(len(made.get(ledger, b"")) % 512, 0, f"a part of a sector behind {of}")
 
