@@ -10,6 +10,9 @@ from ledgers import first_layout, make
 FAULTS = (Fault("write", error=errno.ENOSPC), Fault("sync"), Fault("grow", error=errno.ENOSPC), Fault("rename"),
           Fault("grow", error=errno.ENOSPC, count=2), Fault("remove", error=errno.EACCES))
 
+# What a file system answers that has no room for a file, or for one so long.
+NO_ROOM = (errno.ENOSPC, errno.EFBIG, errno.EDQUOT)
+
 UNFINISHED = "it holds an unfinished ledger, or another program's file; --overwrite takes it"
 LEDGER = "it holds a ledger already, which stays as it is"
 
@@ -149,6 +152,20 @@ def of_an_archive(failing):
     """`archive`: the files that are there keep their bytes, and a new one is whole once it has its name."""
     prepare(failing)
     try_making(failing, ARCHIVE)
+
+
+def that_have_no_room(failing):
+    """Where a file can't grow, that is what is told of it, whatever is made."""
+    prepare(failing)
+    told = "its file system has no room for it; make room, or take another path"
+    for making in (FORMAT, COPY, MIGRATE, RESTORE, ARCHIVE):
+        path = target_of(failing, making) / ("ledger" if making.target == "new" else "unfinished")
+        for error in NO_ROOM:
+            for kind in ("grow", "write"):
+                failing.anew()
+                run = failing.run(words_of(failing, making), Fault(kind, error=error), target_of(failing, making))
+                require_same(run.ended(), (3, "", f"{path}: {told}"), f"{making}, {kind} with {errno.errorcode[error]}")
+                require_same(path.exists(), False, f"the file behind {making}")
 
 
 def that_cant_be_told(failing):

@@ -60,6 +60,25 @@ def is_of_counters(run):
     return ".counters" in run.failed or run.failed.endswith("/new")
 
 
+def of_copies_without_memory(failing):
+    """Each request for memory is refused in turn from the copy's file on: the copy is made, or refused and not there, and
+    made then."""
+    prepare(failing)
+    words = words_of(failing, COPIES)
+    require_same(failing.run(words, said=COPIED).status, 0, "the office")
+    wanted = split(failing, COPIES)[0]
+    for this, run in failing.each(words, Fault("memory", error=errno.ENOMEM), target_of(failing, COPIES) / "unfinished", COPIED):
+        of = f"a copy, {this}"
+        made, told = split(failing, COPIES)[0], answers(run)
+        if run.status == 3:
+            require(run.told == "" or "memory" in run.told or "thread" in run.told, f"{of}: {run}")
+            require(made.get(NAME) in (None, wanted[NAME]), f"a part of a copy behind {of}")
+            continue
+        require_same((run.status, run.told, told[-1:]), (0, "", ["closing"]), f"{of}: {told}")
+        require(f"copied {NEXT}" in told or "refused Unwritten" in told, f"{of}: {told}")
+        require_same(made.get(NAME) == wanted[NAME], True, f"the copy behind {of}: {told}")
+
+
 def of_an_archive(failing):
     """An office whose archive can't be written ends with status 3 and says why; its files are whole, and what was told as
     posted is archived by the next one."""
