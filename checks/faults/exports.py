@@ -73,8 +73,13 @@ def that_cant_be_read(failing):
 
 
 def at_a_full_output(failing):
-    """The output is full from each writing on."""
+    """The output is full from each writing on, or at one alone, so that what comes behind it would hide the gap."""
     ledger, books = prepare(failing)
+    once = Fault("print", error=errno.ENOSPC)
+    for words in journals(ledger):
+        whole = failing.done(*words)
+        for this, run in failing.each(words, once, path_of(failing.folder)):
+            require_begun(run, whole, ("write failed",), f"{words[:4]}, {this}")
     full = Fault("print", error=errno.ENOSPC, count=ALL)
     for words in (*journals(ledger), *journals(books, ("table", "csv"))):
         each_part(failing, words, full, ("write failed",), 2)
