@@ -20,18 +20,17 @@ LEDGER = "it holds a ledger already, which stays as it is"
 @dataclasses.dataclass(frozen=True)
 class Making:
     """A command, the lines that it may print once it is done, and the folder in which it makes something. `TARGET` stands
-    for the path of that folder. `stays` says that a file which the command made isn't removed if it can't be written."""
+    for the path of that folder."""
 
     words: tuple
     done: tuple
     target: str = "new"
-    stays: bool = False
 
     def __str__(self):
         return " ".join(self.words)
 
 
-FORMAT = Making(("format", "TARGET/ledger", "--slots", "1"), ("formatted 1\n",), stays=True)
+FORMAT = Making(("format", "TARGET/ledger", "--slots", "1"), ("formatted 1\n",))
 COPY = Making(("copy", "old", "TARGET/ledger", "--slots", "1"), ("copied 1\n",))
 MIGRATE = Making(("migrate", "older", "TARGET/ledger", "--slots", "1"), ("migrated 1\n",))
 RESTORE = Making(("restore", "books", "TARGET/ledger", "--slots", "1"), ("restored 1\n",))
@@ -106,7 +105,7 @@ def require_left(making, run, before, made, wanted, of):
             require(is_whole, f"{name} behind {of}")
     elif "/ledger.counters: " in run.told:
         require_same(made.get(ledger) == wanted[ledger], True, f"the ledger behind {of}")
-    elif ledger not in before and not making.stays:
+    elif ledger not in before:
         require_same(sorted(made), [], f"what is left behind {of}")
     elif ("grow 1 " in of or "write 1 " in of) and len(before.get(ledger, b"")) < len(wanted[ledger]):
         require_same(made == before, True, f"what couldn't grow, behind {of}")
@@ -114,12 +113,12 @@ def require_left(making, run, before, made, wanted, of):
 
 
 def require_repeated(failing, making, before, wanted, of):
-    """That the same command does it once nothing fails. A file that was there, or that isn't removed, is taken with
-    --overwrite; and so is a whole ledger whose counters are missing."""
+    """That the same command does it once nothing fails. A file that was there is taken with --overwrite, and so is a whole
+    ledger whose counters are missing."""
     words = words_of(failing, making)
     run = failing.run(words)
     if run.status == 1 and run.told.endswith((UNFINISHED, LEDGER)):
-        may_stay = making.stays or "new/ledger" in before or split(failing, making)[0].get("new/ledger") == wanted[0]["new/ledger"]
+        may_stay = "new/ledger" in before or split(failing, making)[0].get("new/ledger") == wanted[0]["new/ledger"]
         require(may_stay, f"{making} again, behind {of}: {run}")
         run = failing.run([*words, "--overwrite"])
     require((run.status, run.told) == (0, "") and run.printed in making.done, f"{making} again, behind {of}: {run}")
@@ -127,7 +126,7 @@ def require_repeated(failing, making, before, wanted, of):
 
 
 def of_a_new_ledger(failing):
-    """`format`, where nothing is."""
+    """`format`, where nothing is: nothing is left."""
     prepare(failing)
     try_making(failing, FORMAT)
 

@@ -25,8 +25,8 @@ def answers(run):
 
 
 def of_copies(failing):
-    """A counter's copy that fails is told so, the office goes on, and the next one is made. If only the counters can't be
-    written, the copy stays."""
+    """A counter's copy that fails is told so and nothing is left of it, the office goes on, and the next one is made. If only
+    the counters can't be written, the copy stays."""
     prepare(failing)
     words = words_of(failing, COPIES)
     run = failing.run(words, said=COPIED)
@@ -51,13 +51,13 @@ def require_copied(failing, run, wanted, of):
     if second == f"copied {NEXT}":
         require_same(made == wanted, True, f"what is made behind {of}: {sorted(made)}")
     else:
-        require(second == "refused Occupied" and is_of_counters(run), f"{of}: {first}, {second}")
+        require(second == "refused Occupied" and is_of_counters(run, made), f"{of}: {first}, {second}")
         require_same(made[NAME] == wanted[NAME], True, f"the copy behind {of}")
 
 
-def is_of_counters(run):
-    """Whether what failed is the writing of a copy's counters, or the sync of the folder that has both names."""
-    return ".counters" in run.failed or run.failed.endswith("/new")
+def is_of_counters(run, made):
+    """Whether what failed is the writing of a copy's counters, or the sync that makes their name durable."""
+    return ".counters" in run.failed or f"{NAME}.counters" in made
 
 
 def of_copies_without_memory(failing):
