@@ -6,7 +6,8 @@
 # newest file is damaged; where it came to the same balances by other batches; of what a run left unfinished; and
 # where each request for memory is refused in turn. Looks under strace in what order a file is written, synced and
 # named. Reads the folder as one ledger, alone and with the live one behind it, and compares that with the list; takes
-# a file of it away, cuts it and exchanges it; exports it day by day; and restores a ledger from it, beside a copy.
+# a file of it away, cuts it and exchanges it; exports it day by day, from each record on; and restores a ledger from it,
+# beside a copy. Prints sealed accounts that hold nothing, in each format, and compares that byte by byte.
 # What is exported is read by `hledger` too, if that is on the machine. One line for each case, and status 1 if one
 # fails. Words: the built derbyfig. Needed beside the toolchain: Python and `strace`. The files are made below the
 # folder BENCH_FOLDER, /var/tmp without it.

@@ -7,6 +7,7 @@ import subprocess
 import sys
 from pathlib import Path
 
+import exports
 from books import Ledger, Mismatch, Said, Shelf, require_same
 
 # How many times the ledger is archived, and how many of these runs are killed first.
@@ -401,7 +402,7 @@ def no_memory(shelf):
 
 CASES = (each_posting, a_second_run, both_banks, a_gap, another_ledger, another_order, what_was_left, a_folder_of_another, no_folder,
          a_damaged_file, a_copy, an_order, no_memory, a_book, a_late_book, no_book, an_export, a_restored_ledger, what_isnt_restored,
-         a_book_without_memory)
+         a_book_without_memory, exports.sealed_and_empty, exports.from_each_record_on)
 
 
 def main():

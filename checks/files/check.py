@@ -6,7 +6,9 @@ import sys
 
 import copies
 import counters
+import erasures
 import holdings
+import likenesses
 import makings
 import parts
 from programs import Mismatch, Programs
@@ -34,6 +36,15 @@ CASES = (
     counters.before_a_copy_is_a_ledger,
     counters.of_a_refused_copy,
     counters.of_nobody,
+    likenesses.by_copy,
+    likenesses.by_a_counter,
+    likenesses.by_archive_and_restore,
+    likenesses.by_migrate,
+    likenesses.by_format,
+    erasures.of_what_a_disk_holds,
+    erasures.of_who_uses_a_disk,
+    erasures.of_files_that_begin_with_zeros,
+    erasures.of_real_disks,
 )
 
 

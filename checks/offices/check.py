@@ -15,6 +15,7 @@ import kills
 import locks
 import names
 import order
+import pieces
 import refusals
 import retries
 import talking
@@ -35,6 +36,10 @@ CASES = (
     coming.tells_how_it_stands,
     coming.close_amid_postings,
     coming.many_stations,
+    pieces.said_at_a_counter,
+    pieces.said_at_a_terminal,
+    pieces.read_from_a_script,
+    pieces.left_by_another_client,
     refusals.counters_that_are_none,
     refusals.a_ledger_that_is_there,
     refusals.wrong_words,

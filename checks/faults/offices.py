@@ -1,0 +1,110 @@
+"""Copies and archives that an office makes while calls fail."""
+import dataclasses
+import errno
+
+from failing import Fault, contents, require, require_same
+from makings import FAULTS, Making, prepare, split, target_of, words_of
+
+COPIES = Making(("serve", "old", "--terminal", "--copies", "TARGET"), ())
+ARCHIVING = Making(("serve", "old", "--terminal", "--archive", "TARGET"), (), target="books")
+
+# What the terminal says: the second copy is the repetition of the first one.
+COPIED = "copy\ncopy\nbalance 5\nclose\n"
+ARCHIVED = "first 100\ndeposit 6 7 100\narchive\nclose\n"
+
+# The next batch of the ledger that is copied.
+NEXT = 3
+NAME = f"new/{NEXT:020}"
+
+
+def answers(run):
+    """The answers to what the terminal said, between the lines of the opening and of the end."""
+    lines = run.printed.replace("office> ", "").splitlines()
+    end = next((at for at, line in enumerate(lines) if line.startswith("closed after ")), len(lines))
+    return lines[1:end]
+
+
+def of_copies(failing):
+    """A counter's copy that fails is told so and nothing is left of it, the office goes on, and the next one is made. If only
+    the counters can't be written, the copy stays."""
+    prepare(failing)
+    words = words_of(failing, COPIES)
+    run = failing.run(words, said=COPIED)
+    require_same((run.status, answers(run)), (0, [f"copied {NEXT}", "refused Occupied", "balance 5 6", "closing"]), "the office")
+    wanted, tried = split(failing, COPIES)[0], 0
+    for fault in FAULTS:
+        for this, run in failing.each(words, fault, target_of(failing, COPIES), COPIED):
+            tried += 1
+            require_copied(failing, run, wanted, f"a copy, {this}, of {run.failed}")
+    require(tried > 20, f"so few calls as {tried}")
+
+
+def require_copied(failing, run, wanted, of):
+    """That the office isn't opened, and says why, or the first copy is refused and the second one made."""
+    made = split(failing, COPIES)[0]
+    if run.status == 3:
+        told = f"{target_of(failing, COPIES)}: no file can be made in it"
+        require_same((run.told, run.printed), (told, ""), of)
+        return
+    first, second, *rest = answers(run)
+    require_same((run.status, run.told, first, rest), (0, "", "refused Unwritten", ["balance 5 6", "closing"]), of)
+    if second == f"copied {NEXT}":
+        require_same(made == wanted, True, f"what is made behind {of}: {sorted(made)}")
+    else:
+        require(second == "refused Occupied" and is_of_counters(run, made), f"{of}: {first}, {second}")
+        require_same(made[NAME] == wanted[NAME], True, f"the copy behind {of}")
+
+
+def is_of_counters(run, made):
+    """Whether what failed is the writing of a copy's counters, or the sync that makes their name durable."""
+    return ".counters" in run.failed or f"{NAME}.counters" in made
+
+
+def of_copies_without_memory(failing):
+    """Each request for memory is refused in turn from the copy's file on: the copy is made, or refused and not there, and
+    made then."""
+    prepare(failing)
+    words = words_of(failing, COPIES)
+    require_same(failing.run(words, said=COPIED).status, 0, "the office")
+    wanted = split(failing, COPIES)[0]
+    for this, run in failing.each(words, Fault("memory", error=errno.ENOMEM), target_of(failing, COPIES) / "unfinished", COPIED):
+        of = f"a copy, {this}"
+        made, told = split(failing, COPIES)[0], answers(run)
+        if run.status == 3:
+            require(run.told == "" or "memory" in run.told or "thread" in run.told, f"{of}: {run}")
+            require(made.get(NAME) in (None, wanted[NAME]), f"a part of a copy behind {of}")
+            continue
+        require_same((run.status, run.told, told[-1:]), (0, "", ["closing"]), f"{of}: {told}")
+        require(f"copied {NEXT}" in told or "refused Unwritten" in told, f"{of}: {told}")
+        require_same(made.get(NAME) == wanted[NAME], True, f"the copy behind {of}: {told}")
+
+
+def of_an_archive(failing):
+    """An office whose archive can't be written ends with status 3 and says why; its files are whole, and what was told as
+    posted is archived by the next one."""
+    prepare(failing)
+    failing.done("archive", "old", "books")
+    failing.keep()
+    words = words_of(failing, ARCHIVING)
+    before = split(failing, ARCHIVING)[0]
+    for fault in (Fault("sync"), Fault("grow", error=errno.ENOSPC), Fault("rename"), Fault("write", at=24)):
+        for this, run in failing.each(words, fault, target_of(failing, ARCHIVING), ARCHIVED):
+            of = f"an office with an archive, {this}, of {run.failed}"
+            target = str(target_of(failing, ARCHIVING))
+            is_told = run.told.startswith(target) and "\n" not in run.told
+            require((run.status, is_told, "archived 4" in run.printed.splitlines()[-1:]) == (3, True, False), f"{of}: {run}")
+            made = split(failing, ARCHIVING)[0]
+            kept = {name: made.get(name) for name in before if name != "books/counters"}
+            require_same(kept == {name: before[name] for name in kept}, True, f"the files of the archive behind {of}")
+            require_goes_on(failing, words, "posted" in run.printed, of)
+
+
+def require_goes_on(failing, words, was_posted, of):
+    """That the next office has what was posted, and that its archive has it."""
+    run = failing.run(words, said=ARCHIVED)
+    first = "refused Reference 100" if was_posted else answers(run)[0]
+    told = (0, "", [first, "posted 3 100", "archived 4", "closing"])
+    require_same((run.status, run.told, answers(run)), told, f"the office behind {of}")
+    listed = failing.done("journal", "books", "old", "--reference", "100", "--as", "csv").splitlines()
+    require_same(len([line for line in listed if ",deposit," in line]), 1, f"the posting behind {of}, posted: {was_posted}")
+    require("unfinished" not in contents(failing.folder / "books"), f"what is left behind {of}")
