@@ -34,7 +34,8 @@ done
 [ -r "$system" ] || missing "no $system"
 [ "$(id -u)" = 0 ] || missing "it isn't root who runs it"
 unshare --mount --uts --ipc --pid --cgroup --net --fork true 2> /dev/null || missing "no namespace can be made"
-cgroup=$(findmnt --noheadings --first-only --types cgroup2 --output TARGET)/derbyfig_service.$$
+cgroups=$(findmnt --noheadings --first-only --types cgroup2 --output TARGET) || missing "no cgroup2 is mounted"
+cgroup=$cgroups/derbyfig_service.$$
 mkdir "$cgroup" 2> /dev/null || missing "no cgroup can be made"
 
 work=$(mktemp -d "${BENCH_FOLDER:-/var/tmp}/service.XXXXXX")
