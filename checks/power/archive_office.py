@@ -10,7 +10,8 @@ COUNT = 5
 SLOTS = 4
 
 # How many postings a round has, and among how many syncs and names of files is the one before which its office is killed.
-POSTINGS, CALLS = 30, 30
+# A round makes more than twenty.
+POSTINGS, CALLS = 30, 20
 
 
 def said(number):
