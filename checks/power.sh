@@ -6,8 +6,9 @@
 # machine's disk are logged, on ext4, on ext4 with data=journal, on a disk without a file system, and, as root, on xfs; and
 # out of each log thousands of crashes are made, which keep what was flushed and of the rest what chance leaves. The
 # ledger is opened, and compared with what had been told by then: turns of a script, answers of counters, copies, what was
-# archived. Beside each stands a control with a fault made on purpose, which has to lose: no syncs, every second one
-# skipped, barrier=0, a disk that keeps no flush, one that tears blocks of 4,096 bytes.
+# archived, also by programs that were killed and started again. Beside each stands a control with a fault made on purpose,
+# which has to lose: no syncs, every second one skipped, none of the archive's, barrier=0, a disk that keeps no flush, one
+# that tears blocks of 4,096 bytes.
 #
 # Words: the built turn_console, the built derbyfig, and those of checks/power/check.py, as --times 5 and --seed 2. Needed:
 # Python, a C compiler, and the Debian packages that it names if they aren't there; then the last line is `skipped: ..`.

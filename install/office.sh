@@ -48,8 +48,10 @@ await() {
     done
 }
 
-# What was asked before is answered first.
+# What was asked before is answered first. systemd says stop behind an office that has ended by itself too: then it has no
+# process any more, and was closed, or systemd knows how it ended.
 stop() {
+    [ -n "${MAINPID:-}" ] || exit 0
     exec derbyfig close "$counters/control"
 }
 

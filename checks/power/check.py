@@ -19,6 +19,7 @@ import counters
 import cuts
 import disks
 import initramfs
+from here import HereKit
 from machine import Kit, end_if_told, with_accelerator
 from recordings import record
 from replays import Programs, replay
@@ -58,7 +59,10 @@ class Run:
     def __init__(self, words):
         self.words, self.report, self.recordings = words, Report(), {}
         self.programs = Programs(words.console, words.derbyfig)
-        self.kit = with_accelerator(self.kit_of(words), disks.plain(self.blank()))
+        if words.here:
+            self.kit = HereKit(words.folder, words.derbyfig, words.console, words.preload)
+        else:
+            self.kit = with_accelerator(self.kit_of(words), disks.plain(self.blank()))
 
     def kit_of(self, words):
         target = words.folder / "initramfs"
@@ -76,7 +80,7 @@ class Run:
     def record(self, rows):
         """Makes the recordings of these rows, each once, some of them at the same time."""
         wanted = dict.fromkeys(row.recorded() for row in rows)
-        with concurrent.futures.ThreadPoolExecutor(os.cpu_count()) as pool:
+        with concurrent.futures.ThreadPoolExecutor(self.words.processes) as pool:
             for number, key in enumerate(wanted):
                 layout, work, preload = key
                 wanted[key] = pool.submit(record, self.kit, f"recording_{number}", layout, work(), preload)
@@ -84,15 +88,17 @@ class Run:
 
     def replay(self, row):
         recording = self.recordings[row.recorded()]
-        count = row.count if row.loses or row.layout == disks.XFS else row.count * self.words.times
-        outcome = replay(recording, row.kind, count, self.words.seed, self.programs)
+        is_fixed = row.loses or row.layout == disks.XFS
+        count = int(row.count * (min(1, self.words.times) if is_fixed else self.words.times))
+        outcome = replay(recording, row.kind, count, self.words.seed, self.programs, self.words.processes)
         self.report.row(row, outcome, told_in(recording))
 
     def cut(self):
         """Makes the cuts, several series of them at the same time, and tells each as a row."""
-        with concurrent.futures.ThreadPoolExecutor(os.cpu_count()) as pool:
-            made = [pool.submit(self.series, number, row) for number, row in enumerate(CUTS)]
-            for row, series in zip(CUTS, made):
+        with concurrent.futures.ThreadPoolExecutor(self.words.processes) as pool:
+            rows = [row for row in CUTS if self.words.rows in row.told()]
+            made = [pool.submit(self.series, number, row) for number, row in enumerate(rows)]
+            for row, series in zip(rows, made):
                 self.report.row(row, *series.result())
 
     def series(self, number, row):
@@ -104,6 +110,7 @@ class Run:
         """Makes the recordings, and crashes out of them."""
         why = without_xfs()
         rows = [row for row in ROWS + CONTROLS + MEASURED if row.layout != disks.XFS or not why]
+        rows = [row for row in rows if self.words.rows in row.told()]
         for row in rows:
             self.kit.state_for(row.layout.size())
         self.record(rows)
@@ -146,10 +153,17 @@ def parsed():
         is_program = name in ("console", "derbyfig", "busybox")
         parser.add_argument(name, type=str if is_program else pathlib.Path, help=told)
     parser.add_argument("--seed", type=int, default=1)
-    parser.add_argument("--times", type=int, default=1, help="so many times as many crashes, but for xfs and controls")
+    parser.add_argument("--times", type=float, default=1,
+                        help="so many times as many crashes; xfs and controls never have more")
     parser.add_argument("--only", default="", choices=("cut", "crash"), help="the cuts alone, or what is recorded")
+    parser.add_argument("--here", action="store_true", help="with --only crash: record by this system, without machines")
+    parser.add_argument("--rows", default="", help="only rows whose first two cells have this in them, as archivings")
+    parser.add_argument("--processes", type=int, default=os.cpu_count(), help="so many machines or crashes at a time")
     parser.add_argument("--cuts", type=int, default=1, help="so many times as many cuts")
-    return parser.parse_args()
+    words = parser.parse_args()
+    if words.here and words.only != "crash":
+        parser.error("--here needs --only crash")
+    return words
 
 
 def main():

@@ -1,6 +1,7 @@
 """Disks of a machine, and where on them the files of a ledger lie."""
 import dataclasses
 import re
+import shutil
 import subprocess
 
 from rounds import Mismatch
@@ -108,11 +109,25 @@ class Image:
             raise Mismatch(f"there is no {name}")
         return target
 
-    def take_unmounted(self, name, target):
-        """By e2fsck and debugfs, which need no root."""
+    def tree(self, name):
+        """The path of a folder on the disk, taken out of its ext4 with all that lies in it."""
+        target = self.folder / name
+        shutil.rmtree(target, ignore_errors=True)
+        self.replay()
+        run(["debugfs", "-R", f"rdump /{name} {self.folder}", self.disk])
+        if not target.is_dir():
+            raise Mismatch(f"there is no folder {name}")
+        return target
+
+    def replay(self):
+        """Replays the journal of its ext4, which needs no root."""
         if not self.is_replayed:
             run(["e2fsck", "-fy", "-E", "journal_only", self.disk], ok=(0, 1))
             self.is_replayed = True
+
+    def take_unmounted(self, name, target):
+        """By e2fsck and debugfs, which need no root."""
+        self.replay()
         run(["debugfs", "-R", f"dump /{name} {target}", self.disk])
 
     def take_by_mount(self, name, target):

@@ -40,6 +40,11 @@ class Kit:
             blank.unlink()
         return state
 
+    def on(self, disk, log=None):
+        """A machine that has booted, with this disk, whose writes and flushes may be logged."""
+        words = disks.logged(disk, log) if log else disks.plain(disk)
+        return Machine(self, words, state=self.state_for(disk.stat().st_size))
+
     def names(self):
         return "agent", "bytes", *self.ports
 

@@ -5,7 +5,6 @@ import pathlib
 import shutil
 
 import disks
-from machine import Machine
 
 
 @dataclasses.dataclass
@@ -37,14 +36,14 @@ def record(kit, name, layout, work, preload=""):
     folder.mkdir()
     base, live, log = folder / "base", folder / "live", folder / "log"
     layout.make(base)
-    with Machine(kit, disks.plain(base), state=kit.state_for(layout.size())) as machine:
+    with kit.on(base) as machine:
         layout.mount(machine)
         work.prepare(machine, layout)
         layout.unmount(machine)
     shutil.copyfile(base, live)
     log.touch()
     recording = Recording(layout, work, folder)
-    with Machine(kit, disks.logged(live, log), state=kit.state_for(layout.size())) as machine:
+    with kit.on(live, log) as machine:
         layout.mount(machine)
         work.work(machine, layout, preload, lambda what: recording.tellings.append((log.stat().st_size, what)))
         machine.cut()

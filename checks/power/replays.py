@@ -4,7 +4,6 @@ import collections
 import concurrent.futures
 import dataclasses
 import multiprocessing
-import os
 import pathlib
 import random
 import re
@@ -24,8 +23,16 @@ class Programs:
     def script(self, path, script, by):
         """What a script on a ledger prints."""
         words = [self.console, "--device", path] if by == "console" else [self.derbyfig, "run", path]
-        done = subprocess.run(words, input=script, stdout=subprocess.PIPE, stderr=subprocess.STDOUT, check=False)
-        return done.stdout
+        return self.run(words, script)[1]
+
+    def derbyfig_run(self, words, said):
+        """How derbyfig ends that hears this, and what it prints."""
+        return self.run([self.derbyfig, *words], said)
+
+    @staticmethod
+    def run(words, said):
+        done = subprocess.run(words, input=said, stdout=subprocess.PIPE, stderr=subprocess.STDOUT, check=False)
+        return done.returncode, done.stdout
 
 
 @dataclasses.dataclass
@@ -95,9 +102,8 @@ def share(recording, kind, numbers, seed, programs):
     return outcome
 
 
-def replay(recording, kind, count, seed, programs):
-    """So many crashes, by as many processes as there are processors."""
-    processes = os.cpu_count()
+def replay(recording, kind, count, seed, programs, processes):
+    """So many crashes, by so many processes."""
     outcome = Outcome()
     with concurrent.futures.ProcessPoolExecutor(processes, multiprocessing.get_context("fork")) as pool:
         shares = [pool.submit(share, recording, kind, range(first, count, processes), seed, programs)

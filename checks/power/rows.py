@@ -3,14 +3,16 @@ import dataclasses
 
 import crashes
 import disks
-from archiving import Archiving
+from archive_office import ArchiveOffice
+from archiving import Archiving, KilledArchiving
 from copying import Copying
 from counters import Counters
 from disks import EXT4, JOURNALED, RAW, UNFLUSHED, XFS
 from turns import Turns
 
-# What stands before a program's words so that it skips its syncs, all of them, or every second one.
-ALL, EVEN, ODD = (f"UNSYNCED={which} LD_PRELOAD=/lib/unsynced.so " for which in ("all", "0/2", "1/2"))
+# What stands before a program's words so that it skips its syncs: all of them, every second one, or those of some files.
+ALL, EVEN, ODD, OF_ARCHIVE, OF_LEDGER = (
+    f"UNSYNCED={which} LD_PRELOAD=/lib/unsynced.so " for which in ("all", "0/2", "1/2", "/mnt/books", "/mnt/ledger"))
 
 
 @dataclasses.dataclass(frozen=True)
@@ -25,6 +27,9 @@ class Row:
     count: int
     preload: str = ""
     loses: bool = False
+
+    def told(self):
+        return f"{self.name}, {self.work.name}"
 
     def recorded(self):
         """What tells its recording from others."""
@@ -46,6 +51,8 @@ ROWS = (
     Row("ext4", EXT4, Counters, crashes.SECTORS, 1200),
     Row("ext4", EXT4, Copying, crashes.SECTORS, 600),
     Row("ext4", EXT4, Archiving, crashes.SECTORS, 600),
+    Row("ext4", EXT4, KilledArchiving, crashes.SECTORS, 600),
+    Row("ext4", EXT4, ArchiveOffice, crashes.SECTORS, 600),
     Row("ext4, `data=journal`", JOURNALED, Turns, crashes.SECTORS, 400),
     Row("ext4, `data=journal`", JOURNALED, Turns, crashes.TORN, 300),
     Row("ext4, `data=journal`", JOURNALED, Counters, crashes.TORN, 300),
@@ -63,6 +70,11 @@ CONTROLS = (
     Row("ext4, no syncs", EXT4, Counters, crashes.SECTORS, 200, ALL, True),
     Row("ext4, no syncs", EXT4, Copying, crashes.SECTORS, 200, ALL, True),
     Row("ext4, no syncs", EXT4, Archiving, crashes.SECTORS, 200, ALL, True),
+    Row("ext4, no syncs", EXT4, KilledArchiving, crashes.SECTORS, 200, ALL, True),
+    Row("ext4, no syncs", EXT4, ArchiveOffice, crashes.SECTORS, 200, ALL, True),
+    Row("ext4, no syncs of the archive", EXT4, KilledArchiving, crashes.SECTORS, 200, OF_ARCHIVE, True),
+    Row("ext4, no syncs of the archive", EXT4, ArchiveOffice, crashes.SECTORS, 200, OF_ARCHIVE, True),
+    Row("ext4, no syncs of the ledger", EXT4, ArchiveOffice, crashes.SECTORS, 200, OF_LEDGER, True),
     Row("ext4, every second sync, from the first, skipped", EXT4, Turns, crashes.SECTORS, 300, EVEN, True),
     Row("ext4, every second sync, from the second, skipped", EXT4, Turns, crashes.SECTORS, 300, ODD, True),
     Row("ext4, `barrier=0`", UNFLUSHED, Turns, crashes.SECTORS, 200, "", True),
