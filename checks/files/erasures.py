@@ -188,7 +188,8 @@ def of_real_disks(programs, _moments):
         subprocess.run(["mkfs.ext4", "-q", "-F", device], check=True)
         require_real(disk, NO_LEDGER, 1)
         mounted.mkdir()
-        if subprocess.run(["mount", device, str(mounted)], capture_output=True, check=False).returncode == 0:
+        # what may be written is changed by the system itself
+        if subprocess.run(["mount", "-o", "ro,noload", device, str(mounted)], capture_output=True, check=False).returncode == 0:
             try:
                 require_real(disk, IN_USE, 3, "--overwrite")
             finally:

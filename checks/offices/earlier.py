@@ -3,6 +3,7 @@ import fcntl
 import itertools
 import os
 import subprocess
+import time
 
 from office import require, require_same
 
@@ -81,6 +82,7 @@ def is_open(office):
     while office.run.poll() is None:
         if any(line.startswith("opened ") for line in office.printed()):
             return True
+        time.sleep(0.002)
     return False
 
 
