@@ -23,8 +23,8 @@ pub enum CopyRefusal {
     Device,
     /// There is a file of that name, which stays as it is: nothing was posted since the last copy, or it is another's.
     Occupied,
-    /// The copy, or the file of its counters, can't be made, written, or given its name. What was made of it is removed,
-    /// unless the system fails to take it away.
+    /// The copy, or the file of its counters, can't be made, written, or given its name. What was made of it is
+    /// removed, unless the system fails to take it away.
     Unwritten,
 }
 

@@ -9,7 +9,8 @@ use Rattle.script_grammar.proofs.requests.read_requested.Goals as goal
 -- what is told of a line of another name is told of it as an entry
 as_entry : (word : Word) (words : List Word) → (slice_index word 0 == 35) ≡ false → bytes_eq word (codes "balance") ≡ false → bytes_eq word (codes "find") ≡ false
     → bytes_eq word (codes "last") ≡ false → bytes_eq word (codes "first") ≡ false → bytes_eq word (codes "hello") ≡ false → bytes_eq word (codes "copy") ≡ false
-    → bytes_eq word (codes "archive") ≡ false → bytes_eq word (codes "status") ≡ false → bytes_eq word (codes "name") ≡ false → bytes_eq word (codes "help") ≡ false → bytes_eq word (codes "close") ≡ false
+    → bytes_eq word (codes "archive") ≡ false → bytes_eq word (codes "status") ≡ false → bytes_eq word (codes "name") ≡ false
+    → bytes_eq word (codes "help") ≡ false → bytes_eq word (codes "close") ≡ false
     → request_fault (word ∷ words) ≡ told_by entries_given (word ∷ words)
 unfolding request_fault
 as_entry word words no_comment balance find last first hello copy archive status name help close =
