@@ -195,18 +195,23 @@ impl<R: Files<File = File> + Alloc<A = Global> + Clock + Clone + Drop, W: Write>
 
     // Copies an older ledger.
     fn migrate_file<'a>(&mut self, copying: Copying<'a>) -> Result<(), Fault<'a>> {
+        let older = self.opened_first(copying.old)?;
+        self.migrate(older, copying)?;
+        self.say(format_args!("migrated {}", copying.formatting.slots))
+    }
+
+    fn migrate<'a>(&self, older: ReadOnlyFile, copying: Copying<'a>) -> Result<(), Fault<'a>> {
         let Copying {
             old,
             path,
             formatting,
         } = copying;
-        let older = self.opened_first(old)?;
         let (older, opened) = open_for_migration(self.rt, self.alloc, older, path, formatting);
         let place = opened.map_err(|refusal| Fault::of_migration(path, refusal))?;
         let place = self.counters_first(place, RosterPath::Beside(old), path)?;
         let is_made = place.made.is_some();
         match place.migrate(self.rt, self.alloc, older) {
-            (_, Ok(_)) => self.say(format_args!("migrated {}", formatting.slots)),
+            (_, Ok(_)) => Ok(()),
             (_, Err(refusal)) => {
                 self.forget_counters(is_made, path);
                 Err(Fault::of_migration(path, CopyRefusal::Copy(refusal)))
