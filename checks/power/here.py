@@ -2,6 +2,7 @@
 logs. It is faster than a machine without KVM, needs root, and has the file systems of the kernel that is there."""
 import base64
 import dataclasses
+import contextlib
 import os
 import pathlib
 import subprocess
@@ -44,7 +45,8 @@ class Here(Machine):
             programs = kit.folder / "programs"
             programs.mkdir(exist_ok=True)
             for name, program in (("derbyfig", kit.derbyfig), ("console", kit.console)):
-                if not (programs / name).exists():
+                # several are recorded at once
+                with contextlib.suppress(FileExistsError):
                     (programs / name).symlink_to(program)
             words = ["unshare", "--mount", "sh", pathlib.Path(__file__).parent / "here.sh", str(os.major(numbers)),
                      str(os.minor(numbers))]
