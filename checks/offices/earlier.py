@@ -1,6 +1,5 @@
 """What an office knows of a counter that posted long ago: its postings stand in an archive alone, or can't be seen."""
 import fcntl
-import itertools
 import os
 import subprocess
 import time
@@ -195,11 +194,37 @@ def amid_a_fault(case):
     idle, busy = case.counters(2)
     books = several_files(case, idle, busy)
     archive = ("--archive", str(books))
-    for path, number in itertools.product((case.device, ledgers(books)[0]), (1, 2, 4, 8, 16, 32)):
+    for path in (case.device, ledgers(books)[0]):
         before, kept = ledger_of(case), {path: path.read_bytes() for path in ledgers(books)}
-        strace = ("strace", "-f", "-o", str(case.folder / "trace"), "-P", str(path), "-e", f"inject=pread64:error=EIO:when={number}+")
-        require_once(case, idle, archive, strace, f"a read of {path.name} that fails, from the {number}th on")
+        opening, most = reads(case, idle, archive, path)
         put_back(case, books, kept, before)
+        for number in sorted({1, 2, opening, *range(opening + 1, most + 1)})[:20]:
+            require_once(case, idle, archive, strace(case, path, f"inject=pread64:error=EIO:when={number}+"),
+                         f"a read of {path.name} that fails, from the {number}th on")
+            put_back(case, books, kept, before)
+
+
+def strace(case, path, what):
+    """The words before an office of which the calls on that path are traced."""
+    return ("strace", "-f", "-o", str(case.folder / "trace"), "-P", str(path), "-e", what)
+
+
+def reads(case, idle, words, path):
+    """How often an office has read that file when it is open, and when it has looked for the counter's posting."""
+    def count():
+        return (case.folder / "trace").read_text().count("pread64(")
+
+    with case.office([idle], *words, before=strace(case, path, "trace=pread64")) as office:
+        require(is_open(office), f"it ends as {office.all_said()}")
+        opening = count()
+        idle.come()
+        require_same(idle.ask("last"), ["last 7 0"], "what is known")
+        idle.ask(FIRST)
+        looked = count()
+        idle.say(b"close\n")
+        office.status()
+    forget(idle)
+    return opening, looked
 
 
 def before_hello(case):
