@@ -2,9 +2,8 @@
 import fcntl
 import os
 import subprocess
-import time
 
-from office import require, require_same
+from office import await_until, require, require_same
 
 # The posting of the idle counter, and the one that it would post next.
 FIRST, NEXT = "deposit 1 5 7", "deposit 1 5 8"
@@ -78,11 +77,11 @@ def require_once(case, idle, words, before=(), around=()):
 
 def is_open(office):
     """Whether the office opens; if not, it ends."""
-    while office.run.poll() is None:
-        if any(line.startswith("opened ") for line in office.printed()):
-            return True
-        time.sleep(0.002)
-    return False
+    def found():
+        opens = any(line.startswith("opened ") for line in office.printed())
+        return (opens,) if opens or office.run.poll() is not None else None
+
+    return await_until(found, lambda: f"it neither opens nor ends, but has said {office.all_said()}")[0]
 
 
 def over_several_files(case):
