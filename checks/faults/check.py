@@ -20,6 +20,7 @@ CASES = (
     names.of_what_has_the_name_by_then,
     sources.that_cant_be_read,
     sources.without_memory,
+    offices.of_a_new_ledger,
     offices.of_copies,
     offices.of_copies_without_memory,
     offices.of_an_archive,

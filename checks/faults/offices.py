@@ -1,10 +1,11 @@
-"""Copies and archives that an office makes while calls fail."""
+"""Ledgers, copies and archives that an office makes while calls fail."""
 import dataclasses
 import errno
 
 from failing import Fault, contents, require, require_same
 from makings import FAULTS, Making, prepare, split, target_of, words_of
 
+FORMATTED = Making(("serve", "TARGET/ledger", "--terminal", "--format", "1"), ("formatted 1\n",))
 COPIES = Making(("serve", "old", "--terminal", "--copies", "TARGET"), ())
 ARCHIVING = Making(("serve", "old", "--terminal", "--archive", "TARGET"), (), target="books")
 
@@ -22,6 +23,34 @@ def answers(run):
     lines = run.printed.replace("office> ", "").splitlines()
     end = next((at for at, line in enumerate(lines) if line.startswith("closed after ")), len(lines))
     return lines[1:end]
+
+
+def of_a_new_ledger(failing):
+    """A ledger that `serve --format` doesn't tell as formatted isn't there, and the same words make it; one that it tells is
+    whole, whatever fails behind that."""
+    prepare(failing)
+    words, tried = words_of(failing, FORMATTED), 0
+    require_begun(failing.run(words, said="close\n"), "the office")
+    ledger = split(failing, FORMATTED)[0]["new/ledger"]
+    for fault in FAULTS:
+        for this, run in failing.each(words, fault, target_of(failing, FORMATTED), "close\n"):
+            of = f"a formatting office, {this}, of {run.failed}"
+            made, tried = split(failing, FORMATTED)[0], tried + 1
+            if run.printed.startswith("formatted 1\n"):
+                require_same(made.get("new/ledger") == ledger, True, f"the ledger behind {of}")
+                require_begun(failing.run(words[:-2], said="close\n"), f"the office behind {of}", ())
+            else:
+                is_told = run.told.startswith(f"{target_of(failing, FORMATTED)}/") and "\n" not in run.told
+                require((run.status, run.printed, is_told) == (3, "", True), f"{of}: {run}")
+                require_same(sorted(made), [], f"what is left behind {of}")
+                require_begun(failing.run(words, said="close\n"), f"the office behind {of}")
+    require(tried > 20, f"so few calls as {tried}")
+
+
+def require_begun(run, of, done=FORMATTED.done):
+    """That the office was opened and closed, and told first what it had done."""
+    printed = "".join((*done, "opened 2 next 0 total 0\n"))
+    require_same((run.status, run.told, run.printed[:len(printed)]), (0, "", printed), of)
 
 
 def of_copies(failing):

@@ -160,19 +160,28 @@ def of_files_that_begin_with_zeros(programs, _moments):
             require_same(kept(path) == held, True, f"a file behind {words[0]}")
 
 
-def attached(file, sectors=SECTORS):
+def attached(file, sectors):
     """A loop device over a file, if there is one for this user."""
-    file.write_bytes(bytes(512 * sectors))
+    with open(file, "wb") as made:
+        made.truncate(512 * sectors)
     if not shutil.which("losetup"):
         return None
     made = subprocess.run(["losetup", "-f", "--show", str(file)], capture_output=True, text=True, check=False)
     return made.stdout.strip() if made.returncode == 0 else None
 
 
+# What uses a real disk: the words that prepare it, those that begin to use it and those that end that. What may be written
+# meanwhile is changed by the system itself, so file systems are only read.
+USES = {
+    "ext4": (("mkfs.ext4", "-q", "-F", "DISK"), ("mount", "-o", "ro,noload", "DISK", "FOLDER"), ("umount", "FOLDER")),
+    "btrfs": (("mkfs.btrfs", "-q", "-f", "-M", "DISK"), ("mount", "-o", "ro", "DISK", "FOLDER"), ("umount", "FOLDER")),
+    "a swap": (("mkswap", "DISK"), ("swapon", "DISK"), ("swapoff", "DISK")),
+}
+
+
 def of_real_disks(programs, _moments):
-    """The same on a loop device: with a ledger, with a file system, and while that is mounted."""
-    backing, mounted = programs.folder / "backing", programs.folder / "mounted"
-    device = attached(backing, 4096)
+    """The same on loop devices: with a ledger, with file systems and a swap, and while these are in use."""
+    device = attached(programs.folder / "backing", 1 << 16)
     if not device:
         print("not tried: real disks, since there is no loop device")
         return
@@ -183,25 +192,46 @@ def of_real_disks(programs, _moments):
             file.write(ledger)
             os.fsync(file.fileno())
         require_real(disk, LEDGER, 1)
-        if not shutil.which("mkfs.ext4"):
-            return
-        subprocess.run(["mkfs.ext4", "-q", "-F", device], check=True)
-        require_real(disk, NO_LEDGER, 1)
-        mounted.mkdir()
-        # what may be written is changed by the system itself
-        if subprocess.run(["mount", "-o", "ro,noload", device, str(mounted)], capture_output=True, check=False).returncode == 0:
-            try:
-                require_real(disk, IN_USE, 3, "--overwrite")
-            finally:
-                subprocess.run(["umount", str(mounted)], check=True)
+        for name, words in USES.items():
+            require_unused(disk, name, *words)
     finally:
         subprocess.run(["losetup", "-d", device], check=True)
 
 
+def require_unused(disk, name, prepare, begin, end):
+    """That a real disk which holds this is kept, and with --overwrite too while it is used."""
+    folder = disk.programs.folder / "mounted"
+    folder.mkdir(exist_ok=True)
+
+    def done(words):
+        known = {"DISK": str(disk.path), "FOLDER": str(folder)}
+        words = [known.get(word, word) for word in words]
+        return shutil.which(words[0]) and subprocess.run(words, capture_output=True, check=False).returncode == 0
+
+    if not done(prepare):
+        print(f"not tried: a real disk with {name}")
+        return
+    require_real(disk, NO_LEDGER, 1)
+    if not done(begin):
+        print(f"not tried: a real disk in use by {name}")
+        return
+    try:
+        require_real(disk, IN_USE, 3, "--overwrite")
+    finally:
+        require_same(bool(done(end)), True, f"{name} lets go of {disk.path}")
+
+
 def require_real(disk, told, status, *more):
-    """That each command is refused on a real disk, which keeps its bytes."""
-    before = disk.path.read_bytes()
+    """That each command is refused on a real disk, which keeps its bytes; the first ones, where a system that uses it may write
+    others."""
+    count = 4096 if more else -1
+    before = bytes_of(disk.path, count)
     for words, _ in commands(disk.programs, disk.path):
         said = disk.programs.run(disk.programs.derbyfig, *map(str, words), *more, said="close\n")
         require_same(said, Said(status, "", f"{disk.path}: {told}"), f"{words[0]} on a real disk, with {more}")
-        require_same(disk.path.read_bytes() == before, True, f"a real disk behind {words[0]}, with {more}")
+        require_same(bytes_of(disk.path, count) == before, True, f"a real disk behind {words[0]}, with {more}")
+
+
+def bytes_of(path, count):
+    with open(path, "rb") as file:
+        return file.read(count)

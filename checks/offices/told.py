@@ -1,8 +1,8 @@
 """What an office, or a program that speaks to it, tells of what was done: neither more nor less than that."""
 import os
+import pathlib
 import signal
 import subprocess
-import threading
 import time
 
 from earlier import forget
@@ -44,36 +44,73 @@ def exactly_as_far(case):
     require_same(next_of(case, books), 6, "how far the archive is at the end")
 
 
-def wishes_amid_others(case):
-    """Copies, archives and the office's standing are told to each counter that asks, while others ask too and post all the
-    time."""
-    *posting, one, other = clients = case.counters(4)
+def held_by(case, **words):
+    """The environment of a program that is slowed."""
+    library = case.folder / "held.so"
+    subprocess.run(["cc", "-O1", "-Wall", "-shared", "-fPIC", "-o", library, pathlib.Path(__file__).with_name("held.c")], check=True)
+    return {**os.environ, "LD_PRELOAD": str(library), **{name: str(word) for name, word in words.items()}}
+
+
+def wishes_under_load(case):
+    """Copies, archives and the office's standing are told to each counter that asks, while another one posts faster than it is
+    answered: before all its postings are taken, and long before a span ends by itself."""
+    posting, one, other = clients = case.counters(3)
     books, copies = folders(case)
-    with case.formatted(clients, 500, "--archive", str(books), "--copies", str(copies)) as office:
+    words = ("--archive", str(books), "--copies", str(copies))
+    with case.formatted(clients, 5_000, *words, env=held_by(case, SYNCS_TAKE=2)) as office:
         office.opened(*clients)
-        ends, answers = threading.Event(), []
+        left = b"deposit 1 1\n" * 12_000
 
-        def post(client):
-            while not ends.is_set():
-                answers.append(client.ask("deposit 1 1")[0].split()[0])
+        def go_on_posting(holds):
+            nonlocal left
+            while not holds():
+                left = left[posting.try_say(left):]
+                require(left, f"before all was posted {one.heard} and {other.heard} are told")
+                for client in clients:
+                    client.listen()
 
-        threads = [threading.Thread(target=post, args=(client,)) for client in posting]
-        for thread in threads:
-            thread.start()
-        try:
-            for _ in range(6):
-                for client in (one, other):
-                    client.say(b"archive\nstatus\ncopy\n")
-                for client in (one, other):
-                    told = [line.split()[0] for line in client.hear(3)]
-                    require(told[:2] == ["archived", "office"] and told[2] in ("copied", "refused"), f"a wish is answered {told}")
-        finally:
-            ends.set()
-            for thread in threads:
-                thread.join()
-        require_same(set(answers), {"posted"}, "the answers to postings")
-        require_same(one.ask("close"), ["closing"], "the answer to close")
+        go_on_posting(lambda: posting.heard)
+        for client in (one, other):
+            client.say(b"archive\nstatus\ncopy\n")
+        go_on_posting(lambda: min(client.heard.count(b"\n") for client in (one, other)) == 3)
+        for client in (one, other):
+            told = [line.split()[0] for line in client.hear(3)]
+            require(told[:2] == ["archived", "office"] and told[2] in ("copied", "refused"), f"a wish is answered {told}")
+        require_same({line.split()[0] for line in posting.lines()}, {"posted"}, "the answers to postings")
+
+
+def wishes_amid_a_recess(case):
+    """What is asked while a copy is made, at a counter before and at one behind, is answered."""
+    before, copying, behind = clients = case.counters(3)
+    books, copies = folders(case)
+    pipe = case.folder / "held"
+    os.mkfifo(pipe)
+    held = held_by(case, HELD=copies / "unfinished", HELD_BY=pipe)
+    with case.formatted(clients, 4, "--archive", str(books), "--copies", str(copies), env=held) as office:
+        office.opened(*clients)
+        for wish, answer in (("archive", "archived 0"), ("status", "office"), ("last", "last none")):
+            copying.say(b"copy\n")
+            hold = await_until(lambda: held_at(pipe), lambda: "no copy is made")
+            for client in (before, behind):
+                client.say(wish.encode() + b"\n")
+            office.await_idle("while a copy is held")
+            os.write(hold, b".")
+            os.close(hold)
+            require_same(copying.hear(1), ["copied 0"], "the copy")
+            for client in (before, behind):
+                told, = client.hear(1)
+                require(told.startswith(answer), f"{wish} amid a copy is answered {told!r}")
+            (copies / f"{0:020}").unlink()
+        require_same(copying.ask("close"), ["closing"], "the answer to close")
         office.closed()
+
+
+def held_at(pipe):
+    """The end of the pipe by which what is held there goes on; nothing until it is held."""
+    try:
+        return os.open(pipe, os.O_WRONLY | os.O_NONBLOCK)
+    except OSError:
+        return None
 
 
 def close_of_one_that_goes_on(case):

@@ -285,6 +285,8 @@ fn open_device<'a, R: Files<File = File>, W: Write>(
     let device = opened.map_err(|refusal| OfficeFault::of_file(path, refusal))?;
     if let Some(Formatting { slots, .. }) = formatting {
         output.line(format_args!("formatted {slots}"))?;
+        // whatever keeps the office from being opened, the ledger is made
+        output.flush()?;
     }
     Ok(device)
 }
