@@ -103,8 +103,13 @@ def of_copies_without_memory(failing):
             require(run.told == "" or "memory" in run.told or "thread" in run.told, f"{of}: {run}")
             require(made.get(NAME) in (None, wanted[NAME]), f"a part of a copy behind {of}")
             continue
-        require_same((run.status, run.told, told[-1:]), (0, "", ["closing"]), f"{of}: {told}")
-        require(f"copied {NEXT}" in told or "refused Unwritten" in told, f"{of}: {told}")
+        first, second, *rest = told
+        require_same((run.status, run.told, rest), (0, "", ["balance 5 6", "closing"]), f"{of}: {told}")
+        # one request is refused: of the first copy, of the second one, or of neither
+        refused = ("refused Memory", "refused Unwritten")
+        copied = f"copied {NEXT}"
+        lawful = ("refused Occupied", *refused) if first == copied else (copied,)
+        require(first in (copied, *refused) and second in lawful, f"{of}: {told}")
         require_same(made.get(NAME) == wanted[NAME], True, f"the copy behind {of}: {told}")
 
 

@@ -71,6 +71,7 @@ CASES = (
     earlier.in_a_long_file,
     earlier.in_many_batches_at_once,
     earlier.amid_a_fault,
+    earlier.amid_a_fault_of_a_long_ledger,
     earlier.before_hello,
     locks.beside_an_open_office,
     locks.beside_who_adds_to_an_archive,

@@ -1,9 +1,11 @@
 """What an office knows of a counter that posted long ago: its postings stand in an archive alone, or can't be seen."""
+import contextlib
 import fcntl
 import os
+import pathlib
 import subprocess
 
-from office import await_until, require, require_same
+from office import Mismatch, await_until, require, require_same
 
 # The posting of the idle counter, and the one that it would post next.
 FIRST, NEXT = "deposit 1 5 7", "deposit 1 5 8"
@@ -63,16 +65,37 @@ def require_once(case, idle, words, before=(), around=()):
         if not is_open(office):
             require(office.status() in (1, 2, 3) and office.told(), f"{around}: it ends as {office.all_said()}")
             return False
-        idle.come()
-        for said, wanted in (("last", ("last 7 0", "last unknown", "refused")), (FIRST, ("refused Unknown", "refused Device"))):
-            told, = idle.ask(said)
-            require(told.startswith(wanted), f"{around}: {said} is answered {told!r}")
-        told, = idle.ask(NEXT)
-        require(not told.startswith("refused Reference"), f"{around}: {NEXT} is answered {told!r}")
-        idle.say(b"close\n")
+        try:
+            idle.come()
+        except Mismatch:  # it has ended since
+            require(office.status() in (1, 2, 3) and office.told(), f"{around}: it ends as {office.all_said()}")
+            return False
+        wanted = {"last": ("last 7 0", "last unknown", "refused"),
+                  FIRST: ("posted 0 7", "refused Unknown", "refused Device", "refused Closed")}
+        for said in (*wanted, NEXT):
+            told = answer(idle, said)
+            if told == "closing":  # the device failed
+                break
+            if said == NEXT:
+                require(not told.startswith("refused Reference"), f"{around}: {NEXT} is answered {told!r}")
+            else:
+                require(told.startswith(wanted[said]), f"{around}: {said} is answered {told!r}")
+        with contextlib.suppress(BrokenPipeError):
+            idle.say(b"close\n")
         office.status()
     forget(idle)
     return told.startswith("posted")
+
+
+def answer(client, said):
+    """The next line that is told, behind which an office that closes may tell more; "closing" of one that has closed."""
+    try:
+        client.say(said.encode() + b"\n")
+    except BrokenPipeError:
+        return "closing"
+    await_until(lambda: b"\n" in client.heard or client.listen() and b"\n" in client.heard, lambda: f"{said} isn't answered")
+    line, _, client.heard = client.heard.partition(b"\n")
+    return line.decode()
 
 
 def is_open(office):
@@ -179,11 +202,13 @@ def in_many_batches_at_once(case):
     books.mkdir()
     case.formatted_ledger(count)
     turns = "".join(f"post {at % 2} deposit {1 + at % 1_024} 1\nturn {at % 2}\n" for at in range(count))
-    run = subprocess.run([case.program, "run", case.device], input=f"open 2 00 10\n{turns}", capture_output=True, text=True, check=False)
+    script = f"open 2 00 10\n{turns}"
+    run = subprocess.run([case.program, "run", case.device], input=script, capture_output=True, text=True, check=False)
     require_same((run.returncode, run.stderr), (0, ""), "the script")
     derbyfig(case, "archive", case.device, books)
     rows = [row for path in ledgers(books) for row in case.rows(path)]
-    require_same([(row.sequence, row.target) for row in rows], [(at, str(1 + at % 1_024)) for at in range(count)], "what is archived")
+    wanted = [(at, str(1 + at % 1_024)) for at in range(count)]
+    require_same([(row.sequence, row.target) for row in rows], wanted, "what is archived")
     derbyfig(case, "check", books, case.device)
 
 
@@ -192,15 +217,48 @@ def amid_a_fault(case):
     free reference is told as used."""
     idle, busy = case.counters(2)
     books = several_files(case, idle, busy)
-    archive = ("--archive", str(books))
     for path in (case.device, ledgers(books)[0]):
-        before, kept = ledger_of(case), {path: path.read_bytes() for path in ledgers(books)}
-        opening, most = reads(case, idle, archive, path)
+        fail_each_read(case, idle, ("--archive", str(books)), path, books)
+
+
+def amid_a_fault_of_a_long_ledger(case):
+    """The same of a ledger that is too long for what is read ahead: each look reads it anew, and fails alone."""
+    idle, busy = case.counters(2)
+    books = case.folder / "books"
+    books.mkdir()
+    with case.formatted([idle, busy], 500) as office:
+        office.opened(idle, busy)
+        require_same(idle.ask(FIRST), ["posted 0 7"], "the posting of the idle counter")
+        post(busy, 499, 1)
+        close(busy, office)
+    forget(idle, busy)
+    opening, known, looked = fail_each_read(case, idle, (), case.device, books)
+    require(opening < known < looked, f"the looks read nothing: {opening}, {known}, {looked}")
+
+
+def fail_each_read(case, idle, archive, path, books):
+    """Fails the first reads of a file, and some of each look's, each with all behind it. Gives how many reads there are until the
+    office is open, until it knows what the counter posted last, and until it has judged what that says again."""
+    before, kept = ledger_of(case), {path: path.read_bytes() for path in ledgers(books)}
+    opening, known, looked = counts = reads(case, idle, archive, path)
+    put_back(case, books, kept, before)
+    # what is read of its counters, before the ledger, counts too
+    later = [*range(opening + 1, known), *range(known, looked + 8)]
+    for number in sorted({1, 2, opening, *later[::len(later) // 16 + 1]}):
+        around = f"a read of {path.name} that fails, from the {number}th on"
+        require_once(case, idle, archive, failing_reads(case, path, number), around)
         put_back(case, books, kept, before)
-        for number in sorted({1, 2, opening, *range(opening + 1, most + 1)})[:20]:
-            require_once(case, idle, archive, strace(case, path, f"inject=pread64:error=EIO:when={number}+"),
-                         f"a read of {path.name} that fails, from the {number}th on")
-            put_back(case, books, kept, before)
+    return counts
+
+
+def failing_reads(case, path, number):
+    """What lets an office's reading of that number of a file fail, in whichever thread, and all behind it."""
+    library = case.folder / "fail.so"
+    if not library.exists():
+        source = pathlib.Path(__file__).parents[1] / "faults" / "fail.c"
+        subprocess.run(["cc", "-O1", "-Wall", "-shared", "-fPIC", "-o", library, source], check=True)
+    fails = {"LD_PRELOAD": library, "FAIL_KIND": "read", "FAIL_AT": number, "FAIL_COUNT": 1 << 30, "FAIL_UNDER": path}
+    return ("env", *(f"{name}={word}" for name, word in fails.items()), "sh", "-c", 'exec "$@" 9> /dev/null', "sh")
 
 
 def strace(case, path, what):
@@ -209,7 +267,8 @@ def strace(case, path, what):
 
 
 def reads(case, idle, words, path):
-    """How often an office has read that file when it is open, and when it has looked for the counter's posting."""
+    """How often an office has read that file when it is open, when it knows what the counter posted last, and when it has judged
+    what that says again."""
     def count():
         return (case.folder / "trace").read_text().count("pread64(")
 
@@ -218,12 +277,13 @@ def reads(case, idle, words, path):
         opening = count()
         idle.come()
         require_same(idle.ask("last"), ["last 7 0"], "what is known")
+        known = count()
         idle.ask(FIRST)
         looked = count()
         idle.say(b"close\n")
         office.status()
     forget(idle)
-    return opening, looked
+    return opening, known, looked
 
 
 def before_hello(case):

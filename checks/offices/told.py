@@ -46,8 +46,8 @@ def exactly_as_far(case):
 
 def held_by(case, **words):
     """The environment of a program that is slowed."""
-    library = case.folder / "held.so"
-    subprocess.run(["cc", "-O1", "-Wall", "-shared", "-fPIC", "-o", library, pathlib.Path(__file__).with_name("held.c")], check=True)
+    library, source = case.folder / "held.so", pathlib.Path(__file__).with_name("held.c")
+    subprocess.run(["cc", "-O1", "-Wall", "-shared", "-fPIC", "-o", library, source], check=True)
     return {**os.environ, "LD_PRELOAD": str(library), **{name: str(word) for name, word in words.items()}}
 
 
