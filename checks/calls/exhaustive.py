@@ -6,12 +6,18 @@ be fast."""
 import argparse
 import sys
 
+import faults
 import stops
 from console import Console, Mismatch
 
 RUNS = (
     stops.at_each_call,
     stops.at_each_call_with_old_bytes,
+    faults.in_the_first_sync_of_a_turn,
+    faults.at_each_call,
+    faults.at_each_two_calls,
+    faults.with_a_power_loss,
+    faults.with_a_later_stop,
 )
 
 
