@@ -6,7 +6,10 @@ be fast."""
 import argparse
 import sys
 
+import changed_images
 import faults
+import images
+import replaced_bytes
 import stops
 from console import Console, Mismatch
 
@@ -18,6 +21,10 @@ RUNS = (
     faults.at_each_two_calls,
     faults.with_a_power_loss,
     faults.with_a_later_stop,
+    images.cut_short,
+    images.damaged_at_one_place,
+    replaced_bytes.each_in_two_images,
+    changed_images.at_several_places,
 )
 
 
