@@ -1,4 +1,5 @@
 """One process of call_console behind a pipe."""
+import contextlib
 import os
 import select
 import subprocess
@@ -25,6 +26,15 @@ def require_same(found, wanted, of):
         raise Mismatch(f"{of}: {found!r} and not {wanted!r}")
 
 
+@contextlib.contextmanager
+def within(of):
+    """Tells of what a mismatch in here is."""
+    try:
+        yield
+    except Mismatch as told:
+        raise Mismatch(f"{of}: {told}") from None
+
+
 def is_told(answer, wanted):
     """Whether an answer is the one that is wanted. A refusal is wanted by its name, and its text stands behind it."""
     return answer.startswith(wanted + ":") if wanted.startswith("refused ") else answer == wanted
@@ -35,7 +45,6 @@ class Console:
 
     def __init__(self, program):
         self.process = subprocess.Popen([program], stdin=subprocess.PIPE, stdout=subprocess.PIPE, bufsize=0)
-        self.heard = b""
 
     def ask(self, lines):
         """The answers to these lines, a list of texts."""

@@ -1,6 +1,6 @@
 """Courses on a device that fails once or twice and works again: they go on from what they find, to the end."""
 import course
-from console import require, require_same
+from console import require, require_same, within
 from course import CALLS, NEW, Course, count_of, course_of, is_fault, is_faulted, is_in_flight
 from power import LEAVINGS, WITH_OLD, lose_power, patterns
 
@@ -44,7 +44,7 @@ def to_the_end(console, fault):
             continue
         met = take(console, found)
         faults.append(met.met)
-    require_same(met, Course(5, ""), f"the end behind {fault}")
+    require_same(met, Course(5, ""), "the end")
     return [fault for fault in faults if fault]
 
 
@@ -53,9 +53,10 @@ def at_each_call(console, every):
     count = 0
     for kind, calls in CALLS.items():
         for at in range(0, calls, every):
-            require_same(len(to_the_end(console, f"fault once {kind} {at}")), 1, f"faults at {kind} {at}")
+            with within(f"a fault at {kind} {at}"):
+                require_same(len(to_the_end(console, f"fault once {kind} {at}")), 1, "faults that are met")
             count += 1
-        require_same(to_the_end(console, f"fault once {kind} {calls}"), [], f"faults at {kind} {calls}")
+        require_same(to_the_end(console, f"fault once {kind} {calls}"), [], f"faults at {kind} {calls}, which isn't made")
     return count
 
 
@@ -63,9 +64,10 @@ def pairs_behind(console, first, every):
     """Where both faults lie, of all pairs with this first place. From some later place on only the first fault is met."""
     met = []
     for between in range(0, 1000, every):
-        faults = to_the_end(console, f"fault twice any {first} {between}")
+        with within(f"a fault at {first}, and one behind {between} more calls"):
+            faults = to_the_end(console, f"fault twice any {first} {between}")
+            require(faults, "none is met")
         if len(faults) < 2:
-            require_same(len(faults), 1, f"faults at {first}, and {between} behind it")
             return met
         met.append(faults)
     require(False, f"a course of more than 1000 calls behind a fault at {first}")
@@ -86,9 +88,10 @@ def with_a_power_loss(console, every):
     for kind, at in [(kind, at) for kind, calls in CALLS.items() for at in range(0, calls, every)]:
         before = [*NEW, f"fault once {kind} {at}", *course.lines(0), "pending"]
         answers = console.ask(before)
-        met = course_of(answers, 0)
-        require(met.met, f"{kind} {at} is never made")
-        outcomes += lose_power(console, before, answers, met, patterns(answers[-1], LEAVINGS))
+        with within(f"a fault at {kind} {at}"):
+            met = course_of(answers, 0)
+            require(met.met, "it is never met")
+            outcomes += lose_power(console, before, answers, met, patterns(answers[-1], LEAVINGS))
     return outcomes
 
 
@@ -97,14 +100,16 @@ def stops_behind(console, first, every):
     power losses that leave the same of each sector."""
     before = [*NEW, f"fault once any {first}", *course.lines(0), course.opening(0), "close"]
     *answers, found = console.ask(before)
-    turn, outcomes = count_of(course_of(answers, 0), found), 0
+    with within(f"a fault at {first}"):
+        turn, outcomes = count_of(course_of(answers, 0), found), 0
     for at in range(0, 1000, every):
         again = [*before, f"fault stop any {at}", *course.lines(turn), "pending"]
         told = console.ask(again)
-        met = course_of(told[len(answers) + 1 :], turn)
-        if not met.met:
-            return outcomes
-        outcomes += lose_power(console, again, told, met, WITH_OLD)
+        with within(f"a fault at {first}, and a stop at call {at} of the next course"):
+            met = course_of(told[len(answers) + 1 :], turn)
+            if not met.met:
+                return outcomes
+            outcomes += lose_power(console, again, told, met, WITH_OLD)
     require(False, f"a course of more than 1000 calls behind a fault at {first}")
 
 

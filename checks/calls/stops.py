@@ -1,5 +1,5 @@
 """Courses on a device that stops at one of its calls, and then loses power."""
-from console import require_same
+from console import require_same, within
 from course import CALLS, NEW, course_of, lines
 from power import LEAVINGS, WITH_OLD, lose_power, patterns
 
@@ -12,8 +12,9 @@ def stop(console, at, leavings):
     """Stops at this call, and loses power in each way: the course, and how many ways there are."""
     before = [*NEW, f"fault stop any {at}", *lines(0), "pending"]
     answers = console.ask(before)
-    course = course_of(answers, 0)
-    return course, lose_power(console, before, answers, course, patterns(answers[-1], leavings))
+    with within(f"a stop at call {at}"):
+        course = course_of(answers, 0)
+        return course, lose_power(console, before, answers, course, patterns(answers[-1], leavings))
 
 
 def each_stop(console, leavings, every):
