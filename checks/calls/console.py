@@ -45,10 +45,16 @@ class Console:
 
     def __init__(self, program):
         self.process = subprocess.Popen([program], stdin=subprocess.PIPE, stdout=subprocess.PIPE, bufsize=0)
+        self.said = []
+
+    def say(self, lines):
+        """Says these lines, which answer nothing, before those that are asked next."""
+        self.said += lines
 
     def ask(self, lines):
         """The answers to these lines, a list of texts."""
-        return self.ask_each([lines])[0]
+        said, self.said = self.said, []
+        return self.ask_each([[*said, *lines]])[0]
 
     def ask_each(self, groups):
         """The answers to each of these groups of lines."""

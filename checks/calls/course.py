@@ -73,7 +73,7 @@ def course_of(answers, first):
         answer = answers[1 + place - first]
         if is_fault(answer):
             behind = answers[2 + place - first : 6 - first]
-            require(all(map(is_faulted, behind)), f"behind the fault: {behind}")
+            require(len(behind) == 4 - place and all(map(is_faulted, behind)), f"behind the fault: {behind}")
             return Course(place, "turn")
         require_same(answer, taken_turn(first, place), "a turn")
     return Course(5, "")
@@ -104,11 +104,10 @@ def require_stands_still(console, first, place):
     deposit is in flight and the clerk is faulted. It refuses each turn: of a station that there isn't, and of that
     one, without an entry and with too many."""
     station, taken = place % 2, place - first
-    told = console.ask(["ledger", "line", "faulted", "in_flight", "history"])
+    turns = ["turn 9", f"turn {station}", f"turn {station}" + " deposit 1 1 1" * 16]
+    told = console.ask(["in_flight", *turns, "ledger", "line", "faulted", "history"])
+    require(is_in_flight(told[0], station, AMOUNTS[place]), f"in flight: {told[0]}")
+    require(all(map(is_faulted, told[1:4])), f"turns behind a fault in turn {place}: {told[1:4]}")
     line = f"{LINES[(first % 2 + taken) % 4]} privileges 1"
-    require_same(told[:3], [shown(place), line, "true"], f"behind a fault in turn {place}")
-    require(is_in_flight(told[3], station, AMOUNTS[place]), f"in flight: {told[3]}")
-    wanted = [taken_turn(first, at) for at in range(first, place)]
-    require_same(told[4:], wanted, f"the history behind a fault in turn {place}")
-    refused = console.ask(["turn 9", f"turn {station}", f"turn {station}" + " deposit 1 1 1" * 16])
-    require(len(refused) == 3 and all(map(is_faulted, refused)), f"turns behind a fault: {refused}")
+    history = [taken_turn(first, at) for at in range(first, place)]
+    require_same(told[4:], [shown(place), line, "true", *history], f"behind a fault in turn {place}")

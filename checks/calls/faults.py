@@ -16,7 +16,7 @@ def take(console, first):
     if met.met == "turn":
         course.require_stands_still(console, first, met.acknowledged)
     if met.met != "opening":
-        console.ask(["close"])
+        console.say(["close"])
     return met
 
 
@@ -25,14 +25,14 @@ def look(console, met):
     answer, *_ = console.ask([course.opening(0)])
     if is_fault(answer):
         return None
-    console.ask(["close"])
+    console.say(["close"])
     return count_of(met, answer)
 
 
 def to_the_end(console, fault):
     """The course, and after each of two faults at most once more from what is found then, to all five batches. What is found
     is lawful each time. Where the faults lay, in order."""
-    console.ask([*NEW, fault])
+    console.say([*NEW, fault])
     met = take(console, 0)
     faults = [met.met]
     for _ in range(2):
@@ -120,7 +120,7 @@ def with_a_later_stop(console, every):
 
 def in_the_first_sync_of_a_turn(console, every):
     """A turn of three stations, whose body isn't synced: the turn is in flight, and doesn't stand."""
-    console.ask(["device 55", "format 4", "fault once sync 1"])
+    console.say(["device 55", "format 4", "fault once sync 1"])
     told = console.ask(["clerk 3 000 100", "turn 0 deposit 1 5 1", "ledger", "faulted", "in_flight", "turn 9", "turn 0", "close"])
     require_same(told[0], "next 0 total 0", "the opening")
     require(is_fault(told[1]), told[1])
