@@ -12,13 +12,14 @@ BALANCES = (0, 1, 3, 7, 15, 31)
 # The line of the two stations after 0 to 3 moves, each by the station whose turn it is; then these come again.
 LINES = ("00/10", "10/10", "11/10", "01/10")
 
-# The calls of a course, by FORMATS. Opening syncs once, and reads the superblock, both banks' gates, the head, two slots'
-# gates and the snapshot's 17 sectors. A turn writes and syncs a body, and then a gate. A checkpoint reads the other
-# bank's gate, writes its head, its snapshot and two slots' gates, syncs, and writes and syncs its gate. The second
-# checkpoint finds that gate open, and first writes it closed and syncs.
+# The calls of a course, by FORMATS: reads, writes and syncs, in order. Opening syncs once, and reads the superblock, both
+# banks' gates, the head, two slots' gates and the snapshot's 17 sectors. A turn writes and syncs a body, and then a gate.
+# A checkpoint reads the other bank's gate, writes its head, its snapshot and two slots' gates, syncs, and writes and syncs
+# its gate. The second checkpoint finds that gate open, and first writes it closed and syncs.
 SNAPSHOT = 17
-CALLS = {"read": 6 + SNAPSHOT + 1 + 1, "write": 5 * 2 + (4 + SNAPSHOT) + (5 + SNAPSHOT), "sync": 1 + 5 * 2 + 2 + 3}
-CALLS["any"] = sum(CALLS.values())
+OPENING, TURN, PREPARED = "s" + "r" * (6 + SNAPSHOT), "wsws", "w" * (1 + SNAPSHOT + 2) + "s" + "ws"
+ORDER = OPENING + TURN + TURN + "r" + PREPARED + TURN + TURN + "r" + "ws" + PREPARED + TURN
+CALLS = {"any": len(ORDER), "read": ORDER.count("r"), "write": ORDER.count("w"), "sync": ORDER.count("s")}
 
 NEW = (f"device {SECTORS}", f"format {SLOTS}")
 
