@@ -145,7 +145,8 @@ def compare(console, some, sound, count):
     for (image, differ), answers in zip(images, told, strict=True):
         wanted = reading.read(image)
         if len(answers) != 1 or not is_told(answers[0], wanted):
-            require(False, f"sectors {differ} as {[image[at].hex() for at in differ]}: {answers!r} and not {wanted!r}")
+            bytes = ", ".join(f"{at} as {image[at].hex().rstrip('0')}" for at in differ)
+            require(False, f"with the sectors {bytes}: {answers!r} and not {wanted!r}")
         kinds.add(kind_of(wanted))
     return kinds
 
