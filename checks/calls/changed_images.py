@@ -145,8 +145,8 @@ def compare(console, some, sound, count):
     for (image, differ), answers in zip(images, told, strict=True):
         wanted = reading.read(image)
         if len(answers) != 1 or not is_told(answers[0], wanted):
-            bytes = ", ".join(f"{at} as {image[at].hex().rstrip('0')}" for at in differ)
-            require(False, f"with the sectors {bytes}: {answers!r} and not {wanted!r}")
+            sectors = ", ".join(f"{at} as {image[at].rstrip(ZERO).hex() or '00'}" for at in differ)
+            require(False, f"sector {sectors}: {answers!r} and not {wanted!r}")
         kinds.add(kind_of(wanted))
     return kinds
 

@@ -121,10 +121,11 @@ def with_a_later_stop(console, every):
 def in_the_first_sync_of_a_turn(console, every):
     """A turn of three stations, whose body isn't synced: the turn is in flight, and doesn't stand."""
     console.say(["device 55", "format 4", "fault once sync 1"])
-    told = console.ask(["clerk 3 000 100", "turn 0 deposit 1 5 1", "ledger", "faulted", "in_flight", "turn 9", "turn 0", "close"])
-    require_same(told[0], "next 0 total 0", "the opening")
-    require(is_fault(told[1]), told[1])
-    require_same(told[2:4], ["next 0 total 0", "true"], "the ledger, and whether it is faulted")
-    require(is_in_flight(told[4], 0, 5) and all(map(is_faulted, told[5:])), f"behind the fault: {told[4:]}")
+    opening, turn, *told = console.ask(["clerk 3 000 100", "turn 0 deposit 1 5 1", "ledger", "line", "faulted", "in_flight",
+                                        "turn 9", "turn 0", "turn 0" + " deposit 1 1 1" * 16, "close"])
+    require(opening == "next 0 total 0" and is_fault(turn), f"the opening and the turn: {opening!r}, {turn!r}")
+    require_same(told[:3], ["next 0 total 0", "000/100 privileges 1", "true"], "what stands behind the fault")
+    require(is_in_flight(told[3], 0, 5), f"in flight: {told[3]}")
+    require(len(told) == 7 and all(map(is_faulted, told[4:])), f"turns behind the fault: {told[4:]}")
     require_same(console.ask(["recover"]), ["next 0 total 0"], "what is found")
     return 1

@@ -54,9 +54,14 @@ def make(console, scene):
 
 
 def put(at, bytes, before=ZERO):
-    """The line that puts these bytes into a sector, of which it holds others. There is none if they are the same."""
-    changed = [place for place in range(SECTOR) if bytes[place] != before[place]]
-    return [f"put {at} {changed[0]} {bytes[changed[0] : changed[-1] + 1].hex()}"] if changed else []
+    """The line that puts these bytes into a sector, of which it holds others: from the first that differs to the last.
+    There is none if they are the same."""
+    differ = int.from_bytes(bytes, "big") ^ int.from_bytes(before, "big")
+    if not differ:
+        return []
+    first = SECTOR - (differ.bit_length() + 7) // 8
+    behind = SECTOR - ((differ & -differ).bit_length() - 1) // 8
+    return [f"put {at} {first} {bytes[first:behind].hex()}"]
 
 
 def require_read_as(console, image, wanted, of):
