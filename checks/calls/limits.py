@@ -1,1 +1,85 @@
-TESTS = ()
+"""Calls beyond any number at which a body might have given up."""
+from formats import OPEN, Bank, balances, body, calls, deposit, formatting, head, opening, put, sectors, superblock
+from schedules import bits, moved, privileges
+
+TURNS = 300
+
+# How many slots a large device has in each bank, and how many of them an older one.
+SLOTS = 3000
+OLDER = 1000
+
+# How many moves a long sweep has.
+MOVES = 1000
+
+BY = ("Bottom", "Top")
+
+
+def a_clerk_takes_600_turns():
+    """The first one deposits nothing, and is refused. 299 deposit their number, and 300 more deposit 1."""
+    amounts = [*range(TURNS), *[1] * TURNS]
+    asked = ["device 2439", "format 600", "clerk 2 00 10"]
+    asked += [f"turn {number % 2} deposit 1 {amount} 1" for number, amount in enumerate(amounts)]
+    told = ["turn 0 station 0 Bottom empty ZeroAmount"]
+    told += [f"turn {number} station {number % 2} {BY[number % 2]} posted {number - 1} ok" for number in range(1, 2 * TURNS)]
+    moves = ", ".join(f"Move {{ station: {number % 2}, rule: {BY[number % 2]} }}" for number in range(2 * TURNS))
+    found = "next 599 total 45150 1=45150"
+    return ([*asked, "ledger", "history", "moves", "line", "close", "crash z", "recover"],
+            ["next 0 total 0", *told, found, *told, f"[{moves}]", "00/10 privileges 1", found])
+
+
+def many_slots_are_formatted():
+    """On a device with more sectors than they need. A head, a snapshot, the gates of the slots and of both banks, and the
+    superblock are written, and then it is synced once. Each gate of a slot was open before."""
+    gates = Bank(3, SLOTS, 0).slot_gates()
+    asked = [f"device {sectors(3, SLOTS) + 1000}", *(put(gate, OPEN) for gate in gates), f"format {SLOTS}", "calls",
+             "pending", "recover", "calls", "journal", "close"]
+    return asked, [calls(*formatting(SLOTS)), "pending []", "next 0 total 0", calls(*opening(SLOTS)),
+                   f"base, next, room (0, 0, {SLOTS})", f"bank, epoch, slots (0, 0, {SLOTS})", "faulted false"]
+
+
+def the_last_of_many_slots_is_looked_at():
+    """An open one behind a closed one is told, and a record in each of them is posted."""
+    bank = Bank(3, SLOTS, 0)
+    asked = [f"device {sectors(3, SLOTS)}", put(0, superblock(3, SLOTS)), put(1, OPEN), put(2, head(0, 0)),
+             put(bank.body(SLOTS - 1) + 1, OPEN), "recover"]
+    for slot in range(SLOTS):
+        asked += [put(bank.body(slot), body(0, slot, deposit(1, 1))), put(bank.body(slot) + 1, OPEN)]
+    asked += ["recover", "clerk 2 00 10", "turn 0 deposit 1 1 1", "line"]
+    tail = f"Damaged {{ slot: {SLOTS - 1}, cause: Tail }}: damage at {SLOTS - 1}: a slot is open behind a closed one"
+    found = f"next {SLOTS} total {SLOTS} 1={SLOTS}"
+    return asked, [f"refused {tail}", found, found, f"turn 0 station 0 Bottom posted {SLOTS} ok", "10/10 privileges 1"]
+
+
+def a_thousand_full_slots_come_over():
+    """From the second bank of a full device of layout 2 to as many slots. The other bank is open too, with epoch 0."""
+    bank, other = Bank(2, OLDER, 1), Bank(2, OLDER, 0)
+    asked = [f"device {sectors(3, OLDER)}", "other", f"device {sectors(2, OLDER)}", put(0, superblock(2, OLDER)),
+             put(bank.gate, OPEN), put(bank.head, head(1, 7)), put(bank.balances, balances(9)),
+             put(other.gate, OPEN), put(other.head, head(0, 0))]
+    for slot in range(OLDER):
+        asked += [put(bank.body(slot), body(0, 7 + slot, deposit(1, 5))), put(bank.body(slot) + 1, OPEN)]
+    asked += [f"migrate {OLDER}", "other", "recover", "journal"]
+    return asked, ["next 1007 total 5009 1=5009", f"base, next, room (1007, 1007, {OLDER})",
+                   f"bank, epoch, slots (0, 0, {OLDER})", "faulted false"]
+
+
+def sixty_four_stations_sweep_a_thousand_moves():
+    """Each move is the only privilege there."""
+    start = line = (False,) * 64, (True,) + (False,) * 63
+    moves = []
+    for _ in range(MOVES):
+        (move,) = privileges(line)
+        moves.append(f"{move[0]} {move[1]}")
+        line = moved(line, *move)
+    asked = [f"line 64 {bits(start, ' ')}", " ".join(["audit", *moves]), " ".join(["audit", *moves, moves[-1]])]
+    late = f"refused NotEnabled {{ index: {MOVES} }}: the station of move {MOVES} may not move by its rule there"
+    return asked, [f"{bits(line, '/')} privileges 1", "first legitimate Some(0)", late]
+
+
+TESTS = (
+    a_clerk_takes_600_turns,
+    many_slots_are_formatted,
+    the_last_of_many_slots_is_looked_at,
+    a_thousand_full_slots_come_over,
+    sixty_four_stations_sweep_a_thousand_moves,
+)
