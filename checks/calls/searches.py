@@ -5,6 +5,8 @@ SLOTS = 258
 STEP = 256
 END = 2**64 - 1
 
+BY = ("Bottom", "Top")
+
 FIRST, SECOND = Bank(3, SLOTS, 0), Bank(3, SLOTS, 1)
 
 
@@ -14,7 +16,7 @@ def posted(turns):
     asked = [f"device {sectors(3, SLOTS)}", f"format {SLOTS}", "clerk 2 00 10"]
     asked += [f"turn {number % 2} deposit 1 1 {number}" for number in range(turns)]
     wanted = ["next 0 total 0"]
-    wanted += [f"turn {number} station {number % 2} {('Bottom', 'Top')[number % 2]} posted {number} ok" for number in range(turns)]
+    wanted += [f"turn {number} station {number % 2} {BY[number % 2]} posted {number} ok" for number in range(turns)]
     made = formatting(SLOTS) + opening(SLOTS)
     for number in range(turns):
         slot = number % SLOTS
@@ -75,4 +77,30 @@ def a_latest_posting_is_looked_for_in_steps():
     return found(*posted(SLOTS + 1), SLOTS + 1, searches, begun + reads(*back, *looked, *looked))
 
 
-TESTS = (a_search_reads_the_records_of_its_step_alone, a_latest_posting_is_looked_for_in_steps)
+def a_step_begins_with_the_first_record_in_sight():
+    """Records have numbers from 1,000 on, and what was posted before them isn't in sight."""
+    asked = [f"device {sectors(3, SLOTS)}", f"format_with {SLOTS} 1000", "clerk 2 00 10"]
+    asked += [f"turn {number % 2} deposit 1 1 {number + 1}" for number in range(SLOTS)]
+    wanted = ["next 1000 total 0"]
+    wanted += [f"turn {number} station {number % 2} {BY[number % 2]} posted {1000 + number} ok" for number in range(SLOTS)]
+    posting = "posting: Some(Posting { number: 1254, entry: Deposit { to: 1, amount: 1, reference: 255 } })"
+    last = "posting: Some(Posting { number: 1256, entry: Deposit { to: 1, amount: 1, reference: 257 } })"
+    searches = [
+        (f"find 258 0 {END}", "Further { number: 1256, end: 1258 }"),
+        ("find 258 1256 1258", "Posted { number: 1257, end: 1258 }"),
+        (f"find 900 1256 {END}", "Nowhere(1000)"),
+        ("find 1 0 1000", "Nowhere(1000)"),
+        ("find 1 7 1001", "Posted { number: 1000, end: 1001 }"),
+        (f"latest 0 {END} 0", f"Latest {{ {posting}, reached: Further {{ began: 1000, number: 1256 }} }}"),
+        (f"latest 0 {END} 999", f"Latest {{ {posting}, reached: Further {{ began: 1000, number: 1256 }} }}"),
+        (f"latest 0 {END} 1256", f"Latest {{ {last}, reached: All {{ began: 1256, since: 1000 }} }}"),
+        (f"latest 0 {END} 1003", f"Latest {{ {last}, reached: All {{ began: 1003, since: 1000 }} }}"),
+    ]
+    return [*asked, *(line for line, _ in searches)], [*wanted, *(answer for _, answer in searches)]
+
+
+TESTS = (
+    a_search_reads_the_records_of_its_step_alone,
+    a_latest_posting_is_looked_for_in_steps,
+    a_step_begins_with_the_first_record_in_sight,
+)
