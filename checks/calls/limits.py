@@ -8,6 +8,9 @@ TURNS = 300
 SLOTS = 3000
 OLDER = 1000
 
+# How many records stand in each of two banks.
+LISTED = 300
+
 # How many moves a long sweep has.
 MOVES = 1000
 
@@ -63,6 +66,20 @@ def a_thousand_full_slots_come_over():
                    f"bank, epoch, slots (0, 0, {OLDER})", "faulted false"]
 
 
+def many_records_are_listed():
+    """Those of the bank before come first. Each is of one station, and deposits 1."""
+    first, second = Bank(3, LISTED, 0), Bank(3, LISTED, 1)
+    asked = [f"device {sectors(3, LISTED)}", put(0, superblock(3, LISTED)), put(first.gate, OPEN), put(first.head, head(0, 0)),
+             put(second.gate, OPEN), put(second.head, head(1, LISTED)), put(second.balances, balances(LISTED))]
+    wanted = [f"Numbers {{ version: 3, slots: {LISTED}, live_bank: 1, epoch: Some(1), base: {LISTED}, next: {2 * LISTED} }}",
+              f"next {2 * LISTED} total {2 * LISTED} 1={2 * LISTED}"]
+    for number in range(2 * LISTED):
+        at, slot = (first, second)[number // LISTED], number % LISTED
+        asked += [put(at.body(slot), body(number % 64, number, deposit(1, 1, number))), put(at.body(slot) + 1, OPEN)]
+        wanted += [f"record ({number}, {number % 64})", f"[Deposit {{ to: 1, amount: 1, reference: {number} }}]"]
+    return [*asked, "list"], [*wanted, "left 0"]
+
+
 def sixty_four_stations_sweep_a_thousand_moves():
     """Each move is the only privilege there."""
     start = line = (False,) * 64, (True,) + (False,) * 63
@@ -81,5 +98,6 @@ TESTS = (
     many_slots_are_formatted,
     the_last_of_many_slots_is_looked_at,
     a_thousand_full_slots_come_over,
+    many_records_are_listed,
     sixty_four_stations_sweep_a_thousand_moves,
 )
