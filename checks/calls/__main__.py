@@ -28,11 +28,13 @@ SHOWN = 60
 
 
 def texts():
-    """Each test that is a text: its name, where its output stands, what is typed, and what has to be printed."""
-    for calls in sorted(HERE.glob("*/*.calls")):
-        out = calls.with_suffix(".out")
-        name = calls.relative_to(HERE).with_suffix("")
-        yield str(name), f"checks/calls/{name}.out", calls.read_text(encoding="utf-8"), out.read_text(encoding="utf-8")
+    """Each test that is a text: its name, where its output stands, what is typed, and what has to be printed. A file
+    without the other one is an empty one beside it, so that the test fails."""
+    found = (path for path in HERE.glob("*/*.*") if path.suffix in (".calls", ".out"))
+    for name in sorted({path.relative_to(HERE).with_suffix("") for path in found}):
+        calls, out = (HERE / f"{name}{suffix}" for suffix in (".calls", ".out"))
+        typed_lines, wanted = (path.read_text(encoding="utf-8") if path.exists() else "" for path in (calls, out))
+        yield str(name), f"checks/calls/{name}.out", typed_lines, wanted
 
 
 def typed():

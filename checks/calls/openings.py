@@ -38,10 +38,12 @@ def image(layout, live=1):
 
 
 def damaged(slot, cause):
+    """The name and the text of a damage."""
     return f"Damaged {{ slot: {slot}, cause: {cause} }}", f"damage at {slot}: {CAUSES[cause]}"
 
 
 def refused(word, refusal):
+    """What is printed of a refusal with this name and text."""
     name, text = refusal
     if word == "migrate":
         return [f"refused Source({name}): the old device wasn't read: {text}"]

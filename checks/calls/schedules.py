@@ -62,14 +62,17 @@ def bits(line, between):
 
 
 def typed(line):
+    """The words that make the line."""
     return f"line {len(line[0])} {bits(line, ' ')}"
 
 
 def shown(line):
+    """What is printed of it."""
     return f"{bits(line, '/')} privileges {len(privileges(line))}"
 
 
 def told(yes):
+    """A truth value as it is printed."""
     return "true" if yes else "false"
 
 
