@@ -5,7 +5,7 @@ from schedules import bits, moved, privileges
 TURNS = 300
 
 # How many slots a large device has in each bank, and how many of them an older one.
-SLOTS = 3000
+SLOTS = 2000
 OLDER = 1000
 
 # How many records stand in each of two banks.
