@@ -1,5 +1,5 @@
 """Calls beyond any number at which a body might have given up."""
-from formats import OPEN, Bank, balances, body, calls, deposit, formatting, head, opening, put, sectors, superblock
+from formats import OPEN, Bank, balances, body, calls, deposit, formatting, head, opening, put, sectors, superblock, writes
 from schedules import bits, moved, privileges
 
 TURNS = 300
@@ -11,23 +11,27 @@ OLDER = 1000
 # How many records stand in each of two banks.
 LISTED = 300
 
+# How many records a ledger has that is made at one go.
+FILLED = 900
+
 # How many moves a long sweep has.
 MOVES = 1000
 
 BY = ("Bottom", "Top")
 
 
-def a_clerk_takes_600_turns():
-    """The first one deposits nothing, and is refused. 299 deposit their number, and 300 more deposit 1."""
-    amounts = [*range(TURNS), *[1] * TURNS]
+def a_clerk_takes_300_turns_and_a_run_of_300_events():
+    """The first turn deposits nothing, and is refused. 299 deposit their number, and the events deposit 1 each."""
     asked = ["device 2439", "format 600", "clerk 2 00 10"]
-    asked += [f"turn {number % 2} deposit 1 {amount} 1" for number, amount in enumerate(amounts)]
+    asked += [f"turn {number % 2} deposit 1 {number} 1" for number in range(TURNS)]
+    asked += ["ledger", *(f"event {number % 2} deposit 1 1 1" for number in range(TURNS)), "run"]
     told = ["turn 0 station 0 Bottom empty ZeroAmount"]
     told += [f"turn {number} station {number % 2} {BY[number % 2]} posted {number - 1} ok" for number in range(1, 2 * TURNS)]
     moves = ", ".join(f"Move {{ station: {number % 2}, rule: {BY[number % 2]} }}" for number in range(2 * TURNS))
     found = "next 599 total 45150 1=45150"
     return ([*asked, "ledger", "history", "moves", "line", "close", "crash z", "recover"],
-            ["next 0 total 0", *told, found, *told, f"[{moves}]", "00/10 privileges 1", found])
+            ["next 0 total 0", *told[:TURNS], "next 299 total 44850 1=44850", *told[TURNS:], found, *told, f"[{moves}]",
+             "00/10 privileges 1", found])
 
 
 def many_slots_are_formatted():
@@ -80,6 +84,38 @@ def many_records_are_listed():
     return [*asked, "list"], [*wanted, "left 0"]
 
 
+def filled(records, base):
+    """Lines that make a device in hand a ledger of so many records, which deposit 1 each."""
+    return [f"fill {records} {base}", *[f"put 0 1 {deposit(1, 1).hex()}"] * records, "finish"]
+
+
+def a_journal_of_many_records_is_made_with_one_sync():
+    """Each account held 9 before. The records are written behind a formatting, each with its gate."""
+    bank = Bank(3, FILLED, 0)
+    asked = [*(f"account {account} 9 0" for account in range(1, 1025)), *filled(FILLED, 70)]
+    asked += ["calls", "journal", "close", "recover"]
+    written = writes(*(at for slot in range(FILLED) for at in (bank.body(slot), bank.body(slot) + 1)))
+    held = " ".join(f"{account}=9" for account in range(2, 1025))
+    return [f"device {sectors(3, FILLED)}", *asked], [
+        calls(*formatting(FILLED)[:-1], *written, "Sync"), f"base, next, room (70, {70 + FILLED}, 0)",
+        f"bank, epoch, slots (0, 0, {FILLED})", "faulted false",
+        f"next {70 + FILLED} total {9 * 1024 + FILLED} 1={9 + FILLED} {held}"]
+
+
+def an_archive_of_many_records_goes_on_where_it_ended():
+    """The first file takes two thirds of the records, and the next one the rest."""
+    end, first = 7 + FILLED, FILLED // 3 * 2
+    rest = FILLED - first
+    asked = [f"device {sectors(3, first)}", "other", f"device {sectors(3, FILLED)}", *filled(FILLED, 7),
+             "listing", f"add {first}", "close", "other", "recover", "other",
+             "listing", "follow", "numbers", "ledger", f"add {rest}", "close", "other", "recover", "journal"]
+    return asked, [
+        f"at, end, left (7, {end}, {FILLED})", f"next {7 + first} total {first} 1={first}",
+        f"at, end, left (7, {end}, {FILLED})", f"at, end, left ({7 + first}, {end}, {rest})",
+        f"next {7 + first} total {first} 1={first}", f"next {end} total {FILLED} 1={FILLED}",
+        f"base, next, room ({7 + first}, {end}, 0)", f"bank, epoch, slots (0, 0, {rest})", "faulted false"]
+
+
 def sixty_four_stations_sweep_a_thousand_moves():
     """Each move is the only privilege there."""
     start = line = (False,) * 64, (True,) + (False,) * 63
@@ -94,10 +130,12 @@ def sixty_four_stations_sweep_a_thousand_moves():
 
 
 TESTS = (
-    a_clerk_takes_600_turns,
+    a_clerk_takes_300_turns_and_a_run_of_300_events,
     many_slots_are_formatted,
     the_last_of_many_slots_is_looked_at,
     a_thousand_full_slots_come_over,
     many_records_are_listed,
+    a_journal_of_many_records_is_made_with_one_sync,
+    an_archive_of_many_records_goes_on_where_it_ended,
     sixty_four_stations_sweep_a_thousand_moves,
 )
