@@ -13,6 +13,7 @@ from pathlib import Path
 
 import limits
 import listings
+import many_turns
 import openings
 import schedules
 import searches
@@ -20,7 +21,7 @@ import searches
 HERE = Path(__file__).resolve().parent
 
 # What types tests, and the longest that one of them may take.
-DRIVERS = (limits, listings, openings, schedules, searches)
+DRIVERS = (limits, listings, many_turns, openings, schedules, searches)
 SECONDS = 30
 
 # How many lines of a difference are shown.

@@ -93,11 +93,9 @@ def count_of(course, answer):
     require(False, f"{answer!r} is found after {course}")
 
 
-def is_in_flight(answer, station, amount):
-    """Whether this answer to `in_flight` tells one deposit of so much by this station."""
-    deposit = "Deposit { to: 1, amount: %d, reference: 1 }" % amount
-    begins = f"({station}, Some(Batch {{ entries: [{deposit}, "
-    return answer.startswith(begins) and answer.endswith("], count: 1 }))")
+def in_flight(station, amount):
+    """What is told of one deposit of so much in flight, by this station."""
+    return f"in flight ({station}, [Deposit {{ to: 1, amount: {amount}, reference: 1 }}])"
 
 
 def require_stands_still(console, first, place):
@@ -107,7 +105,7 @@ def require_stands_still(console, first, place):
     station, taken = place % 2, place - first
     turns = ["turn 9", f"turn {station}", f"turn {station}" + " deposit 1 1 1" * 16]
     told = console.ask(["in_flight", *turns, "ledger", "line", "faulted", "history"])
-    require(is_in_flight(told[0], station, AMOUNTS[place]), f"in flight: {told[0]}")
+    require_same(told[0], in_flight(station, AMOUNTS[place]), f"in flight behind turn {place}")
     require(all(map(is_faulted, told[1:4])), f"turns behind a fault in turn {place}: {told[1:4]}")
     line = f"{LINES[(first % 2 + taken) % 4]} privileges 1"
     history = [taken_turn(first, at) for at in range(first, place)]

@@ -7,8 +7,10 @@ import argparse
 import sys
 
 import changed_images
+import days
 import faults
 import images
+import offices
 import replaced_bytes
 import stops
 from console import Console, Mismatch
@@ -21,6 +23,9 @@ RUNS = (
     faults.at_each_two_calls,
     faults.with_a_power_loss,
     faults.with_a_later_stop,
+    offices.behind_each_fault,
+    days.that_stop_at_each_call,
+    days.that_fail_at_each_call,
     images.cut_short,
     images.damaged_at_one_place,
     replaced_bytes.each_in_two_images,

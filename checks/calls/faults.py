@@ -1,7 +1,7 @@
 """Courses on a device that fails once or twice and works again: they go on from what they find, to the end."""
 import course
 from console import require, require_same, within
-from course import CALLS, NEW, Course, count_of, course_of, is_fault, is_faulted, is_in_flight
+from course import CALLS, NEW, Course, count_of, course_of, in_flight, is_fault, is_faulted
 from power import LEAVINGS, WITH_OLD, lose_power, patterns
 
 # How many later places there are for all places of the first fault: as many as calls that reach the device from the first
@@ -125,7 +125,7 @@ def in_the_first_sync_of_a_turn(console, every):
                                         "turn 9", "turn 0", "turn 0" + " deposit 1 1 1" * 16, "close"])
     require(opening == "next 0 total 0" and is_fault(turn), f"the opening and the turn: {opening!r}, {turn!r}")
     require_same(told[:3], ["next 0 total 0", "000/100 privileges 1", "true"], "what stands behind the fault")
-    require(is_in_flight(told[3], 0, 5), f"in flight: {told[3]}")
+    require_same(told[3], in_flight(0, 5), "what is in flight")
     require(len(told) == 7 and all(map(is_faulted, told[4:])), f"turns behind the fault: {told[4:]}")
     require_same(console.ask(["recover"]), ["next 0 total 0"], "what is found")
     return 1

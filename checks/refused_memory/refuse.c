@@ -1,15 +1,18 @@
 /* Refuses one request of the program that it is loaded into: of those for memory the one whose number stands in
    REFUSED_REQUEST, and of those for a thread the one in REFUSED_THREAD, counted from 1. Where that request is made, a line
-   on file descriptor 9 says so. What the C library asks for while it makes a thread isn't counted. */
+   on file descriptor 9 says so. What the C library asks for while it makes a thread isn't counted. If what is read from
+   standard input begins with a line `refuse K`, the program doesn't see that line: up to the next reading the request for
+   memory number K is refused, counted from there. */
 #define _GNU_SOURCE
 #include <dlfcn.h>
 #include <errno.h>
 #include <pthread.h>
 #include <stdatomic.h>
 #include <stdlib.h>
+#include <string.h>
 #include <unistd.h>
 
-static atomic_long requests, threads;
+static atomic_long requests, threads, left;
 static _Thread_local int makes_a_thread;
 
 static int is_refused(atomic_long *count, const char *name) {
@@ -19,9 +22,25 @@ static int is_refused(atomic_long *count, const char *name) {
 }
 
 static int is_memory_refused(void) {
-    if (makes_a_thread || !is_refused(&requests, "REFUSED_REQUEST")) return 0;
+    if (makes_a_thread) return 0;
+    int is_last = left > 0 && atomic_fetch_sub(&left, 1) == 1;
+    if (is_last && write(9, "refused\n", 8) < 0) abort();
+    if (!is_last && !is_refused(&requests, "REFUSED_REQUEST")) return 0;
     errno = ENOMEM;
     return 1;
+}
+
+ssize_t read(int file, void *bytes, size_t count) {
+    ssize_t (*next)(int, void *, size_t) = (ssize_t (*)(int, void *, size_t))dlsym(RTLD_NEXT, "read");
+    ssize_t given = next(file, bytes, count);
+    if (file != 0) return given;
+    left = 0;
+    if (given < 8 || memcmp(bytes, "refuse ", 7) != 0) return given;
+    char *end = memchr(bytes, '\n', given), *begin = bytes;
+    if (!end || end + 1 == begin + given) abort();
+    left = atol(begin + 7);
+    memmove(begin, end + 1, begin + given - (end + 1));
+    return begin + given - (end + 1);
 }
 
 void *__libc_malloc(size_t);

@@ -1,0 +1,12 @@
+use Rattle.sector_device.specs.MemoryDevice.{memory_device_state}
+use Rattle.sector_device.specs.Wrapped.{with_failures}
+use Rattle.call_words.proofs.callers.call_in_threads.Given as goal
+
+abbrev pub ghosts-call_in-L-Ledger : goal.ghosts-call_in-L-Ledger
+ghosts-call_in-L-Ledger g a = record { name = a.blank.name; parts = a.blank.parts }
+
+abbrev pub ghosts-call_in-L-OpenedOn : goal.ghosts-call_in-L-OpenedOn
+ghosts-call_in-L-OpenedOn g a = record {
+  device = with_failures (memory_device_state a.device.inner) a.device.failures;
+  line = a.line;
+}

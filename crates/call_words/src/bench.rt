@@ -1,0 +1,165 @@
+//! The device of all tests: memory that notes its calls, and fails where its switch says so.
+ghost use Rattle.std.specs.Prelude.{◌≡◌, ◌≤◌, IsTrue, IsFalse};
+ghost use Rattle.sector_device.specs.Device.{HasCause};
+ghost use Rattle.sector_device.specs.MemoryDevice.{memory_device_state};
+ghost use Rattle.sector_device.specs.Wrapped.{one_more};
+
+use crate::switch::Switch;
+use fault_injector::Call;
+use sector_device::{Device, DeviceFault, MemoryDevice, Picks, Sector};
+use std::alloc::{AllocError, Global};
+use std::sync::Arc;
+
+/// How many calls are noted; those behind them are not.
+const ROOM: usize = 4_096;
+
+/// A device in memory that notes its calls, and fails where its switch says so, without reaching the memory.
+#[derive(Drop)]
+pub struct Bench {
+    inner: MemoryDevice,
+    switch: Arc<Switch>,
+    failures: u64,
+    calls: Vec<Call>,
+    // What stood in each sector that is pending, at the last sync.
+    before: Vec<(u64, Sector)>,
+}
+
+impl Bench {
+    /// A device of so many sectors, all zero.
+    pub fn new(alloc: Global, sectors: u64, switch: Arc<Switch>) -> Result<Bench, AllocError> {
+        Ok(Bench {
+            inner: MemoryDevice::new(alloc, sectors)?,
+            switch,
+            failures: 0,
+            calls: Vec::with_capacity(alloc, ROOM)?,
+            before: Vec::with_capacity(alloc, sectors as usize)?,
+        })
+    }
+
+    /// The calls that it has noted.
+    pub fn calls(&self) -> &[Call] {
+        self.calls.as_slice()
+    }
+
+    /// Forgets the calls that it has noted.
+    pub fn forget_calls(&mut self) {
+        self.calls.clear();
+    }
+
+    /// The bytes of a sector, if there is such a one.
+    pub fn sector(&self, at: u64) -> Option<&Sector> {
+        if at < self.inner.sectors() {
+            Some(self.inner.sector(at))
+        } else {
+            None
+        }
+    }
+
+    /// Whether a power loss may change the sector.
+    pub fn is_pending(&self, at: u64) -> bool {
+        at < self.inner.sectors() && self.inner.pending(at)
+    }
+
+    /// What stood in a sector at the last sync, if it is pending.
+    pub fn before(&self, at: u64) -> Option<&Sector> {
+        let (_, bytes) = self.before.iter().find(|(place, _)| *place == at)?;
+        Some(bytes)
+    }
+
+    /// Puts a sector there, as somebody else would: no call is noted, and the sector is durable.
+    pub fn put(&mut self, at: u64, bytes: &Sector) -> Result<(), DeviceFault> {
+        if at >= self.inner.sectors() {
+            return Err(DeviceFault);
+        }
+        self.inner.write(at, bytes)?;
+        self.inner.sync()
+    }
+
+    /// Loses power, by these picks. Its switch stays as it is.
+    pub fn crash(self, picks: &Picks) -> Bench {
+        let Bench {
+            inner,
+            switch,
+            failures,
+            calls,
+            mut before,
+        } = self;
+        before.clear();
+        Bench {
+            inner: inner.crash(picks),
+            switch,
+            failures,
+            calls,
+            before,
+        }
+    }
+
+    // Notes what stands in a sector before it becomes pending.
+    fn remember(&mut self, at: u64)
+        ensures inner { self.new.inner ≡ self.old.inner }
+        ensures failures { self.new.failures ≡ self.old.failures }
+    {
+        if self.before(at).is_some() {
+            return;
+        }
+        if at < self.inner.sectors() && self.before.len() < self.before.capacity() {
+            let bytes = *self.inner.sector(at);
+            self.before.push_reserved((at, bytes));
+        }
+    }
+
+    // Notes a call, and tells whether it fails.
+    fn fails(&mut self, call: Call) -> bool
+        ensures inner { self.new.inner ≡ self.old.inner }
+        ensures passed { IsFalse result → self.new.failures ≡ self.old.failures }
+        ensures failed { IsTrue result → self.new.failures ≡ one_more self.old.failures }
+        ensures cause { HasCause self.old.failures self.new.failures (IsTrue result) }
+        ensures no_fewer { self.old.failures ≤ self.new.failures }
+    {
+        if self.calls.len() < self.calls.capacity() {
+            self.calls.push_reserved(call);
+        }
+        let fails = self.switch.fails(call);
+        if fails {
+            self.failures = self.failures.saturating_add(1);
+        }
+        fails
+    }
+}
+
+impl Device for Bench {
+    ghost use Rattle.sector_device.specs.MemoryDevice.{memory_device_state};
+    ghost use Rattle.sector_device.specs.MemoryLaws.{memory_sound};
+    ghost use Rattle.sector_device.specs.Wrapped.{with_failures, sound_with_failures};
+
+    ghost state = { λ b. with_failures (memory_device_state b.inner) b.failures };
+
+    fn sectors(&self) -> u64 {
+        self.inner.sectors()
+    }
+
+    fn read(&mut self, at: u64, into: &mut Sector) -> Result<(), DeviceFault> {
+        if self.fails(Call::Read(at)) {
+            return Err(DeviceFault);
+        }
+        self.inner.read(at, into)
+    }
+
+    fn write(&mut self, at: u64, from: &Sector) -> Result<(), DeviceFault> {
+        if self.fails(Call::Write(at)) {
+            return Err(DeviceFault);
+        }
+        self.remember(at);
+        self.inner.write(at, from)
+    }
+
+    fn sync(&mut self) -> Result<(), DeviceFault> {
+        if self.fails(Call::Sync) {
+            return Err(DeviceFault);
+        }
+        self.before.clear();
+        self.inner.sync()
+    }
+
+    ghost sound = { λ b honest. sound_with_failures (memory_device_state b.inner) b.failures (memory_sound b.inner) };
+}

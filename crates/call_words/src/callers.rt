@@ -1,0 +1,117 @@
+//! An office whose seats have threads of their own.
+ghost use Rattle.sector_device.specs.MemoryDevice.{memory_device_state};
+ghost use Rattle.sector_device.specs.Wrapped.{with_failures};
+ghost use Rattle.line_lock.specs.OpenedOn.{Names};
+
+use crate::bench::Bench;
+use crate::console::{Hand, Scene};
+use crate::lines::read_line;
+use crate::said::Said;
+use crate::told::Told;
+use line_lock::{Blank, Closing, Count, Line, Office, OpenedOn, Seat, TurnRefusal};
+use sector_device::Device;
+use std::alloc::Global;
+use std::marker::Brand;
+use std::sync::Wait;
+use std::sync::atomic::{AtomicBool, Ordering};
+use std::thread::{Threads, for_each_mut, yield_now};
+
+// How often a caller is refused at most.
+const TRIES: u64 = 10_000_000;
+
+/// `callers STATIONS XBITS UPBITS TURNS`: an office in which each seat, in a thread of its own, takes so many turns.
+/// Its clerk is in hand then.
+pub fn call_in_threads<R: Threads + Wait + Sync>(
+    rt: &R,
+    device: Bench,
+    hand: &mut Hand,
+    said: &mut Said<'_>,
+    told: &mut Told,
+) -> Scene {
+    let line = match read_line(said) {
+        Some(Ok(line)) => line,
+        Some(Err(refusal)) => {
+            told.refused(&refusal);
+            return Scene::Device(device);
+        }
+        None => {
+            told.line("wrong words");
+            return Scene::Device(device);
+        }
+    };
+    let blank = Blank::new(line.stations() as u64);
+    call_in::<Brand, R>(rt, hand.alloc, device, line, blank, said.number(), told)
+}
+
+fn call_in<L: Count + OpenedOn + Send + Sync, R: Threads + Wait + Sync>(
+    rt: &R,
+    alloc: Global,
+    device: Bench,
+    line: Line,
+    blank: Blank,
+    turns: u64,
+    told: &mut Told,
+) -> Scene
+    requires { Names L.name L.parts L.device L.line blank (with_failures (memory_device_state device.inner) device.failures) line }
+{
+    let (office, mut seats) = match Office::<Bench, L>::open(alloc, device, line, blank) {
+        Ok(opened) => opened,
+        Err((device, refusal)) => {
+            told.refused(&refusal);
+            return Scene::Device(device);
+        }
+    };
+    take_all_turns(rt, &office, seats.as_mut_slice(), turns);
+    match office.close(seats) {
+        Ok(Closing { clerk, audit }) => {
+            told.line_of(&audit.last);
+            told.named("first legitimate", &audit.first_legitimate);
+            Scene::Clerk(clerk)
+        }
+        Err((office, _, refusal)) => {
+            told.refused(&refusal);
+            Scene::Device(office.given_up())
+        }
+    }
+}
+
+// A thread for each seat asks until that has so many turns, or is refused too often.
+fn take_all_turns<D: Device + Send, L: Count + OpenedOn + Send + Sync, R: Threads + Wait + Sync>(
+    rt: &R,
+    office: &Office<D, L>,
+    seats: &mut [Seat<L>],
+    turns: u64,
+) {
+    if seats.is_empty() {
+        return;
+    }
+    let stop = AtomicBool::new(false);
+    let threads = seats.len();
+    for_each_mut(
+        rt,
+        seats,
+        threads,
+        &|_, seat| { take_turns(rt, office, seat, &stop, turns) },
+    );
+}
+
+// A station whose turn it isn't lets others go on, and one that is refused for another reason stops them.
+fn take_turns<D: Device, L: Count + OpenedOn, R: Wait>(
+    rt: &R,
+    office: &Office<D, L>,
+    seat: &mut Seat<L>,
+    stop: &AtomicBool,
+    turns: u64,
+) {
+    let mut left = turns;
+    for _ in 0..TRIES {
+        if left == 0 || stop.load(Ordering::SeqCst) {
+            return;
+        }
+        match office.turn(rt, seat, &[]) {
+            Ok(_) => left = left.saturating_sub(1),
+            Err(TurnRefusal::NotPrivileged) => yield_now(),
+            Err(_) => stop.store(true, Ordering::SeqCst),
+        }
+    }
+}

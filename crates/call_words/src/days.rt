@@ -1,0 +1,93 @@
+//! The words of a whole day: what stations hold, and the day itself.
+use crate::bench::Bench;
+use crate::console::{Hand, Scene};
+use crate::entries::read_entries;
+use crate::lines::read_line;
+use crate::said::Said;
+use crate::told::Told;
+use four_state::Line;
+use office_day::{Day, HeldEntries, run_day};
+use std::sync::Wait;
+use std::thread::Threads;
+
+// How often a station that isn't privileged tries again, at most.
+const TRIES: u64 = 100_000_000;
+
+/// `hold [ENTRY]..`: what the next station of a day holds, the lowest one first.
+pub fn hold(hand: &mut Hand, said: &mut Said<'_>, told: &mut Told) {
+    read_entries(said, &mut hand.entries);
+    let Ok(mut held) = HeldEntries::new(hand.alloc) else {
+        told.line("no memory");
+        return;
+    };
+    for entry in hand.entries.iter() {
+        if held.keep(*entry).is_none() {
+            told.line("no place");
+        }
+    }
+    if hand.held.push(held).is_err() {
+        told.line("no memory");
+    }
+}
+
+/// `day STATIONS XBITS UPBITS MOVES`: an office on the device is open until so many turns are taken. Its clerk is in
+/// hand then.
+pub fn have_day<R: Threads + Wait + Sync>(
+    rt: &R,
+    device: Bench,
+    hand: &mut Hand,
+    said: &mut Said<'_>,
+    told: &mut Told,
+) -> Scene {
+    match read_line(said) {
+        Some(Ok(line)) => day_on(rt, device, line, hand, said, told),
+        Some(Err(refusal)) => {
+            told.refused(&refusal);
+            Scene::Device(device)
+        }
+        None => {
+            told.line("wrong words");
+            Scene::Device(device)
+        }
+    }
+}
+
+fn day_on<R: Threads + Wait + Sync>(
+    rt: &R,
+    device: Bench,
+    line: Line,
+    hand: &mut Hand,
+    said: &mut Said<'_>,
+    told: &mut Told,
+) -> Scene {
+    let moves = said.number();
+    let held = hand.held.as_slice();
+    if held.len() != line.stations() as usize {
+        told.line("not asked: not as many stations hold something");
+        return Scene::Device(device);
+    }
+    let day = run_day(rt, hand.alloc, device, line, held, moves, TRIES);
+    hand.held.clear();
+    match day {
+        Ok(
+            Day {
+                clerk,
+                audit,
+                stations,
+            },
+        ) => {
+            for station in stations.iter() {
+                told.named("end", &station.end);
+                told.value(&station.answers);
+                told.value(&station.unanswered);
+            }
+            told.line_of(&audit.last);
+            told.named("first legitimate", &audit.first_legitimate);
+            Scene::Clerk(clerk)
+        }
+        Err((device, refusal)) => {
+            told.refused(&refusal);
+            Scene::Device(device)
+        }
+    }
+}

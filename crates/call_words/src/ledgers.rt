@@ -1,0 +1,91 @@
+//! The words of a ledger, which stands alone, without a device.
+use crate::console::{Hand, Scene};
+use crate::devices::set_account;
+use crate::entries::read_entries;
+use crate::said::Said;
+use crate::told::Told;
+use turn_ledger::{BATCH_LIMIT, ENTRY_BYTES, Entry, Ledger};
+
+/// `ledger`: an empty ledger in the place of what was in hand.
+pub fn new_ledger(hand: &mut Hand, told: &mut Told) -> Scene {
+    match Ledger::new(hand.alloc) {
+        Ok(ledger) => Scene::Ledger(ledger),
+        Err(error) => {
+            told.refused(&error);
+            Scene::Nothing
+        }
+    }
+}
+
+/// A word of a ledger.
+pub fn run(
+    mut ledger: Ledger,
+    hand: &mut Hand,
+    name: &str,
+    said: &mut Said<'_>,
+    told: &mut Told,
+) -> Scene {
+    match name {
+        "show" => told.ledger(0, &ledger),
+        "balance" => told.value(&ledger.balance(said.small())),
+        "sealed" => told.value(&ledger.is_sealed(said.small())),
+        "post" => post(&mut ledger, hand, said, told),
+        "screen" => screen(&ledger, hand, said, told),
+        "account" => set_account(hand, said, told),
+        "restore" => {
+            told.value(&ledger.restore(&hand.snapshot.balances, &hand.snapshot.sealed));
+        }
+        "write" => write_entry(hand, said, told),
+        "read" => read_place(said, told),
+        _ => told.line("no such word of a ledger"),
+    }
+    Scene::Ledger(ledger)
+}
+
+// `post [ENTRY]..`: one after another.
+fn post(ledger: &mut Ledger, hand: &mut Hand, said: &mut Said<'_>, told: &mut Told) {
+    read_entries(said, &mut hand.entries);
+    if !said.is_right(told) {
+        return;
+    }
+    for entry in hand.entries.iter() {
+        match ledger.post(entry) {
+            Ok(()) => told.line("ok"),
+            Err(refusal) => told.refused(&refusal),
+        }
+    }
+}
+
+// `screen [ENTRY]..`
+fn screen(ledger: &Ledger, hand: &mut Hand, said: &mut Said<'_>, told: &mut Told) {
+    read_entries(said, &mut hand.entries);
+    if !said.is_right(told) {
+        return;
+    }
+    if hand.entries.len() > BATCH_LIMIT {
+        told.line("not asked: too many entries");
+    } else {
+        let verdicts = ledger.screen(hand.entries.as_slice());
+        told.verdicts(&verdicts);
+    }
+}
+
+// `write ENTRY..`: the bytes of each.
+fn write_entry(hand: &mut Hand, said: &mut Said<'_>, told: &mut Told) {
+    read_entries(said, &mut hand.entries);
+    if !said.is_right(told) {
+        return;
+    }
+    for entry in hand.entries.iter() {
+        told.bytes(&entry.write());
+    }
+}
+
+// `read HEX`: the entry of 32 bytes, and which of them no entry of its kind has.
+fn read_place(said: &mut Said<'_>, told: &mut Told) {
+    let mut place = [0; ENTRY_BYTES];
+    said.bytes(&mut place);
+    told.value(&Entry::read(&place));
+    told.named("first wrong", &Entry::first_wrong(&place, true));
+    told.named("without seals", &Entry::first_wrong(&place, false));
+}

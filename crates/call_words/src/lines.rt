@@ -1,0 +1,113 @@
+//! The words of a line, which stands alone, without a device.
+use crate::console::{Hand, Scene};
+use crate::said::Said;
+use crate::told::Told;
+use four_state::{Line, LineRefusal, Rule};
+use script_grammar::Bits;
+use sweep_auditor::{Move, audit};
+
+/// The line that three words spell: how many stations, their bits x and their bits up; None if they spell no bits.
+pub fn read_line(said: &mut Said<'_>) -> Option<Result<Line, LineRefusal>> {
+    let stations = said.number();
+    let x = Bits::read(said.word()?.as_bytes())?.kept();
+    let up = Bits::read(said.word()?.as_bytes())?.kept();
+    Some(Line::from_bits(stations, x.as_slice(), up.as_slice()))
+}
+
+/// `line STATIONS XBITS UPBITS`: a line in the place of what was in hand.
+pub fn new_line(said: &mut Said<'_>, told: &mut Told) -> Scene {
+    match read_line(said) {
+        Some(Ok(line)) => Scene::Line(line),
+        Some(Err(refusal)) => {
+            told.refused(&refusal);
+            Scene::Nothing
+        }
+        None => {
+            told.line("wrong words");
+            Scene::Nothing
+        }
+    }
+}
+
+/// A word of a line.
+pub fn run(
+    mut line: Line,
+    hand: &mut Hand,
+    name: &str,
+    said: &mut Said<'_>,
+    told: &mut Told,
+) -> Scene {
+    match name {
+        "line" => return new_line(said, told),
+        "show" => told.line_of(&line),
+        "legitimate" => told.value(&line.is_legitimate()),
+        "words" => told.hexadecimal(line.words()),
+        "station" => show_station(&line, said, told),
+        "enabled" => match (said.station(), read_rule(said)) {
+            (station, Some(rule)) => told.value(&line.enabled(station, rule)),
+            (_, None) => told.line("wrong words"),
+        },
+        "move" => make_move(&mut line, said, told),
+        "audit" => audit_moves(&line, hand, said, told),
+        _ => told.line("no such word of a line"),
+    }
+    Scene::Line(line)
+}
+
+fn read_rule(said: &mut Said<'_>) -> Option<Rule> {
+    match said.word() {
+        Some("Bottom") => Some(Rule::Bottom),
+        Some("Top") => Some(Rule::Top),
+        Some("Raise") => Some(Rule::Raise),
+        Some("Lower") => Some(Rule::Lower),
+        _ => None,
+    }
+}
+
+// `station S`: its bits x and up, and its privilege.
+fn show_station(line: &Line, said: &mut Said<'_>, told: &mut Told) {
+    let station = said.station();
+    if !said.is_right(told) {
+        return;
+    }
+    if station >= line.stations() {
+        told.line("not asked: no such station");
+        return;
+    }
+    told.value(&(line.x(station), line.up(station), line.privilege(station)));
+}
+
+// `move S RULE`
+fn make_move(line: &mut Line, said: &mut Said<'_>, told: &mut Told) {
+    let (station, rule) = (said.station(), read_rule(said));
+    match rule {
+        Some(rule) if line.enabled(station, rule) => line.make_move(station, rule),
+        Some(_) => told.line("not asked: not enabled"),
+        None => told.line("wrong words"),
+    }
+}
+
+// `audit [S RULE]..`
+fn audit_moves(line: &Line, hand: &mut Hand, said: &mut Said<'_>, told: &mut Told) {
+    let mut moves = Vec::new(hand.alloc);
+    for _ in 0..1_000_000 {
+        let Some(word) = said.word() else {
+            break;
+        };
+        let station = word.parse::<u8>().unwrap_or(u8::MAX);
+        let Some(rule) = read_rule(said) else {
+            told.line("wrong words");
+            return;
+        };
+        if moves.push(Move { station, rule }).is_err() {
+            told.line("no memory");
+        }
+    }
+    match audit(*line, moves.as_slice()) {
+        Ok(audited) => {
+            told.line_of(&audited.last);
+            told.named("first legitimate", &audited.first_legitimate);
+        }
+        Err(refusal) => told.refused(&refusal),
+    }
+}

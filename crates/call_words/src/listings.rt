@@ -1,0 +1,202 @@
+//! The words of a listing, out of which an archive is made. The ledgers of the archive are on the other device.
+use crate::bench::Bench;
+use crate::console::{Hand, Scene};
+use crate::devices::set_fault;
+use crate::said::Said;
+use crate::told::Told;
+use gate_journal::MOST_SLOTS;
+use ledger_archive::{Seam, add, compare, follow, skip_to};
+use ledger_reading::{Listing, Sound, look};
+use std::alloc::Global;
+
+/// `listing`: lists what the device holds.
+pub fn open_listing(device: Bench, hand: &mut Hand, told: &mut Told) -> Scene {
+    match listing_of(hand.alloc, device, told) {
+        Ok(listing) => {
+            tell_numbers(&listing, told);
+            Scene::Listing(listing)
+        }
+        Err(device) => Scene::Device(device),
+    }
+}
+
+// What a device holds, or the device, if that can't be listed, which is told.
+fn listing_of(alloc: Global, device: Bench, told: &mut Told) -> Result<Listing<Bench>, Bench> {
+    let sound = match look(alloc, device) {
+        Ok(sound) => sound,
+        Err((device, refusal)) => {
+            told.refused(&refusal);
+            return Err(device);
+        }
+    };
+    match sound.list() {
+        Ok(listing) => Ok(listing),
+        Err((device, refusal)) => {
+            told.refused(&refusal);
+            Err(device)
+        }
+    }
+}
+
+/// A word of a listing.
+pub fn run(
+    mut listing: Listing<Bench>,
+    hand: &mut Hand,
+    name: &str,
+    said: &mut Said<'_>,
+    told: &mut Told,
+) -> Scene {
+    match name {
+        "numbers" => tell_numbers(&listing, told),
+        "ledger" => told.ledger(listing.at(), listing.ledger()),
+        "next" => tell_next(&mut listing, told),
+        "skip" => skip(&mut listing, said, told),
+        "add" => add_to_other(&mut listing, hand, said, told),
+        "follow" => follow_other(&mut listing, hand, told),
+        "compare" => compare_other(&mut listing, hand, told),
+        "fault" => set_fault(hand, said, told),
+        "behind" => behind(&listing, hand, told),
+        "lead" => lead(&mut listing, hand, told),
+        _ => told.line("no such word of a listing"),
+    }
+    Scene::Listing(listing)
+}
+
+fn tell_numbers(listing: &Listing<Bench>, told: &mut Told) {
+    told.named(
+        "at, end, left",
+        &(listing.at(), listing.end(), listing.left()),
+    );
+}
+
+/// `next`: the next record, with its entries.
+pub fn tell_next(listing: &mut Listing<Bench>, told: &mut Told) {
+    match listing.next() {
+        Ok(Some(listed)) => {
+            told.named("record", &(listed.sequence, listed.record.station()));
+            told.value(&listed.entries.as_slice());
+        }
+        Ok(None) => told.line("nothing"),
+        Err(refusal) => told.refused(&refusal),
+    }
+}
+
+// `skip END`
+fn skip(listing: &mut Listing<Bench>, said: &mut Said<'_>, told: &mut Told) {
+    let end = said.number();
+    if !said.is_right(told) {
+        return;
+    }
+    if end < listing.at() || end > listing.end() {
+        told.line("not asked: no such record");
+        return;
+    }
+    match skip_to(listing, end) {
+        Ok(()) => {}
+        Err(refusal) => told.refused(&refusal),
+    }
+}
+
+// `add COUNT`: a ledger of the next records, that many, on the other device.
+fn add_to_other(
+    listing: &mut Listing<Bench>,
+    hand: &mut Hand,
+    said: &mut Said<'_>,
+    told: &mut Told,
+) {
+    let count = said.number();
+    if count == 0 || count > listing.left() || count > MOST_SLOTS {
+        told.line("not asked: not as many records");
+        return;
+    }
+    let Some(new) = hand.other.take() else {
+        told.line("not asked: no other device");
+        return;
+    };
+    let new = match add(listing, new, count) {
+        Ok(new) => new,
+        Err((new, refusal)) => {
+            told.refused(&refusal);
+            new
+        }
+    };
+    hand.other = Some(new);
+}
+
+// `follow`: leads the listing on to the end of the ledger on the other device.
+fn follow_other(listing: &mut Listing<Bench>, hand: &mut Hand, told: &mut Told) {
+    let Some(other) = hand.other.take() else {
+        told.line("not asked: no other device");
+        return;
+    };
+    hand.other = match look(hand.alloc, other) {
+        Ok(sound) => {
+            match follow(listing, sound.journal.numbers().next, &sound.ledger) {
+                Ok(()) => {}
+                Err(refusal) => told.refused(&refusal),
+            }
+            Some(device_of(sound))
+        }
+        Err((other, refusal)) => {
+            told.refused(&refusal);
+            Some(other)
+        }
+    };
+}
+
+fn device_of(sound: Sound<Bench>) -> Bench {
+    match sound.list() {
+        Ok(listing) => listing.into_device(),
+        Err((device, _)) => device,
+    }
+}
+
+// `compare`: finds out whether the listing has the records of the ledger on the other device.
+fn compare_other(listing: &mut Listing<Bench>, hand: &mut Hand, told: &mut Told) {
+    let Some(other) = hand.other.take() else {
+        told.line("not asked: no other device");
+        return;
+    };
+    hand.other = match listing_of(hand.alloc, other, told) {
+        Ok(mut newest) => {
+            compare_with(listing, &mut newest, told);
+            Some(newest.into_device())
+        }
+        Err(other) => Some(other),
+    };
+}
+
+fn compare_with(listing: &mut Listing<Bench>, newest: &mut Listing<Bench>, told: &mut Told) {
+    let end = newest.end();
+    if listing.at() > end || end > listing.end() {
+        told.line("not asked: it doesn't reach there");
+        return;
+    }
+    match compare(listing, newest) {
+        Ok(()) => {}
+        Err(refusal) => told.refused(&refusal),
+    }
+}
+
+// `behind`: the seam behind the last record, which is in hand then.
+fn behind(listing: &Listing<Bench>, hand: &mut Hand, told: &mut Told) {
+    if listing.left() > 0 {
+        told.line("not asked: it isn't at its end");
+        return;
+    }
+    match Seam::behind(hand.alloc, listing) {
+        Ok(seam) => hand.seam = Some(seam),
+        Err(error) => told.refused(&error),
+    }
+}
+
+// `lead`: leads the listing on to the seam in hand.
+fn lead(listing: &mut Listing<Bench>, hand: &mut Hand, told: &mut Told) {
+    match &hand.seam {
+        Some(seam) => match seam.lead(listing) {
+            Ok(()) => {}
+            Err(refusal) => told.refused(&refusal),
+        },
+        None => told.line("not asked: no seam"),
+    }
+}

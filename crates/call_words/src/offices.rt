@@ -1,0 +1,230 @@
+//! The words of an office, which are gathered up to `close`: then it is opened, does them, and is closed.
+use crate::bench::Bench;
+use crate::console::{Hand, Scene};
+use crate::devices::set_fault;
+use crate::entries::read_entries;
+use crate::lines::read_line;
+use crate::said::Said;
+use crate::told::Told;
+use line_lock::{
+    Closing, Count, Line, Office, OfficeWork, OpenedOn, Seat, TurnRefusal, with_office,
+};
+use std::sync::Wait;
+
+/// An office that isn't opened yet, with what is to be done in it, a line for each call.
+#[derive(Drop)]
+pub struct Planned {
+    device: Bench,
+    line: Line,
+    lines: String,
+}
+
+/// `office STATIONS XBITS UPBITS`: an office on the device.
+pub fn plan_office(device: Bench, hand: &mut Hand, said: &mut Said<'_>, told: &mut Told) -> Scene {
+    let line = match read_line(said) {
+        Some(Ok(line)) => line,
+        Some(Err(refusal)) => {
+            told.refused(&refusal);
+            return Scene::Device(device);
+        }
+        None => {
+            told.line("wrong words");
+            return Scene::Device(device);
+        }
+    };
+    Scene::Office(Planned {
+        device,
+        line,
+        lines: String::new(hand.alloc),
+    })
+}
+
+impl Planned {
+    /// Adds a line.
+    pub fn add(&mut self, line: &str, told: &mut Told) {
+        if writeln!(self.lines, "{line}").is_err() {
+            told.line("no memory");
+        }
+    }
+}
+
+/// Opens the office, does what was gathered, and closes it. Its clerk is in hand then.
+pub fn play<R: Wait>(rt: &R, planned: Planned, hand: &mut Hand, told: &mut Told) -> Scene {
+    let Planned {
+        device,
+        line,
+        lines,
+    } = planned;
+    let alloc = hand.alloc;
+    let work = Playing {
+        rt,
+        hand,
+        told: &mut *told,
+        lines: lines.as_str(),
+    };
+    match with_office(alloc, device, line, work) {
+        Ok((Closing { clerk, audit }, ())) => {
+            told.line_of(&audit.last);
+            told.named("first legitimate", &audit.first_legitimate);
+            Scene::Clerk(clerk)
+        }
+        Err((device, refusal)) => {
+            told.refused(&refusal);
+            Scene::Device(device)
+        }
+    }
+}
+
+// What is done in an office.
+#[derive(Drop)]
+struct Playing<'a, R> {
+    rt: &'a R,
+    hand: &'a mut Hand,
+    told: &'a mut Told,
+    lines: &'a str,
+}
+
+impl<R: Wait> OfficeWork<Bench> for Playing<'_, R> {
+    type Answer = ();
+
+    type Failure = TurnRefusal;
+
+    fn work<L: Count + OpenedOn + Send + Sync>(
+        self,
+        office: &Office<Bench, L>,
+        mut seats: Vec<Seat<L>>,
+    ) -> Result<(Vec<Seat<L>>, ()), TurnRefusal> {
+        let Playing {
+            rt,
+            hand,
+            told,
+            lines,
+        } = self;
+        for line in lines.lines() {
+            let mut said = Said::of(line);
+            match said.word() {
+                Some("give_up") => return Err(TurnRefusal::TooMany),
+                Some("leave") => {
+                    let _ = seats.pop();
+                }
+                Some("fault") => set_fault(hand, &mut said, told),
+                Some(name) => {
+                    let station = said.station();
+                    match seats.get_mut(station as usize) {
+                        Some(seat) => ask(rt, office, seat, hand, name, &mut said, told),
+                        None => told.line("not asked: no such seat"),
+                    }
+                }
+                None => {}
+            }
+        }
+        Ok((seats, ()))
+    }
+}
+
+// What a seat is asked for.
+fn ask<L: Count + OpenedOn, R: Wait>(
+    rt: &R,
+    office: &Office<Bench, L>,
+    seat: &mut Seat<L>,
+    hand: &mut Hand,
+    name: &str,
+    said: &mut Said<'_>,
+    told: &mut Told,
+) {
+    match name {
+        "turn" => turn(rt, office, seat, hand, said, told),
+        "within" => turn_within(rt, office, seat, hand, said, told),
+        "seat" => show_seat(seat, told),
+        "balance" => balance(rt, office, seat, said, told),
+        "find" => find(rt, office, seat, said, told),
+        "latest" => latest(rt, office, seat, said, told),
+        _ => told.line("no such word of an office"),
+    }
+}
+
+// `turn STATION [ENTRY]..`
+fn turn<L: Count + OpenedOn, R: Wait>(
+    rt: &R,
+    office: &Office<Bench, L>,
+    seat: &mut Seat<L>,
+    hand: &mut Hand,
+    said: &mut Said<'_>,
+    told: &mut Told,
+) {
+    read_entries(said, &mut hand.entries);
+    match office.turn(rt, seat, hand.entries.as_slice()) {
+        Ok(turn) => told.turn(&turn),
+        Err(refusal) => told.refused(&refusal),
+    }
+}
+
+// `within STATION LIMIT [ENTRY]..`
+fn turn_within<L: Count + OpenedOn, R: Wait>(
+    rt: &R,
+    office: &Office<Bench, L>,
+    seat: &mut Seat<L>,
+    hand: &mut Hand,
+    said: &mut Said<'_>,
+    told: &mut Told,
+) {
+    let limit = said.number();
+    read_entries(said, &mut hand.entries);
+    match office.turn_within(rt, seat, hand.entries.as_slice(), limit) {
+        Ok(turn) => told.turn(&turn),
+        Err(refusal) => told.refused(&refusal),
+    }
+}
+
+// `balance STATION ACCOUNT`
+fn balance<L: Count + OpenedOn, R: Wait>(
+    rt: &R,
+    office: &Office<Bench, L>,
+    seat: &mut Seat<L>,
+    said: &mut Said<'_>,
+    told: &mut Told,
+) {
+    match office.balance(rt, seat, said.small()) {
+        Ok(balance) => told.value(&balance),
+        Err(refusal) => told.refused(&refusal),
+    }
+}
+
+// `find STATION REFERENCE FROM END`
+fn find<L: Count + OpenedOn, R: Wait>(
+    rt: &R,
+    office: &Office<Bench, L>,
+    seat: &mut Seat<L>,
+    said: &mut Said<'_>,
+    told: &mut Told,
+) {
+    match office.find(rt, seat, said.number(), said.number(), said.number()) {
+        Ok(found) => told.value(&found),
+        Err(refusal) => told.refused(&refusal),
+    }
+}
+
+// `latest STATION LIMIT FROM`
+fn latest<L: Count + OpenedOn, R: Wait>(
+    rt: &R,
+    office: &Office<Bench, L>,
+    seat: &mut Seat<L>,
+    said: &mut Said<'_>,
+    told: &mut Told,
+) {
+    match office.latest(rt, seat, said.number(), said.number()) {
+        Ok(latest) => told.value(&latest),
+        Err(refusal) => told.refused(&refusal),
+    }
+}
+
+// `seat STATION`: how many turns it took, and what it noted.
+fn show_seat<L: Count>(seat: &Seat<L>, told: &mut Told) {
+    told.named("turns", &seat.turns().len());
+    told.named("denied, reached", &(seat.denied(), seat.reached()));
+    told.named("told", &seat.told());
+    told.named("faulted", &seat.was_faulted());
+    for turn in seat.turns() {
+        told.turn(turn);
+    }
+}

@@ -1,0 +1,131 @@
+//! What is answered, a line for each call.
+use four_state::Line;
+use gate_journal::Record;
+use std::alloc::{AllocError, Global};
+use std::fmt::{Debug, Display};
+use turn_clerk::Turn;
+use turn_ledger::{Ledger, Verdicts};
+
+// More than a driver may let gather before it reads: no answer takes memory of its own.
+const ROOM: usize = 1 << 20;
+
+/// The answers since they were last taken.
+#[derive(Drop)]
+pub struct Told {
+    text: String,
+}
+
+impl Told {
+    /// Nothing yet.
+    pub fn new(alloc: Global) -> Result<Told, AllocError> {
+        Ok(Told {
+            text: String::with_capacity(alloc, ROOM)?,
+        })
+    }
+
+    /// The answers.
+    pub fn text(&self) -> &str {
+        self.text.as_str()
+    }
+
+    /// Forgets them.
+    pub fn clear(&mut self) {
+        self.text.clear();
+    }
+
+    /// Adds a line that says this.
+    pub fn line(&mut self, words: &str) {
+        let _ = writeln!(self.text, "{words}");
+    }
+
+    /// Adds a line with a value.
+    pub fn value<V: Debug>(&mut self, value: &V) {
+        let _ = writeln!(self.text, "{value:?}");
+    }
+
+    /// Adds a line that begins so, with a value.
+    pub fn named<V: Debug>(&mut self, name: &str, value: &V) {
+        let _ = writeln!(self.text, "{name} {value:?}");
+    }
+
+    /// Adds a line with a refusal: its name and its text.
+    pub fn refused<E: Debug + Display>(&mut self, refusal: &E) {
+        let _ = writeln!(self.text, "refused {refusal:?}: {refusal}");
+    }
+}
+
+impl Told {
+    /// Adds a line with the bits of a line of stations, and how many privileges it has.
+    pub fn line_of(&mut self, line: &Line) {
+        let privileges = line.privileges();
+        let _ = writeln!(self.text, "{line} privileges {privileges}");
+    }
+
+    /// Adds a line with a turn: its place, its station, the rule, the number of its batch, and what became of each
+    /// entry.
+    pub fn turn(&mut self, turn: &Turn) {
+        let (index, station, rule) = (turn.index, turn.station, turn.rule);
+        let _ = write!(self.text, "turn {index} station {station} {rule}");
+        let _ = match turn.posted {
+            Some(number) => write!(self.text, " posted {number}"),
+            None => write!(self.text, " empty"),
+        };
+        self.verdicts(&turn.verdicts);
+    }
+
+    /// Ends a line with what became of each entry.
+    pub fn verdicts(&mut self, verdicts: &Verdicts) {
+        for verdict in verdicts.iter() {
+            let _ = match verdict {
+                Ok(()) => write!(self.text, " ok"),
+                Err(refusal) => write!(self.text, " {refusal:?}"),
+            };
+        }
+        let _ = writeln!(self.text, "");
+    }
+
+    /// Adds a line with bytes, up to the last one that isn't zero.
+    pub fn bytes(&mut self, bytes: &[u8]) {
+        let used = match bytes.iter().rposition(|byte| *byte != 0) {
+            Some(last) => last.saturating_add(1),
+            None => 0,
+        };
+        for byte in bytes.iter().take(used) {
+            let _ = write!(self.text, "{byte:02x}");
+        }
+        let _ = writeln!(self.text, "");
+    }
+
+    /// Adds a line with a record: its station, how many places it has, and their bytes.
+    pub fn record(&mut self, record: &Record) {
+        let (station, count) = (record.station(), record.count());
+        let _ = write!(self.text, "station {station} count {count} ");
+        self.bytes(record.payload());
+    }
+
+    /// Adds a line with words of 64 bits.
+    pub fn hexadecimal(&mut self, words: &[u64]) {
+        for word in words {
+            let _ = write!(self.text, "{word:016x} ");
+        }
+        let _ = writeln!(self.text, "");
+    }
+
+    /// Adds a line with what the accounts hold that hold something, and those that are sealed.
+    pub fn ledger(&mut self, next: u64, ledger: &Ledger) {
+        let total = ledger.total();
+        let _ = write!(self.text, "next {next} total {total}");
+        for (account, balance) in ledger.accounts() {
+            if balance > 0 {
+                let _ = write!(self.text, " {account}={balance}");
+            }
+        }
+        for (place, sealed) in ledger.marks().iter().enumerate() {
+            if *sealed {
+                let account = place.saturating_add(1);
+                let _ = write!(self.text, " #{account}");
+            }
+        }
+        let _ = writeln!(self.text, "");
+    }
+}
