@@ -15,6 +15,7 @@ ROOT = CHECKS.parent
 # What one of a kind has printed when it ran and passed.
 PRINTED = {
     "test": r"^{}$",
+    "calls": r"^{}: prints ",
     "script": r"^{}: prints checks/scripts/",
     "example": r"^{}: prints examples/",
     "program": r"^rt: {} ran, and wrote what its file stdout has",

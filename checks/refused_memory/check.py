@@ -12,16 +12,13 @@ from refusing import Refuser, requests_beside
 
 # The calls that may tell of want of memory. A call's own device is a request of the memory device within it.
 CALLS = {
-    "Clerk::open", "Clerk::run", "Clerk::run, in a reply", "Clerk::turn", "Clerk::turn, by its device", "FileDevice::open",
-    "HeldEntries::new", "HeldFlags in an Arc", "Ledger::new", "MemoryDevice::new", "MemoryDevice::sync",
-    "MemoryDevice::write", "Office::open", "Office::turn", "Office::turn_within", "Office::turn_within, by its device",
-    "Seam::behind", "add, by its device", "copy", "copy, by its device", "desk", "format", "look", "migrate",
-    "migrate, by its device", "reconcile", "recover", "run_day", "run_stations",
+    "FileDevice::open", "HeldEntries::new", "HeldFlags in an Arc", "Office::open", "Office::turn", "Office::turn_within",
+    "Office::turn_within, by its device", "run_day", "run_stations",
 }
 # Openings make one call of the device that takes memory, their sync, and it has none left only where its record is
 # full.
 BY_THE_DEVICE = {
-    f"{call}, by its device" for call in ("Clerk::open", "Office::open", "look", "recover", "run_day", "run_stations")
+    f"{call}, by its device" for call in ("Office::open", "run_day", "run_stations")
 }
 THREADS = "days::a_day_is_had"
 

@@ -6,8 +6,6 @@ mod devices;
 #[cfg(test)]
 mod faults;
 #[cfg(test)]
-mod fillings;
-#[cfg(test)]
 mod journals;
 #[cfg(test)]
 mod passed_on;

@@ -35,62 +35,6 @@ fn seal(account: u32) -> Entry {
     }
 }
 
-// Each entry after those before it, on a ledger that was empty.
-#[test]
-fn the_first_broken_rule_is_answered(rt: HostRuntime) -> Result<(), Fail> {
-    let mut ledger = Ledger::new(rt.alloc())?;
-    let table = [
-        (deposit(1, 0), Err(EntryRefusal::ZeroAmount)),
-        (deposit(0, 1), Err(EntryRefusal::NoAccount)),
-        (withdraw(1025, 1), Err(EntryRefusal::NoAccount)),
-        (transfer(3, 3, 1), Err(EntryRefusal::SameAccount)),
-        (transfer(65, 65, 1), Err(EntryRefusal::SameAccount)),
-        (transfer(1025, 1025, 0), Err(EntryRefusal::ZeroAmount)),
-        (transfer(1025, 1025, 1), Err(EntryRefusal::NoAccount)),
-        (withdraw(1, 1), Err(EntryRefusal::Short)),
-        (withdraw(65, 1), Err(EntryRefusal::Short)),
-        (deposit(1, 1_000_000_000_000_000_000), Ok(())),
-        (deposit(2, 1), Err(EntryRefusal::OverLimit)),
-        (deposit(2, u64::MAX), Err(EntryRefusal::OverLimit)),
-        (seal(1), Ok(())),
-        (withdraw(1, 1), Err(EntryRefusal::Sealed)),
-    ];
-    for (entry, verdict) in table {
-        assert!(rt; ledger.post(&entry) == verdict, "{entry:?}");
-    }
-    Ok(())
-}
-
-#[test]
-fn the_bytes_of_an_entry(rt: HostRuntime) {
-    let table = [
-        (
-            transfer(1, 2, 40),
-            [
-                3, 0, 0, 0, 0, 0, 0, 1, 0, 0, 0, 2, 0, 0, 0, 0, 0, 0, 0, 0, 0, 0, 0, 40, 0, 0, 0,
-                0, 0, 0, 0, 5,
-            ],
-        ),
-        (
-            deposit(1, 500),
-            [
-                1, 0, 0, 0, 0, 0, 0, 0, 0, 0, 0, 1, 0, 0, 0, 0, 0, 0, 0, 0, 0, 0, 1, 0xf4, 0, 0, 0,
-                0, 0, 0, 0, 3,
-            ],
-        ),
-        (
-            seal(1),
-            [
-                4, 0, 0, 0, 0, 0, 0, 1, 0, 0, 0, 0, 0, 0, 0, 0, 0, 0, 0, 0, 0, 0, 0, 0, 0, 0, 0, 0,
-                0, 0, 0, 6,
-            ],
-        ),
-    ];
-    for (entry, bytes) in table {
-        assert!(rt; entry.write() == bytes, "{entry:?}");
-    }
-}
-
 #[test]
 fn an_example_of_a_turn(rt: HostRuntime) -> Result<(), Fail> {
     let mut ledger = Ledger::new(rt.alloc())?;

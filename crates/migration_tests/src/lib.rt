@@ -1,6 +1,6 @@
-//! Tests of devices of layouts 1 and 2 and of ledgers: what they are copied to, and what is listed of a ledger. Of a
-//! device of any layout they see which calls opening makes, and writing it anew. The devices are written by the tables
-//! of the formats, and in no word of the crates that are tested.
+//! Tests of devices of layouts 1 and 2 and of ledgers that somebody else writes: what they are copied to, and what is
+//! listed of a ledger. The devices are written by the tables of the formats, and in no word of the crates that are
+//! tested.
 #![tactic(auto)]
 
 #[cfg(test)]
@@ -12,12 +12,6 @@ mod listings;
 #[cfg(test)]
 mod old_devices;
 #[cfg(test)]
-mod openings;
-#[cfg(test)]
-mod orders;
-#[cfg(test)]
 mod refusals;
 #[cfg(test)]
 mod upgrades;
-#[cfg(test)]
-mod writes;

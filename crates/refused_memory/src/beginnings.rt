@@ -4,12 +4,12 @@ ghost use Rattle.four_state.specs.Configuration.{stations};
 
 use fault_injector::Noting;
 use gate_journal::format;
-use sector_device::{Device, MemoryDevice, Sector};
+use sector_device::MemoryDevice;
 use std::alloc::Global;
 use std::fmt::Display;
 use std::process::Abort;
 use std::test::Fail;
-use test_scenes::{Layout, body_of, deposit, head, open_gate, sectors_needed, superblock};
+use test_scenes::sectors_needed;
 use turn_clerk::Line;
 
 /// A memory device that notes its calls.
@@ -114,34 +114,4 @@ fn noting(alloc: Global, device: MemoryDevice) -> Result<Noted, Fail> {
         Ok(noted) => Ok(noted),
         Err(refused) => Ok(Noting::new(alloc, refused.value, 1000).map_err(|_| "a list of calls")?),
     }
-}
-
-// Writes a sector.
-fn put(device: &mut MemoryDevice, at: u64, bytes: &Sector) -> Result<(), Fail> {
-    if at >= device.sectors() {
-        return Err(Fail::from("no such sector"));
-    }
-    if device.write(at, bytes).is_err() {
-        device.write(at, bytes)?;
-    }
-    Ok(())
-}
-
-/// A ledger of layout 1 or 3 with four slots and one record, of a deposit of 500 to account 1, on a device that notes
-/// its calls.
-pub fn with_deposit(alloc: Global, layout: Layout) -> Result<Noted, Fail> {
-    let bank = layout.first();
-    let mut device = zeros(alloc, layout.sectors(4))?;
-    put(&mut device, 0, &superblock(layout.version(), 4))?;
-    if layout == Layout::Third {
-        put(&mut device, bank.gate, &open_gate())?;
-        put(&mut device, bank.head(), &head(0, 0))?;
-    }
-    put(
-        &mut device,
-        bank.body(0),
-        &body_of(0, 0, &[deposit(1, 500)]),
-    )?;
-    put(&mut device, bank.slot_gate(0), &open_gate())?;
-    noting(alloc, device)
 }

@@ -7,16 +7,10 @@
 #[cfg(test)]
 mod beginnings;
 #[cfg(test)]
-mod clerks;
-#[cfg(test)]
 mod days;
-#[cfg(test)]
-mod desks;
 #[cfg(test)]
 mod devices;
 #[cfg(test)]
 mod files;
-#[cfg(test)]
-mod ledgers;
 #[cfg(test)]
 mod offices;

@@ -1,6 +1,6 @@
 //! Clerks on devices, and what devices recover to.
 use journal_recovery::{Recovered, recover};
-use sector_device::{Device, MemoryDevice};
+use sector_device::Device;
 use std::alloc::Global;
 use std::process::Abort;
 use turn_clerk::{Clerk, Line};
@@ -17,10 +17,4 @@ pub fn found_on<D: Device>(rt: &impl Abort, alloc: Global, device: D) -> Recover
         Ok(found) => found,
         Err((_, refusal)) => panic!(rt; "{refusal}"),
     }
-}
-
-// The balance of account 1 and the next sequence that a device recovers to.
-pub fn recovered(rt: &impl Abort, alloc: Global, device: MemoryDevice) -> (Option<u64>, u64) {
-    let found = found_on(rt, alloc, device);
-    (found.ledger.balance(1), found.journal.next())
 }

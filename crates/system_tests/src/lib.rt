@@ -1,9 +1,7 @@
-//! Tests that need several crates beside each other: postings behind power losses, calls without an end, what searches
+//! Tests that need several crates beside each other: an example, what is larger than a device in memory, what searches
 //! read, and the texts of refusals.
 #![tactic(auto)]
 
-#[cfg(test)]
-mod crashes;
 #[cfg(test)]
 mod devices;
 #[cfg(test)]

@@ -1,65 +1,10 @@
 //! Calls beyond any number at which a body might have given up.
 ghost use Rattle.file_device.specs.RealFile.{unknown_sectors};
 
-use crate::devices::{found_on, opened, recovered};
+use crate::devices::found_on;
 use gate_journal::format;
-use sector_device::{Device, DeviceFault, MemoryDevice, SECTOR, Sector};
-use std::alloc::Global;
-use std::process::Abort;
-use std::test::Fail;
-use test_scenes::{ZERO, body_of, deposit, formatted, head, line, open_gate, superblock};
-use turn_clerk::{Clerk, Event};
-
-// Two stations, the bottom one privileged, over this journal.
-fn two_stations(
-    rt: &impl Abort,
-    alloc: Global,
-    device: MemoryDevice,
-) -> Result<Clerk<MemoryDevice>, Fail> {
-    Ok(opened(rt, alloc, device, line([0, 0], [1, 0])?))
-}
-
-// Takes the turn of this number, with a deposit of as much. The first one deposits nothing, and is refused.
-fn take_turn(rt: &impl Abort, clerk: &mut Clerk<MemoryDevice>, number: u64) -> Result<(), Fail> {
-    let turn = clerk.turn((number % 2) as u8, &[deposit(1, number)])?;
-    assert!(rt; turn.index == number);
-    assert!(rt; turn.posted == number.checked_sub(1));
-    Ok(())
-}
-
-// The events of 300 turns, each with a deposit of 1.
-fn events(alloc: Global) -> Result<Vec<Event>, Fail> {
-    let mut events = Vec::new(alloc);
-    for number in 0..300u64 {
-        let entries = vec![in alloc; deposit(1, 1)]?;
-        let station = (number % 2) as u8;
-        events.push(Event { station, entries })?;
-    }
-    Ok(events)
-}
-
-// Takes 300 turns, and then runs as many events.
-fn work(rt: &impl Abort, alloc: Global, clerk: &mut Clerk<MemoryDevice>) -> Result<(), Fail> {
-    for number in 0..300u64 {
-        take_turn(rt, clerk, number)?;
-    }
-    // 1 + 2 + .. + 299
-    assert!(rt; clerk.ledger().total() == 44_850);
-    let mut replies = Vec::new(alloc);
-    clerk.run(events(alloc)?.as_slice(), &mut replies)?;
-    assert!(rt; replies.len() == 300 && replies.iter().all(|reply| reply.is_ok()));
-    assert!(rt; (clerk.history().len(), clerk.moves().len()) == (600, 600));
-    Ok(())
-}
-
-#[test]
-fn a_clerk_takes_300_turns_and_a_run_of_300_events(rt: HostRuntime) -> Result<(), Fail> {
-    let alloc = rt.alloc();
-    let mut clerk = two_stations(&rt, alloc, formatted(alloc, 600)?)?;
-    work(&rt, alloc, &mut clerk)?;
-    assert!(rt; recovered(&rt, alloc, clerk.into_device()) == (Some(45_150), 599));
-    Ok(())
-}
+use sector_device::{Device, DeviceFault, SECTOR, Sector};
+use test_scenes::{ZERO, body_of, deposit, head, open_gate, superblock};
 
 // How many sectors there are up to the gate of the first slot.
 const FRONT: usize = 22;

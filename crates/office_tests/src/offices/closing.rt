@@ -5,8 +5,7 @@ ghost use Rattle.sector_device.specs.MemoryDevice.{memory_device_state};
 ghost use Rattle.line_lock.specs.OpenedOn.{Names};
 
 use line_lock::{
-    Blank, CloseRefusal, Closing, Count, Line, Office, OfficeWork, OpenedOn, Seat, Turn,
-    TurnRefusal, with_office,
+    Blank, CloseRefusal, Closing, Count, Line, Office, OpenedOn, Seat, Turn, TurnRefusal,
 };
 use sector_device::MemoryDevice;
 use std::alloc::Global;
@@ -14,7 +13,7 @@ use std::marker::Brand;
 use std::process::Abort;
 use std::sync::Wait;
 use std::test::Fail;
-use test_scenes::{Image, LAYOUT_3, deposit, formatted, line};
+use test_scenes::{deposit, formatted, line};
 
 // What is done with an office of two stations.
 trait Scene {
@@ -92,61 +91,6 @@ impl Scene for OneSeatIsMissing {
 #[test]
 fn a_missing_seat_is_told_and_the_office_goes_on(rt: HostRuntime) -> Result<(), Fail> {
     act::<OneSeatIsMissing, _>(&rt, rt.alloc())
-}
-
-#[derive(Drop)]
-struct NobodyTakesATurn;
-
-impl OfficeWork<MemoryDevice> for NobodyTakesATurn {
-    type Answer = ();
-
-    type Failure = TurnRefusal;
-
-    fn work<L: Count + OpenedOn + Send + Sync>(
-        self,
-        _office: &Office<MemoryDevice, L>,
-        seats: Vec<Seat<L>>,
-    ) -> Result<(Vec<Seat<L>>, ()), TurnRefusal> {
-        Ok((seats, ()))
-    }
-}
-
-// The closing of an office in which nobody takes a turn.
-fn closed_at_once(
-    rt: &impl Abort,
-    alloc: Global,
-    device: MemoryDevice,
-    line: Line,
-) -> Closing<MemoryDevice> {
-    match with_office(alloc, device, line, NobodyTakesATurn) {
-        Ok((closing, _)) => closing,
-        Err((_, refusal)) => panic!(rt; "{refusal}"),
-    }
-}
-
-#[test]
-fn an_office_without_a_turn_is_closed(rt: HostRuntime) -> Result<(), Fail> {
-    let alloc = rt.alloc();
-    let (device, line) = (formatted(alloc, 4)?, line([0, 0], [1, 0])?);
-    let Closing { clerk, audit } = closed_at_once(&rt, alloc, device, line);
-    assert!(rt; (clerk.history().len(), audit.first_legitimate) == (0, Some(0)));
-    Ok(())
-}
-
-// The device has one batch, a deposit of 500.
-#[test]
-fn close_keeps_opening(rt: HostRuntime) -> Result<(), Fail> {
-    let alloc = rt.alloc();
-    let records: [(u16, &[_]); 1] = [(0, &[deposit(1, 500)])];
-    let image = Image {
-        records: &records,
-        ..LAYOUT_3
-    };
-    let line = line([1, 1, 0], [1, 1, 0])?;
-    let Closing { clerk, audit } = closed_at_once(&rt, alloc, image.device(alloc)?, line);
-    assert!(rt; (clerk.history().len(), clerk.opening(), audit.last) == (0, line, line));
-    assert!(rt; (clerk.opening_balance(1), clerk.opening_next()) == (Some(500), 1));
-    Ok(())
 }
 
 struct NobodyCloses;
