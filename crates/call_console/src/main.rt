@@ -15,33 +15,54 @@ const FULL: usize = 65_536;
 // How long a line may be.
 const LONGEST: usize = 65_536;
 
-// Does what each line asks for, and writes what it is told if a line asks for that, or it has become much. Behind its
-// start it takes no memory but for a call.
+// Puts the next line in the place of the last one; false if there is none.
+fn read_line<I: BufRead>(input: &mut I, line: &mut String) -> Result<bool, StreamFault> {
+    line.clear();
+    match input.read_line(line) {
+        Ok(count) => Ok(count > 0),
+        Err(_) => Err(StreamFault::Read),
+    }
+}
+
+// Writes what was told.
+fn hand_over<W: Write>(console: &mut Console, output: &mut W) -> Result<(), StreamFault> {
+    write_all(output, console.told().as_bytes())?;
+    console.forget_told();
+    Ok(())
+}
+
+// Does what each line asks for, and writes what it is told if a line asks for that, or it has become much.
+fn converse<R: Threads + Wait + Sync, I: BufRead, W: Write>(
+    rt: &R,
+    console: &mut Console,
+    line: &mut String,
+    input: &mut I,
+    output: &mut W,
+) -> Result<(), StreamFault> {
+    for _ in 0..u64::MAX {
+        if !read_line(input, line)? {
+            break;
+        }
+        if console.run(rt, line.as_str()) || console.told().len() >= FULL {
+            hand_over(console, output)?;
+        }
+    }
+    hand_over(console, output)
+}
+
+// Behind its start it takes no memory but for a call.
 fn run<R: Threads + Wait + Sync, I: Read + Drop, W: Write>(
     rt: &R,
     alloc: Global,
     input: I,
     output: &mut W,
 ) -> Result<(), StreamFault> {
-    let mut console = Console::new(alloc)?;
     let mut line = String::with_capacity(alloc, LONGEST)?;
-    let Ok(mut reader) = BufReader::new(alloc, input) else {
+    let Ok(mut input) = BufReader::new(alloc, input) else {
         return Err(StreamFault::Memory);
     };
-    for _ in 0..u64::MAX {
-        line.clear();
-        match reader.read_line(&mut line) {
-            Ok(0) => break,
-            Ok(_) => {}
-            Err(_) => return Err(StreamFault::Read),
-        }
-        if console.run(rt, line.as_str()) || console.told().len() >= FULL {
-            write_all(output, console.told().as_bytes())?;
-            console.forget_told();
-        }
-    }
-    write_all(output, console.told().as_bytes())?;
-    Ok(())
+    let mut console = Console::new(alloc)?;
+    converse(rt, &mut console, &mut line, &mut input, output)
 }
 
 fn main(rt: HostRuntime) -> ExitCode {
