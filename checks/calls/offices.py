@@ -6,7 +6,7 @@ from course import CALLS, LINES, NEW, course_of, shown, taken_turn, turns
 ASKED = (*turns(0), "within 0 5", "within 1 5", "seat 0", "seat 1")
 OFFICE = ("office 2 00 10", *ASKED, "close")
 
-BEHIND = ("faulted", "history", "close", "recover")
+BEHIND = ("faulted", "history", "fault none", "close", "recover")
 
 
 def seat(station, course):

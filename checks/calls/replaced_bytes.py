@@ -8,7 +8,7 @@ from writing import BALANCES, FIRST, HEAD, MARKS, SECTOR, ZERO, body_at, gate_at
 # does the first byte of any sector, which may be that of a gate.
 COUNTED = (0x00, 0x01, 0xA5, 0xFF)
 
-IMAGES = 2_514_524
+IMAGES = 2_414_524
 
 # How many images are asked for at once.
 AT_ONCE = 1_000
