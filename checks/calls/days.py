@@ -57,7 +57,8 @@ class Told:
 
 
 def lose_power(console, kind, at):
-    """A day that fails at this call, and then each power loss: how many there are."""
+    """A day that fails at this call, and then each power loss: how many there are. The day is had once, and what each power loss
+    leaves of its sectors is written as an image, since threads take long where other programs run."""
     answers = console.ask([*NEW, f"fault {kind} any {at}", DAY, "close", "pending"])
     told, pending = Told(answers), [int(number) for number in re.findall(r"\d+", answers[-1])]
     held = console.ask([f"sector {sector}" for sector in range(SECTORS)])

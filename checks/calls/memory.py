@@ -65,6 +65,8 @@ class Row:
     # What is looked at instead behind a device fault, and the answers that are lawful then.
     behind_fault: tuple = ()
     lawful: tuple = ()
+    # Whether the call asks for all its memory before it calls the device.
+    is_first: bool = False
 
 
 FORMATTED = ("device 55", "format 4")
@@ -76,16 +78,30 @@ LAYOUT_1 = ("device 9", "put 0 0 544c4447" "0001" "0000" "0000000000000004",
             "put 1 0 544c4231" "0000" "0001" "0000000000000000" + 16 * "00"
             + "01000000" "00000000" "00000001" "00000000" "00000000000001f4" "0000000000000003", "put 2 0 a5")
 
+
+def writes(count):
+    return tuple(f"write {at} 07" for at in range(count))
+
+
+def behind(count):
+    return f", behind {count} others" if count else ""
+
+
 DEPOSIT = "Deposit { to: 1, amount: %d, reference: 0 }"
 
 ROWS = (
     Row("a device is made", (), "device 55", (), (ALONE,)),
     Row("a ledger is made", (), "ledger", (), (ALONE,)),
-    Row("a sector is written", ("device 20",), "write 3 07", (), ("DeviceFault",), ("pending", "sector 3")),
-    Row("a device is synced", ("device 20",), "sync", (), ("DeviceFault",), ("pending",)),
+    # the device's record of its calls grows at some of them
+    *(Row(f"a sector is written{behind(count)}", ("device 20", *writes(count)), f"write {count} 07", (), ("DeviceFault",),
+          ("pending", f"sector {count}")) for count in (0, 4, 8, 16)),
+    *(Row(f"a device is synced{behind(count)}", ("device 20", *writes(count)), "sync", (), ("DeviceFault",),
+          ("pending", "sector 0")) for count in (0, 4, 8, 16)),
     Row("a device is formatted", ("device 55",), "format 4", (), (FAULT,)),
-    Row("a ledger is recovered", POSTED, "recover", ("next 1 total 500 1=500",), (MEMORY, FAULT), ("pending", "sector 20")),
-    Row("a clerk is opened", POSTED, "clerk 2 00 10", ("next 1 total 500 1=500",), (MEMORY, FAULT), ("pending", "sector 20")),
+    Row("a ledger is recovered", POSTED, "recover", ("next 1 total 500 1=500",), (MEMORY, FAULT), ("pending", "sector 20"),
+        is_first=True),
+    Row("a clerk is opened", POSTED, "clerk 2 00 10", ("next 1 total 500 1=500",), (MEMORY, FAULT), ("pending", "sector 20"),
+        is_first=True),
     *(Row(f"a turn is taken, behind {count} others", (*OPEN, *(f"turn {at % 2} deposit 1 5 0" for at in range(count))),
           f"turn {count % 2} deposit 1 5 0",
           (f"turn {count} station {count % 2} {('Bottom', 'Top')[count % 2]} posted {count} ok",), (MEMORY, FAULT),
@@ -98,10 +114,11 @@ ROWS = (
          "turn 1 station 1 Raise empty Short"),
         (MEMORY, ALONE, FAULT), (), ("close", "clerk 2 00 10"), ("next 0 total 0", "next 1 total 500 1=500")),
     Row("a ledger is copied", ("device 55", "other", *POSTED), "copy 4", (), ("Source(Memory)", "Source(Device)", "Target"),
-        ("pending", "sector 20")),
+        ("pending", "sector 20"), is_first=True),
     Row("an older ledger is migrated", ("device 55", "other", *LAYOUT_1), "migrate 4", (),
-        ("Source(Memory)", "Source(Device)", "Target"), ("pending", "sector 1")),
-    Row("a ledger is listed", POSTED, "listing", ("at, end, left (0, 1, 1)",), (MEMORY, FAULT), ("pending", "sector 20")),
+        ("Source(Memory)", "Source(Device)", "Target"), ("pending", "sector 1"), is_first=True),
+    Row("a ledger is listed", POSTED, "listing", ("at, end, left (0, 1, 1)",), (MEMORY, FAULT), ("pending", "sector 20"),
+        is_first=True),
     Row("a seam is made", (*POSTED, "listing", "next"), "behind", (), (ALONE,), ("numbers", "ledger")),
     Row("a record is added to an archive", ("device 43", "other", *POSTED, "listing"), "add 1", (), ("Target",)),
     Row("a desk is made", (), "desk 2", (), (ALONE,)),
@@ -122,6 +139,7 @@ def refuse_each(console, row):
     for number in range(1, MOST):
         console.ask(["nothing", "other", "nothing", *row.before])
         stays = console.ask(row.stay)
+        console.ask(["calls"] if row.is_first else [])
         answer, is_refused = console.refuse(number, row.line)
         of = f"{row.name}, request {number}"
         if not is_refused:
@@ -132,6 +150,8 @@ def refuse_each(console, row):
         if told[0] == FAULT and row.behind_fault:
             require(console.ask(row.behind_fault)[-1] in row.lawful, f"{of}: what is found behind a fault")
             continue
+        if row.is_first and told[0] in (MEMORY, "Source(Memory)"):
+            require_same(console.ask(["calls"]), ["calls []"], f"{of}: what the device was called for")
         require_same(console.ask(row.stay), stays, f"{of}: what it leaves")
         # of a run one reply may tell it, and the others stand
         if len(answer) == 1 and told[0] not in (FAULT, "Target"):
