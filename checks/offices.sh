@@ -6,7 +6,8 @@
 # Lets an office of three slots keep an archive and make copies, amid such kills. Gives it folders that can't be used and
 # an archive that lacks a file, and ends or fails each call that a copy makes. Lets clients of clients/ be killed too,
 # which repeat what they weren't told, and looks that nothing stands twice. Fills pipes before anybody reads them: of a
-# counter, of a terminal, of a script, and with answers of which nobody heard. Slows or holds it, and wishes meanwhile.
+# counter, of a terminal, of a script, and with answers of which nobody heard. Lets two counters ask at once, one of them
+# so that its answers fill the pipe. Slows or holds it, and wishes meanwhile.
 # Looks under strace whether a posting is told behind its last sync. Words: the built derbyfig, and those of
 # checks/offices/check.py, as --kills 100. Needed beside the toolchain: Python and `strace`. The files are made below
 # the folder BENCH_FOLDER, /var/tmp without it.

@@ -8,6 +8,7 @@ import signal
 import sys
 
 import archives
+import asking
 import coming
 import earlier
 import folders
@@ -28,6 +29,9 @@ CASES = (
     talking.all_at_once,
     talking.behind_a_checkpoint,
     talking.said_before_it_opens,
+    asking.references_far_above_the_last,
+    asking.each_is_told_what_it_asked,
+    asking.a_search_tells_of_one_moment,
     coming.hangs_up_and_comes_back,
     coming.says_and_never_listens,
     coming.never_ends_a_line,
@@ -108,6 +112,14 @@ def attempt(words, name, work):
         shutil.rmtree(folder)
 
 
+def told_of(words, work):
+    """The same, where one that holds is told too."""
+    outcome = attempt(words, work.__name__, work)
+    if outcome is not None:
+        print(f"{work.__module__} {work.__name__}: as it must be", flush=True)
+    return outcome
+
+
 def all_kills(words):
     """The outcomes of all kills, each of a file of its own, half of them with checkpoints."""
     moments = random.Random(words.seed)
@@ -135,7 +147,7 @@ def main():
     # so that an end from outside ends what was started too
     signal.signal(signal.SIGTERM, lambda *_: sys.exit("it was ended from outside"))
     cases = [work for work in CASES if words.only in work.__name__]
-    outcomes = [attempt(words, work.__name__, work) for work in cases]
+    outcomes = [told_of(words, work) for work in cases]
     killed = all_kills(words) if words.only in "kills" else []
     if None in outcomes + killed:
         sys.exit(f"{(outcomes + killed).count(None)} cases failed, with the seed {words.seed}")
