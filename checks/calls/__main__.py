@@ -15,13 +15,14 @@ import limits
 import listings
 import many_turns
 import openings
+import places
 import schedules
 import searches
 
 HERE = Path(__file__).resolve().parent
 
 # What types tests, and the longest that one of them may take.
-DRIVERS = (limits, listings, many_turns, openings, schedules, searches)
+DRIVERS = (limits, listings, many_turns, openings, places, schedules, searches)
 SECONDS = 30
 
 # How many lines of a difference are shown.

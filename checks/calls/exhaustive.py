@@ -10,6 +10,7 @@ import changed_images
 import days
 import faults
 import images
+import looks
 import offices
 import replaced_bytes
 import stops
@@ -30,6 +31,7 @@ RUNS = (
     images.damaged_at_one_place,
     replaced_bytes.each_in_two_images,
     changed_images.at_several_places,
+    looks.amid_a_checkpoint,
 )
 
 

@@ -14,6 +14,9 @@ LISTED = 300
 # How many records a ledger has that is made at one go.
 FILLED = 900
 
+# How many requests the largest ring holds.
+RING = 4_096
+
 # How many moves a long sweep has.
 MOVES = 1000
 
@@ -129,6 +132,42 @@ def sixty_four_stations_sweep_a_thousand_moves():
     return asked, [f"{bits(line, '/')} privileges 1", "first legitimate Some(0)", late]
 
 
+def the_largest_rings_are_answered_fifteen_at_a_time():
+    """273 times 15 are all but one of 4,096. One more finds no place."""
+    held = [f"Deposit {{ to: 1, amount: 1, reference: {ticket} }}" for ticket in range(RING + 1)]
+    asked = [f"desk {RING}", *(f"submit deposit 1 1 {ticket}" for ticket in range(RING + 1)),
+             *["gather", "give_up"] * 274, "gather", *["answer"] * RING, "answer"]
+    told = [f"Ok({ticket})" for ticket in range(RING)] + [f"Err({held[RING]})"]
+    told += [f"[{', '.join(held[first:min(first + 15, RING)])}]" for first in range(0, RING, 15)] + ["[]"]
+    told += [f"Some(Answer {{ ticket: {ticket}, entry: {held[ticket]}, outcome: Undecided }})" for ticket in range(RING)]
+    return asked, [*told, "None"]
+
+
+def ended(stations, moves, bottom):
+    """A day on which nobody asks for anything, and what it prints: each station ends since all turns are taken. So many
+    of the turns are the bottom station's, which are counted in the history."""
+    line = (False,) * stations, (True,) + (False,) * (stations - 1)
+    asked = ["device 55", "format 4", *["hold"] * stations, f"day {stations} {bits(line, ' ')} {moves}", "history"]
+    history = []
+    for index in range(moves):
+        ((station, rule),) = privileges(line)
+        history.append(f"turn {index} station {station} {rule} empty")
+        line = moved(line, station, rule)
+    told = [*["end Reached", "[]", "[]"] * stations, f"{bits(line, '/')} privileges 1", "first legitimate Some(0)"]
+    assert sum(" station 0 " in turn for turn in history) == bottom
+    return asked, [*told, *history]
+
+
+def sixty_four_stations_have_a_day():
+    """The bottom one has turns 0 and 126: from it to the top one there are 63 turns, and as many back."""
+    return ended(64, 200, 2)
+
+
+def two_stations_have_a_day_of_two_thousand_turns():
+    """Each one takes a thousand."""
+    return ended(2, 2_000, 1_000)
+
+
 TESTS = (
     a_clerk_takes_300_turns_and_a_run_of_300_events,
     many_slots_are_formatted,
@@ -138,4 +177,7 @@ TESTS = (
     a_journal_of_many_records_is_made_with_one_sync,
     an_archive_of_many_records_goes_on_where_it_ended,
     sixty_four_stations_sweep_a_thousand_moves,
+    sixty_four_stations_have_a_day,
+    two_stations_have_a_day_of_two_thousand_turns,
+    the_largest_rings_are_answered_fifteen_at_a_time,
 )

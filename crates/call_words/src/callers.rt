@@ -7,10 +7,11 @@ use crate::bench::Bench;
 use crate::console::{Hand, Scene};
 use crate::lines::read_line;
 use crate::said::Said;
+use crate::stations::run_some;
 use crate::told::Told;
 use line_lock::{Blank, Closing, Count, Line, Office, OpenedOn, Seat, TurnRefusal};
 use sector_device::Device;
-use std::alloc::Global;
+use std::alloc::AllocError;
 use std::marker::Brand;
 use std::sync::Wait;
 use std::sync::atomic::{AtomicBool, Ordering};
@@ -19,59 +20,95 @@ use std::thread::{Threads, for_each_mut, yield_now};
 // How often a caller is refused at most.
 const TRIES: u64 = 10_000_000;
 
+// What is done in an office.
+#[derive(Clone, Copy)]
+enum Work {
+    // each seat takes so many turns
+    Turns(u64),
+    // the stations from the first one on that hold something run
+    Run { first: u64, moves: u64, tries: u64 },
+}
+
 /// `callers STATIONS XBITS UPBITS TURNS`: an office in which each seat, in a thread of its own, takes so many turns.
-/// Its clerk is in hand then.
+/// `stations STATIONS XBITS UPBITS FIRST MOVES TRIES`: one in which some stations run. Its clerk is in hand then.
 pub fn call_in_threads<R: Threads + Wait + Sync>(
     rt: &R,
     device: Bench,
     hand: &mut Hand,
+    name: &str,
     said: &mut Said<'_>,
     told: &mut Told,
 ) -> Scene {
-    let line = match read_line(said) {
-        Some(Ok(line)) => line,
-        Some(Err(refusal)) => {
-            told.refused(&refusal);
-            return Scene::Device(device);
-        }
-        None => {
-            told.line("wrong words");
-            return Scene::Device(device);
-        }
+    let Some(line) = read_line(said, told) else {
+        return Scene::Device(device);
+    };
+    let work = match name {
+        "callers" => Work::Turns(said.number()),
+        _ => Work::Run {
+            first: said.number(),
+            moves: said.number(),
+            tries: said.number(),
+        },
     };
     let blank = Blank::new(line.stations() as u64);
-    call_in::<Brand, R>(rt, hand.alloc, device, line, blank, said.number(), told)
+    call_in::<Brand, R>(rt, device, hand, line, blank, work, told)
 }
 
 fn call_in<L: Count + OpenedOn + Send + Sync, R: Threads + Wait + Sync>(
     rt: &R,
-    alloc: Global,
     device: Bench,
+    hand: &mut Hand,
     line: Line,
     blank: Blank,
-    turns: u64,
+    work: Work,
     told: &mut Told,
 ) -> Scene
     requires { Names L.name L.parts L.device L.line blank (with_failures (memory_device_state device.inner) device.failures) line }
 {
-    let (office, mut seats) = match Office::<Bench, L>::open(alloc, device, line, blank) {
+    let (office, seats) = match Office::<Bench, L>::open(hand.alloc, device, line, blank) {
         Ok(opened) => opened,
         Err((device, refusal)) => {
             told.refused(&refusal);
             return Scene::Device(device);
         }
     };
-    take_all_turns(rt, &office, seats.as_mut_slice(), turns);
+    let seats = match do_work(rt, &office, seats, hand, work, told) {
+        Ok(seats) => seats,
+        Err(error) => {
+            told.refused(&error);
+            return Scene::Device(office.given_up());
+        }
+    };
     match office.close(seats) {
         Ok(Closing { clerk, audit }) => {
-            told.line_of(&audit.last);
-            told.named("first legitimate", &audit.first_legitimate);
+            told.audit(&audit);
             Scene::Clerk(clerk)
         }
         Err((office, _, refusal)) => {
             told.refused(&refusal);
             Scene::Device(office.given_up())
         }
+    }
+}
+
+fn do_work<L: Count + OpenedOn + Send + Sync, R: Threads + Wait + Sync>(
+    rt: &R,
+    office: &Office<Bench, L>,
+    mut seats: Vec<Seat<L>>,
+    hand: &mut Hand,
+    work: Work,
+    told: &mut Told,
+) -> Result<Vec<Seat<L>>, AllocError> {
+    match work {
+        Work::Turns(turns) => {
+            take_all_turns(rt, office, seats.as_mut_slice(), turns);
+            Ok(seats)
+        }
+        Work::Run {
+            first,
+            moves,
+            tries,
+        } => run_some(rt, office, seats, hand, (first, moves, tries), told),
     }
 }
 

@@ -6,20 +6,13 @@ use crate::entries::read_entries;
 use crate::lines::read_line;
 use crate::said::Said;
 use crate::told::Told;
+use live_office::Look;
 use turn_clerk::{Clerk, Event};
 
 /// `clerk STATIONS XBITS UPBITS`: opens a clerk on the device.
 pub fn open_clerk(device: Bench, hand: &mut Hand, said: &mut Said<'_>, told: &mut Told) -> Scene {
-    let line = match read_line(said) {
-        Some(Ok(line)) => line,
-        Some(Err(refusal)) => {
-            told.refused(&refusal);
-            return Scene::Device(device);
-        }
-        None => {
-            told.line("wrong words");
-            return Scene::Device(device);
-        }
+    let Some(line) = read_line(said, told) else {
+        return Scene::Device(device);
     };
     match Clerk::open(hand.alloc, device, line) {
         Ok(clerk) => {
@@ -34,30 +27,32 @@ pub fn open_clerk(device: Bench, hand: &mut Hand, said: &mut Said<'_>, told: &mu
 }
 
 /// A word of a clerk.
-pub fn run(
-    mut clerk: Clerk<Bench>,
+pub fn ask(
+    clerk: &mut Clerk<Bench>,
     hand: &mut Hand,
     name: &str,
     said: &mut Said<'_>,
     told: &mut Told,
-) -> Scene {
+) {
     match name {
-        "turn" => turn(&mut clerk, hand, said, told),
+        "turn" => turn(clerk, hand, said, told),
         "event" => add_event(hand, said, told),
-        "run" => run_events(&mut clerk, hand, told),
+        "run" => run_events(clerk, hand, told),
         "ledger" => told.ledger(clerk.next(), clerk.ledger()),
         "line" => told.line_of(&clerk.line()),
-        "history" => tell_history(&clerk, told),
+        "history" => tell_history(clerk, told),
         "moves" => told.value(&clerk.moves()),
-        "opening" => opening(&clerk, said, told),
-        "in_flight" => tell_in_flight(&clerk, told),
+        "opening" => opening(clerk, said, told),
+        "in_flight" => tell_in_flight(clerk, told),
         "faulted" => told.value(&clerk.is_faulted()),
-        "find" => find(&mut clerk, said, told),
-        "latest" => latest(&mut clerk, said, told),
+        "shown" => told.value(clerk),
+        "find" => find(clerk, said, told),
+        "latest" => latest(clerk, said, told),
+        "look" => begin_look(hand, said, told),
+        "step" => step(clerk, hand, told),
         "fault" => set_fault(hand, said, told),
         _ => told.line("no such word of a clerk"),
     }
-    Scene::Clerk(clerk)
 }
 
 fn tell_history(clerk: &Clerk<Bench>, told: &mut Told) {
@@ -76,24 +71,37 @@ fn tell_in_flight(clerk: &Clerk<Bench>, told: &mut Told) {
 // `find REFERENCE FROM END`
 fn find(clerk: &mut Clerk<Bench>, said: &mut Said<'_>, told: &mut Told) {
     let (reference, from, end) = (said.number(), said.number(), said.number());
-    if !said.is_right(told) {
-        return;
-    }
-    match clerk.find(reference, from, end) {
-        Ok(found) => told.value(&found),
-        Err(refusal) => told.refused(&refusal),
+    if said.is_right(told) {
+        told.outcome(&clerk.find(reference, from, end));
     }
 }
 
 // `latest STATION LIMIT FROM`
 fn latest(clerk: &mut Clerk<Bench>, said: &mut Said<'_>, told: &mut Told) {
     let (station, limit, from) = (said.station(), said.number(), said.number());
-    if !said.is_right(told) {
-        return;
+    if said.is_right(told) {
+        told.outcome(&clerk.latest(station, limit, from));
     }
-    match clerk.latest(station, limit, from) {
-        Ok(latest) => told.value(&latest),
-        Err(refusal) => told.refused(&refusal),
+}
+
+// `look STATION LIMIT FROM`: begins a look at a station's postings.
+fn begin_look(hand: &mut Hand, said: &mut Said<'_>, told: &mut Told) {
+    let (station, limit) = (said.station(), said.number());
+    let look = Look::starting_at(said.number());
+    if said.is_right(told) {
+        hand.look = Some((look, station, limit));
+    }
+}
+
+// `step`: the next step of the look that was begun.
+fn step(clerk: &mut Clerk<Bench>, hand: &mut Hand, told: &mut Told) {
+    let Some((look, station, limit)) = &mut hand.look else {
+        told.line("not asked: no look");
+        return;
+    };
+    match look.step(clerk, *station, *limit) {
+        Some(seen) => told.outcome(&seen),
+        None => told.line("goes on"),
     }
 }
 

@@ -6,6 +6,7 @@ use crate::desks::{Pair, new_desk};
 use crate::entries::no_entries;
 use crate::offices::{Planned, play};
 use crate::said::Said;
+use crate::spans::have_spans;
 use crate::switch::Switch;
 use crate::told::Told;
 use crate::{clerks, desks, devices, fillings, journals, ledgers, lines, listings};
@@ -13,7 +14,8 @@ use four_state::Line;
 use gate_journal::{ACCOUNTS, Filling, Journal, Snapshot};
 use ledger_archive::Seam;
 use ledger_reading::Listing;
-use office_day::HeldEntries;
+use live_office::Look;
+use office_day::{HeldEntries, MemoryArchive};
 use sector_device::Picks;
 use std::alloc::{AllocError, Global};
 use std::mem;
@@ -54,6 +56,9 @@ pub struct Hand {
     pub picks: Picks,
     pub snapshot: Box<Snapshot>,
     pub seam: Option<Seam>,
+    pub archive: Option<MemoryArchive>,
+    /// A look at the postings of a station, up to a reference.
+    pub look: Option<(Look, u8, u64)>,
 }
 
 /// A console: it has a device in hand, or what stands on it.
@@ -89,6 +94,8 @@ impl Console {
                 },
                 snapshot: Box::new(alloc, snapshot)?,
                 seam: None,
+                archive: None,
+                look: None,
             },
             told: Told::new(alloc)?,
         })
@@ -121,8 +128,11 @@ impl Console {
             Scene::Device(device) if name == "day" => {
                 have_day(rt, device, &mut self.hand, &mut said, &mut self.told)
             }
-            Scene::Device(device) if name == "callers" => {
-                call_in_threads(rt, device, &mut self.hand, &mut said, &mut self.told)
+            Scene::Device(device) if name == "callers" || name == "stations" => {
+                call_in_threads(rt, device, &mut self.hand, name, &mut said, &mut self.told)
+            }
+            Scene::Device(device) if name == "spans" => {
+                have_spans(rt, device, &mut self.hand, &mut said, &mut self.told)
             }
             scene => scene.run(&mut self.hand, name, &mut said, &mut self.told),
         };
@@ -152,15 +162,29 @@ impl Scene {
         }
         match self {
             Scene::Nothing => begin(hand, name, said, told),
-            Scene::Device(device) => devices::run(device, hand, name, said, told),
-            Scene::Line(line) => lines::run(line, hand, name, said, told),
-            Scene::Ledger(ledger) => ledgers::run(ledger, hand, name, said, told),
+            Scene::Device(device) if devices::begins(name) => {
+                devices::begin(device, hand, name, said, told)
+            }
+            Scene::Line(_) if name == "line" => lines::new_line(said, told),
             Scene::Desk(pair) => desks::run(pair, hand, name, said, told),
-            Scene::Journal(journal) => journals::run(journal, hand, name, said, told),
             Scene::Filling(filling) => fillings::run(filling, hand, name, said, told),
-            Scene::Listing(listing) => listings::run(listing, hand, name, said, told),
-            Scene::Clerk(clerk) => clerks::run(clerk, hand, name, said, told),
-            Scene::Office(planned) => Scene::Office(planned),
+            mut scene => {
+                scene.ask(hand, name, said, told);
+                scene
+            }
+        }
+    }
+
+    // Asks what is in hand, which stays there.
+    fn ask(&mut self, hand: &mut Hand, name: &str, said: &mut Said<'_>, told: &mut Told) {
+        match self {
+            Scene::Device(device) => devices::ask(device, hand, name, said, told),
+            Scene::Line(line) => lines::ask(line, hand, name, said, told),
+            Scene::Ledger(ledger) => ledgers::ask(ledger, hand, name, said, told),
+            Scene::Journal(journal) => journals::ask(journal, hand, name, said, told),
+            Scene::Listing(listing) => listings::ask(listing, hand, name, said, told),
+            Scene::Clerk(clerk) => clerks::ask(clerk, hand, name, said, told),
+            Scene::Nothing | Scene::Desk(_) | Scene::Filling(_) | Scene::Office(_) => {}
         }
     }
 

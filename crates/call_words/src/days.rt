@@ -5,8 +5,7 @@ use crate::entries::read_entries;
 use crate::lines::read_line;
 use crate::said::Said;
 use crate::told::Told;
-use four_state::Line;
-use office_day::{Day, HeldEntries, run_day};
+use office_day::{Day, HeldEntries, StationDay, run_day};
 use std::sync::Wait;
 use std::thread::Threads;
 
@@ -39,29 +38,10 @@ pub fn have_day<R: Threads + Wait + Sync>(
     said: &mut Said<'_>,
     told: &mut Told,
 ) -> Scene {
-    match read_line(said) {
-        Some(Ok(line)) => day_on(rt, device, line, hand, said, told),
-        Some(Err(refusal)) => {
-            told.refused(&refusal);
-            Scene::Device(device)
-        }
-        None => {
-            told.line("wrong words");
-            Scene::Device(device)
-        }
-    }
-}
-
-fn day_on<R: Threads + Wait + Sync>(
-    rt: &R,
-    device: Bench,
-    line: Line,
-    hand: &mut Hand,
-    said: &mut Said<'_>,
-    told: &mut Told,
-) -> Scene {
-    let moves = said.number();
-    let held = hand.held.as_slice();
+    let Some(line) = read_line(said, told) else {
+        return Scene::Device(device);
+    };
+    let (moves, held) = (said.number(), hand.held.as_slice());
     if held.len() != line.stations() as usize {
         told.line("not asked: not as many stations hold something");
         return Scene::Device(device);
@@ -69,25 +49,30 @@ fn day_on<R: Threads + Wait + Sync>(
     let day = run_day(rt, hand.alloc, device, line, held, moves, TRIES);
     hand.held.clear();
     match day {
-        Ok(
-            Day {
-                clerk,
-                audit,
-                stations,
-            },
-        ) => {
-            for station in stations.iter() {
-                told.named("end", &station.end);
-                told.value(&station.answers);
-                told.value(&station.unanswered);
-            }
-            told.line_of(&audit.last);
-            told.named("first legitimate", &audit.first_legitimate);
-            Scene::Clerk(clerk)
-        }
+        Ok(day) => account_for(day, told),
         Err((device, refusal)) => {
             told.refused(&refusal);
             Scene::Device(device)
         }
+    }
+}
+
+// Tells of a day. Its clerk is in hand then.
+fn account_for(day: Day<Bench>, told: &mut Told) -> Scene {
+    let Day {
+        clerk,
+        audit,
+        stations,
+    } = day;
+    tell_stations(stations.as_slice(), told);
+    told.audit(&audit);
+    Scene::Clerk(clerk)
+}
+
+fn tell_stations(stations: &[StationDay], told: &mut Told) {
+    for station in stations {
+        told.named("end", &station.end);
+        told.value(&station.answers);
+        told.value(&station.unanswered);
     }
 }

@@ -5,7 +5,7 @@ use crate::console::{Hand, Scene};
 use crate::entries::read_entries;
 use crate::said::Said;
 use crate::told::Told;
-use station_desk::{Desk, Feed, desk, reconcile};
+use station_desk::{Desk, Feed, Reconciled, desk, reconcile};
 
 /// A feed and its desk.
 #[derive(Drop)]
@@ -63,9 +63,7 @@ fn reconciled(pair: Pair, hand: &mut Hand, told: &mut Told) -> Scene {
     let Pair { feed, desk } = pair;
     match reconcile(hand.alloc, feed, desk) {
         Ok(all) => {
-            told.named("submitted, collected", &(all.submitted, all.collected));
-            told.value(&all.answers);
-            told.value(&all.unanswered);
+            tell_reconciled(&all, told);
             Scene::Nothing
         }
         Err((feed, desk, error)) => {
@@ -73,4 +71,10 @@ fn reconciled(pair: Pair, hand: &mut Hand, told: &mut Told) -> Scene {
             Scene::Desk(Pair { feed, desk })
         }
     }
+}
+
+fn tell_reconciled(all: &Reconciled, told: &mut Told) {
+    told.named("submitted, collected", &(all.submitted, all.collected));
+    told.value(&all.answers);
+    told.value(&all.unanswered);
 }

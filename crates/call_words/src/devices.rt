@@ -2,7 +2,10 @@
 use crate::bench::Bench;
 use crate::clerks::open_clerk;
 use crate::console::{Hand, Scene};
-use crate::copies::{copy_to, list, migrate_to, show_old};
+use crate::copies::{
+    catch_up, list, located, new_archive, postings, recovered, show_old, to_other,
+};
+use crate::crashes::{crash, pick};
 use crate::days::hold;
 use crate::fillings;
 use crate::journals::open_journal;
@@ -12,11 +15,9 @@ use crate::said::Said;
 use crate::switch::{NEVER, Switch};
 use crate::told::Told;
 use fault_injector::Op;
-use gate_journal::{ACCOUNTS, format, format_with};
-use journal_recovery::recover;
-use sector_device::{Device, Picks, SECTOR, Sector};
+use gate_journal::{ACCOUNTS, FirstSector, format, format_with};
+use sector_device::{Device, SECTOR, Sector};
 use std::alloc::AllocError;
-use std::mem;
 use std::sync::Arc;
 
 /// `device N`: a device of N sectors, all zero, in the place of what was in hand.
@@ -36,42 +37,74 @@ fn device(hand: &mut Hand, sectors: u64) -> Result<Bench, AllocError> {
     Bench::new(hand.alloc, sectors, Arc::try_clone(&hand.switch)?)
 }
 
-/// A word of a device.
-pub fn run(
-    mut device: Bench,
+/// A word of a device that puts something else in its place, or takes it.
+pub fn begin(
+    device: Bench,
     hand: &mut Hand,
     name: &str,
     said: &mut Said<'_>,
     told: &mut Told,
 ) -> Scene {
     match name {
-        "journal" => return open_journal(device, told),
-        "clerk" => return open_clerk(device, hand, said, told),
-        "fill" => return fillings::begin(device, hand, said, told),
-        "listing" => return open_listing(device, hand, told),
-        "office" => return plan_office(device, hand, said, told),
-        "recover" => return recovered(device, hand, told),
-        "migrate" => return migrate_to(device, hand, said, told),
-        "copy" => return copy_to(device, hand, said, told),
-        "old" => return show_old(device, told),
-        "list" => return list(device, hand, told),
-        "crash" => return crash(device, hand, said, told),
-        "read" => read(&mut device, said, told),
-        "write" => write(&mut device, said, told),
-        "sync" => sync(&mut device, told),
+        "journal" => open_journal(device, told),
+        "clerk" => open_clerk(device, hand, said, told),
+        "fill" => fillings::begin(device, hand, said, told),
+        "listing" => open_listing(device, hand, told),
+        "office" => plan_office(device, hand, said, told),
+        "recover" => recovered(device, hand, told),
+        "locate" => located(device, hand, told),
+        "postings" => postings(device, hand, told),
+        "catch_up" => catch_up(device, hand, told),
+        "migrate" | "copy" => to_other(device, hand, name, said, told),
+        "old" => show_old(device, told),
+        "list" => list(device, hand, told),
+        "crash" => crash(device, hand, said, told),
+        _ => Scene::Device(device),
+    }
+}
+
+/// Whether that is such a word.
+pub fn begins(name: &str) -> bool {
+    matches!(
+        name,
+        "journal"
+            | "clerk"
+            | "fill"
+            | "listing"
+            | "office"
+            | "recover"
+            | "locate"
+            | "postings"
+            | "catch_up"
+            | "migrate"
+            | "copy"
+            | "old"
+            | "list"
+            | "crash"
+    )
+}
+
+/// Any other word of a device.
+pub fn ask(device: &mut Bench, hand: &mut Hand, name: &str, said: &mut Said<'_>, told: &mut Told) {
+    match name {
+        "read" => read(device, said, told),
+        "write" => write(device, said, told),
+        "sync" => told.done(&device.sync()),
         "pick" => pick(hand, said, told),
         "hold" => hold(hand, said, told),
-        "put" => put(&mut device, said, told),
-        "sector" => show_sector(&device, said, told),
-        "pending" => show_pending(&device, hand, told),
-        "calls" => show_calls(&mut device, told),
+        "archive" => new_archive(hand, said, told),
+        "put" => put(device, said, told),
+        "twin" => twin(device, hand, told),
+        "sector" => show_sector(device, said, told),
+        "first" => show_first(device, told),
+        "pending" => show_pending(device, hand, told),
+        "calls" => show_calls(device, told),
         "fault" => set_fault(hand, said, told),
         "account" => set_account(hand, said, told),
-        "format" => format_device(&mut device, said, told),
-        "format_with" => format_device_with(&mut device, hand, said, told),
+        "format" => format_device(device, said, told),
+        "format_with" => format_device_with(device, hand, said, told),
         _ => told.line("no such word of a device"),
     }
-    Scene::Device(device)
 }
 
 // `format SLOTS`
@@ -81,10 +114,7 @@ fn format_device(device: &mut Bench, said: &mut Said<'_>, told: &mut Told) {
         told.line("not asked: no slots");
         return;
     }
-    match format(device, slots) {
-        Ok(()) => {}
-        Err(refusal) => told.refused(&refusal),
-    }
+    told.done(&format(device, slots));
 }
 
 // `format_with SLOTS BASE`, and the accounts in hand
@@ -94,10 +124,7 @@ fn format_device_with(device: &mut Bench, hand: &mut Hand, said: &mut Said<'_>, 
         told.line("not asked: no slots");
         return;
     }
-    match format_with(device, slots, base, &hand.snapshot) {
-        Ok(()) => {}
-        Err(refusal) => told.refused(&refusal),
-    }
+    told.done(&format_with(device, slots, base, &hand.snapshot));
 }
 
 /// `account A BALANCE SEALED`: an account of the snapshot in hand, with the number 1 if it is sealed.
@@ -107,15 +134,14 @@ pub fn set_account(hand: &mut Hand, said: &mut Said<'_>, told: &mut Told) {
     if place >= ACCOUNTS {
         said.note_wrong();
     }
-    if place >= ACCOUNTS || !said.is_right(told) {
-        return;
+    if said.is_right(told) && place < ACCOUNTS {
+        hand.snapshot.balances[place] = balance;
+        hand.snapshot.sealed[place] = sealed > 0;
     }
-    hand.snapshot.balances[place] = balance;
-    hand.snapshot.sealed[place] = sealed > 0;
 }
 
-// The sector that begins with the bytes of the next word, of which the last fills it.
-fn read_sector(said: &mut Said<'_>) -> Sector {
+/// The sector that begins with the bytes of the next word, of which the last fills it.
+pub fn read_sector(said: &mut Said<'_>) -> Sector {
     let mut sector = [0; SECTOR];
     let count = said.bytes(&mut sector);
     let (first, rest) = sector.split_at_mut(count.min(SECTOR));
@@ -141,13 +167,6 @@ fn put(device: &mut Bench, said: &mut Said<'_>, told: &mut Told) {
 fn read_behind(sector: &mut Sector, offset: usize, said: &mut Said<'_>) {
     let (_, rest) = sector.split_at_mut(offset.min(SECTOR));
     said.bytes(rest);
-}
-
-fn sync(device: &mut Bench, told: &mut Told) {
-    match device.sync() {
-        Ok(()) => {}
-        Err(fault) => told.refused(&fault),
-    }
 }
 
 // `read AT`
@@ -177,63 +196,7 @@ fn write(device: &mut Bench, said: &mut Said<'_>, told: &mut Told) {
         told.line("not asked: no such sector");
         return;
     }
-    match device.write(at, &sector) {
-        Ok(()) => {}
-        Err(fault) => told.refused(&fault),
-    }
-}
-
-// `pick AT HEX`: what the next power loss leaves in a sector, which the last byte fills.
-fn pick(hand: &mut Hand, said: &mut Said<'_>, told: &mut Told) {
-    let (at, sector) = (said.number(), read_sector(said));
-    if said.is_right(told) && hand.picks.list.push((at, sector)).is_err() {
-        told.line("no memory");
-    }
-}
-
-// `crash [PATTERN]`: by the picks in hand, and behind them by a letter for each sector that is pending, in order, and
-// again from the first: `z` zeros, `a` an open gate and noise, `s` noise, `o` what stood there before; else what was
-// written is left.
-fn crash(device: Bench, hand: &mut Hand, said: &mut Said<'_>, told: &mut Told) -> Scene {
-    let pattern = said.word().unwrap_or("").as_bytes();
-    let mut picks = Picks {
-        list: Vec::new(hand.alloc),
-    };
-    mem::swap(&mut picks, &mut hand.picks);
-    let mut rest = pattern.iter();
-    for at in 0..device.sectors() {
-        if pattern.is_empty() || !device.is_pending(at) {
-            continue;
-        }
-        let letter = match rest.next() {
-            Some(letter) => *letter,
-            None => {
-                rest = pattern.iter();
-                rest.next().copied().unwrap_or(b'n')
-            }
-        };
-        if let Some(sector) = left(&device, at, letter) {
-            if picks.list.push((at, sector)).is_err() {
-                told.line("no memory");
-            }
-        }
-    }
-    Scene::Device(device.crash(&picks))
-}
-
-// What a letter leaves in a sector.
-fn left(device: &Bench, at: u64, letter: u8) -> Option<Sector> {
-    match letter {
-        b'z' => Some([0; SECTOR]),
-        b'a' => {
-            let mut sector = [0x77; SECTOR];
-            sector[0] = 0xa5;
-            Some(sector)
-        }
-        b's' => Some([0x77; SECTOR]),
-        b'o' => device.before(at).copied(),
-        _ => None,
-    }
+    told.done(&device.write(at, &sector));
 }
 
 // `sector AT`: its bytes up to the last one that isn't zero.
@@ -242,6 +205,34 @@ fn show_sector(device: &Bench, said: &mut Said<'_>, told: &mut Told) {
         Some(sector) => told.bytes(sector),
         None => told.line("no such sector"),
     }
+}
+
+// `first`: what the first sector says of the journal behind it.
+fn show_first(device: &Bench, told: &mut Told) {
+    match device.sector(0) {
+        Some(sector) => told.value(&FirstSector::of(sector)),
+        None => told.line("no such sector"),
+    }
+}
+
+// `twin`: the other device is another one with the same sectors, all of them durable.
+fn twin(device: &Bench, hand: &mut Hand, told: &mut Told) {
+    match twin_of(device, hand) {
+        Ok(twin) => hand.other = Some(twin),
+        Err(error) => told.refused(&error),
+    }
+}
+
+fn twin_of(device: &Bench, hand: &mut Hand) -> Result<Bench, AllocError> {
+    hand.other_switch = Arc::new(hand.alloc, Switch::new())?;
+    let switch = Arc::try_clone(&hand.other_switch)?;
+    let mut twin = Bench::new(hand.alloc, device.sectors(), switch)?;
+    for at in 0..device.sectors() {
+        if let Some(sector) = device.sector(at) {
+            let _ = twin.put(at, sector);
+        }
+    }
+    Ok(twin)
 }
 
 // `pending`: the sectors that a power loss may change.
@@ -281,20 +272,5 @@ pub fn set_fault(hand: &mut Hand, said: &mut Said<'_>, told: &mut Told) {
     };
     if said.is_right(told) {
         hand.switch.set(op, left, then, kind == "stop");
-    }
-}
-
-// `recover`: what the device holds, as a ledger.
-fn recovered(device: Bench, hand: &mut Hand, told: &mut Told) -> Scene {
-    match recover(hand.alloc, device) {
-        Ok(found) => {
-            let next = found.journal.next();
-            told.ledger(next, &found.ledger);
-            Scene::Device(found.journal.into_device())
-        }
-        Err((device, refusal)) => {
-            told.refused(&refusal);
-            Scene::Device(device)
-        }
     }
 }

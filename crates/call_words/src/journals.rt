@@ -4,7 +4,7 @@ use crate::console::{Hand, Scene};
 use crate::devices::{set_account, set_fault};
 use crate::said::Said;
 use crate::told::Told;
-use gate_journal::{Journal, PAYLOAD, Record};
+use gate_journal::{Journal, PAYLOAD, Record, Snapshot, SnapshotRefusal};
 
 /// `journal`: opens the journal that the device holds.
 pub fn open_journal(device: Bench, told: &mut Told) -> Scene {
@@ -21,23 +21,32 @@ pub fn open_journal(device: Bench, told: &mut Told) -> Scene {
 }
 
 /// A word of a journal.
-pub fn run(
-    mut journal: Journal<Bench>,
+pub fn ask(
+    journal: &mut Journal<Bench>,
     hand: &mut Hand,
     name: &str,
     said: &mut Said<'_>,
     told: &mut Told,
-) -> Scene {
+) {
     match name {
-        "numbers" => tell_numbers(&journal, told),
-        "append" => append(&mut journal, said, told),
-        "checkpoint" => checkpoint(&mut journal, hand, told),
-        "read" => read(&mut journal, said, told),
+        "numbers" => tell_numbers(journal, told),
+        "append" => append(journal, said, told),
+        "checkpoint" => told.done(&journal.checkpoint(&hand.snapshot)),
+        "snapshot" => tell_snapshot(&journal.read_snapshot(), told),
+        "earlier" => tell_snapshot(&journal.read_earlier_snapshot(), told),
+        "read" => read(journal, said, told),
         "account" => set_account(hand, said, told),
         "fault" => set_fault(hand, said, told),
         _ => told.line("no such word of a journal"),
     }
-    Scene::Journal(journal)
+}
+
+// `snapshot`, `earlier`: the snapshot of the live bank, and of the other one.
+fn tell_snapshot(found: &Result<Snapshot, SnapshotRefusal>, told: &mut Told) {
+    match found {
+        Ok(snapshot) => told.snapshot(snapshot),
+        Err(refusal) => told.refused(refusal),
+    }
 }
 
 // `numbers`: base, next, room, the live bank, its epoch, the slots of a bank, and whether it is faulted.
@@ -66,14 +75,6 @@ fn append(journal: &mut Journal<Bench>, said: &mut Said<'_>, told: &mut Told) {
             Err(refusal) => told.refused(&refusal),
         },
         None => told.line("no record"),
-    }
-}
-
-// `checkpoint`, with the accounts in hand
-fn checkpoint(journal: &mut Journal<Bench>, hand: &mut Hand, told: &mut Told) {
-    match journal.checkpoint(&hand.snapshot) {
-        Ok(()) => {}
-        Err(refusal) => told.refused(&refusal),
     }
 }
 

@@ -18,28 +18,22 @@ pub fn new_ledger(hand: &mut Hand, told: &mut Told) -> Scene {
 }
 
 /// A word of a ledger.
-pub fn run(
-    mut ledger: Ledger,
-    hand: &mut Hand,
-    name: &str,
-    said: &mut Said<'_>,
-    told: &mut Told,
-) -> Scene {
+pub fn ask(ledger: &mut Ledger, hand: &mut Hand, name: &str, said: &mut Said<'_>, told: &mut Told) {
     match name {
-        "show" => told.ledger(0, &ledger),
+        "show" => told.ledger(0, ledger),
         "balance" => told.value(&ledger.balance(said.small())),
         "sealed" => told.value(&ledger.is_sealed(said.small())),
-        "post" => post(&mut ledger, hand, said, told),
-        "screen" => screen(&ledger, hand, said, told),
+        "post" => post(ledger, hand, said, told),
+        "screen" => screen(ledger, hand, said, told),
         "account" => set_account(hand, said, told),
         "restore" => {
             told.value(&ledger.restore(&hand.snapshot.balances, &hand.snapshot.sealed));
         }
         "write" => write_entry(hand, said, told),
         "read" => read_place(said, told),
+        "say" => say_entries(hand, said, told),
         _ => told.line("no such word of a ledger"),
     }
-    Scene::Ledger(ledger)
 }
 
 // `post [ENTRY]..`: one after another.
@@ -78,6 +72,17 @@ fn write_entry(hand: &mut Hand, said: &mut Said<'_>, told: &mut Told) {
     }
     for entry in hand.entries.iter() {
         told.bytes(&entry.write());
+    }
+}
+
+// `say ENTRY..`: each in words.
+fn say_entries(hand: &mut Hand, said: &mut Said<'_>, told: &mut Told) {
+    read_entries(said, &mut hand.entries);
+    if !said.is_right(told) {
+        return;
+    }
+    for entry in hand.entries.iter() {
+        told.text_of(entry);
     }
 }
 

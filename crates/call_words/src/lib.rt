@@ -10,6 +10,7 @@ mod callers;
 mod clerks;
 mod console;
 mod copies;
+mod crashes;
 mod days;
 mod desks;
 mod devices;
@@ -21,6 +22,8 @@ mod lines;
 mod listings;
 mod offices;
 mod said;
+mod spans;
+mod stations;
 mod switch;
 mod told;
 

@@ -6,8 +6,22 @@ use four_state::{Line, LineRefusal, Rule};
 use script_grammar::Bits;
 use sweep_auditor::{Move, audit};
 
-/// The line that three words spell: how many stations, their bits x and their bits up; None if they spell no bits.
-pub fn read_line(said: &mut Said<'_>) -> Option<Result<Line, LineRefusal>> {
+/// The line that three words spell: how many stations, their bits x and their bits up. What is wrong is told.
+pub fn read_line(said: &mut Said<'_>, told: &mut Told) -> Option<Line> {
+    match spelled(said) {
+        Some(Ok(line)) => Some(line),
+        Some(Err(refusal)) => {
+            told.refused(&refusal);
+            None
+        }
+        None => {
+            told.line("wrong words");
+            None
+        }
+    }
+}
+
+fn spelled(said: &mut Said<'_>) -> Option<Result<Line, LineRefusal>> {
     let stations = said.number();
     let x = Bits::read(said.word()?.as_bytes())?.kept();
     let up = Bits::read(said.word()?.as_bytes())?.kept();
@@ -16,42 +30,33 @@ pub fn read_line(said: &mut Said<'_>) -> Option<Result<Line, LineRefusal>> {
 
 /// `line STATIONS XBITS UPBITS`: a line in the place of what was in hand.
 pub fn new_line(said: &mut Said<'_>, told: &mut Told) -> Scene {
-    match read_line(said) {
-        Some(Ok(line)) => Scene::Line(line),
-        Some(Err(refusal)) => {
-            told.refused(&refusal);
-            Scene::Nothing
-        }
-        None => {
-            told.line("wrong words");
-            Scene::Nothing
-        }
+    match read_line(said, told) {
+        Some(line) => Scene::Line(line),
+        None => Scene::Nothing,
     }
 }
 
 /// A word of a line.
-pub fn run(
-    mut line: Line,
-    hand: &mut Hand,
-    name: &str,
-    said: &mut Said<'_>,
-    told: &mut Told,
-) -> Scene {
+pub fn ask(line: &mut Line, hand: &mut Hand, name: &str, said: &mut Said<'_>, told: &mut Told) {
     match name {
-        "line" => return new_line(said, told),
-        "show" => told.line_of(&line),
+        "show" => told.line_of(line),
         "legitimate" => told.value(&line.is_legitimate()),
         "words" => told.hexadecimal(line.words()),
-        "station" => show_station(&line, said, told),
-        "enabled" => match (said.station(), read_rule(said)) {
-            (station, Some(rule)) => told.value(&line.enabled(station, rule)),
-            (_, None) => told.line("wrong words"),
-        },
-        "move" => make_move(&mut line, said, told),
-        "audit" => audit_moves(&line, hand, said, told),
+        "station" => show_station(line, said, told),
+        "enabled" => is_enabled(line, said, told),
+        "move" => make_move(line, said, told),
+        "audit" => audit_moves(line, hand, said, told),
         _ => told.line("no such word of a line"),
     }
-    Scene::Line(line)
+}
+
+// `enabled S RULE`
+fn is_enabled(line: &Line, said: &mut Said<'_>, told: &mut Told) {
+    let station = said.station();
+    match read_rule(said) {
+        Some(rule) => told.value(&line.enabled(station, rule)),
+        None => told.line("wrong words"),
+    }
 }
 
 fn read_rule(said: &mut Said<'_>) -> Option<Rule> {
@@ -104,10 +109,7 @@ fn audit_moves(line: &Line, hand: &mut Hand, said: &mut Said<'_>, told: &mut Tol
         }
     }
     match audit(*line, moves.as_slice()) {
-        Ok(audited) => {
-            told.line_of(&audited.last);
-            told.named("first legitimate", &audited.first_legitimate);
-        }
+        Ok(audited) => told.audit(&audited),
         Err(refusal) => told.refused(&refusal),
     }
 }

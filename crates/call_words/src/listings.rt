@@ -39,27 +39,26 @@ fn listing_of(alloc: Global, device: Bench, told: &mut Told) -> Result<Listing<B
 }
 
 /// A word of a listing.
-pub fn run(
-    mut listing: Listing<Bench>,
+pub fn ask(
+    listing: &mut Listing<Bench>,
     hand: &mut Hand,
     name: &str,
     said: &mut Said<'_>,
     told: &mut Told,
-) -> Scene {
+) {
     match name {
-        "numbers" => tell_numbers(&listing, told),
+        "numbers" => tell_numbers(listing, told),
         "ledger" => told.ledger(listing.at(), listing.ledger()),
-        "next" => tell_next(&mut listing, told),
-        "skip" => skip(&mut listing, said, told),
-        "add" => add_to_other(&mut listing, hand, said, told),
-        "follow" => follow_other(&mut listing, hand, told),
-        "compare" => compare_other(&mut listing, hand, told),
+        "next" => tell_next(listing, told),
+        "skip" => skip(listing, said, told),
+        "add" => add_to_other(listing, hand, said, told),
+        "follow" => follow_other(listing, hand, told),
+        "compare" => compare_other(listing, hand, told),
         "fault" => set_fault(hand, said, told),
-        "behind" => behind(&listing, hand, told),
-        "lead" => lead(&mut listing, hand, told),
+        "behind" => behind(listing, hand, told),
+        "lead" => lead(listing, hand, told),
         _ => told.line("no such word of a listing"),
     }
-    Scene::Listing(listing)
 }
 
 fn tell_numbers(listing: &Listing<Bench>, told: &mut Told) {
@@ -91,10 +90,7 @@ fn skip(listing: &mut Listing<Bench>, said: &mut Said<'_>, told: &mut Told) {
         told.line("not asked: no such record");
         return;
     }
-    match skip_to(listing, end) {
-        Ok(()) => {}
-        Err(refusal) => told.refused(&refusal),
-    }
+    told.done(&skip_to(listing, end));
 }
 
 // `add COUNT`: a ledger of the next records, that many, on the other device.
@@ -131,10 +127,8 @@ fn follow_other(listing: &mut Listing<Bench>, hand: &mut Hand, told: &mut Told) 
     };
     hand.other = match look(hand.alloc, other) {
         Ok(sound) => {
-            match follow(listing, sound.journal.numbers().next, &sound.ledger) {
-                Ok(()) => {}
-                Err(refusal) => told.refused(&refusal),
-            }
+            let made = follow(listing, sound.journal.numbers().next, &sound.ledger);
+            told.done(&made);
             Some(device_of(sound))
         }
         Err((other, refusal)) => {
@@ -172,10 +166,7 @@ fn compare_with(listing: &mut Listing<Bench>, newest: &mut Listing<Bench>, told:
         told.line("not asked: it doesn't reach there");
         return;
     }
-    match compare(listing, newest) {
-        Ok(()) => {}
-        Err(refusal) => told.refused(&refusal),
-    }
+    told.done(&compare(listing, newest));
 }
 
 // `behind`: the seam behind the last record, which is in hand then.
@@ -193,10 +184,7 @@ fn behind(listing: &Listing<Bench>, hand: &mut Hand, told: &mut Told) {
 // `lead`: leads the listing on to the seam in hand.
 fn lead(listing: &mut Listing<Bench>, hand: &mut Hand, told: &mut Told) {
     match &hand.seam {
-        Some(seam) => match seam.lead(listing) {
-            Ok(()) => {}
-            Err(refusal) => told.refused(&refusal),
-        },
+        Some(seam) => told.done(&seam.lead(listing)),
         None => told.line("not asked: no seam"),
     }
 }

@@ -21,22 +21,14 @@ pub struct Planned {
 
 /// `office STATIONS XBITS UPBITS`: an office on the device.
 pub fn plan_office(device: Bench, hand: &mut Hand, said: &mut Said<'_>, told: &mut Told) -> Scene {
-    let line = match read_line(said) {
-        Some(Ok(line)) => line,
-        Some(Err(refusal)) => {
-            told.refused(&refusal);
-            return Scene::Device(device);
-        }
-        None => {
-            told.line("wrong words");
-            return Scene::Device(device);
-        }
-    };
-    Scene::Office(Planned {
-        device,
-        line,
-        lines: String::new(hand.alloc),
-    })
+    match read_line(said, told) {
+        Some(line) => Scene::Office(Planned {
+            device,
+            line,
+            lines: String::new(hand.alloc),
+        }),
+        None => Scene::Device(device),
+    }
 }
 
 impl Planned {
@@ -64,8 +56,7 @@ pub fn play<R: Wait>(rt: &R, planned: Planned, hand: &mut Hand, told: &mut Told)
     };
     match with_office(alloc, device, line, work) {
         Ok((Closing { clerk, audit }, ())) => {
-            told.line_of(&audit.last);
-            told.named("first legitimate", &audit.first_legitimate);
+            told.audit(&audit);
             Scene::Clerk(clerk)
         }
         Err((device, refusal)) => {
@@ -122,7 +113,8 @@ impl<R: Wait> OfficeWork<Bench> for Playing<'_, R> {
     }
 }
 
-// What a seat is asked for.
+// What a seat is asked for: `balance STATION ACCOUNT`, `find STATION REFERENCE FROM END`, `latest STATION LIMIT FROM`,
+// and what stands below.
 fn ask<L: Count + OpenedOn, R: Wait>(
     rt: &R,
     office: &Office<Bench, L>,
@@ -136,9 +128,11 @@ fn ask<L: Count + OpenedOn, R: Wait>(
         "turn" => turn(rt, office, seat, hand, said, told),
         "within" => turn_within(rt, office, seat, hand, said, told),
         "seat" => show_seat(seat, told),
-        "balance" => balance(rt, office, seat, said, told),
-        "find" => find(rt, office, seat, said, told),
-        "latest" => latest(rt, office, seat, said, told),
+        "balance" => told.outcome(&office.balance(rt, seat, said.small())),
+        "find" => {
+            told.outcome(&office.find(rt, seat, said.number(), said.number(), said.number()));
+        }
+        "latest" => told.outcome(&office.latest(rt, seat, said.number(), said.number())),
         _ => told.line("no such word of an office"),
     }
 }
@@ -172,48 +166,6 @@ fn turn_within<L: Count + OpenedOn, R: Wait>(
     read_entries(said, &mut hand.entries);
     match office.turn_within(rt, seat, hand.entries.as_slice(), limit) {
         Ok(turn) => told.turn(&turn),
-        Err(refusal) => told.refused(&refusal),
-    }
-}
-
-// `balance STATION ACCOUNT`
-fn balance<L: Count + OpenedOn, R: Wait>(
-    rt: &R,
-    office: &Office<Bench, L>,
-    seat: &mut Seat<L>,
-    said: &mut Said<'_>,
-    told: &mut Told,
-) {
-    match office.balance(rt, seat, said.small()) {
-        Ok(balance) => told.value(&balance),
-        Err(refusal) => told.refused(&refusal),
-    }
-}
-
-// `find STATION REFERENCE FROM END`
-fn find<L: Count + OpenedOn, R: Wait>(
-    rt: &R,
-    office: &Office<Bench, L>,
-    seat: &mut Seat<L>,
-    said: &mut Said<'_>,
-    told: &mut Told,
-) {
-    match office.find(rt, seat, said.number(), said.number(), said.number()) {
-        Ok(found) => told.value(&found),
-        Err(refusal) => told.refused(&refusal),
-    }
-}
-
-// `latest STATION LIMIT FROM`
-fn latest<L: Count + OpenedOn, R: Wait>(
-    rt: &R,
-    office: &Office<Bench, L>,
-    seat: &mut Seat<L>,
-    said: &mut Said<'_>,
-    told: &mut Told,
-) {
-    match office.latest(rt, seat, said.number(), said.number()) {
-        Ok(latest) => told.value(&latest),
         Err(refusal) => told.refused(&refusal),
     }
 }

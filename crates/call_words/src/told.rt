@@ -1,8 +1,9 @@
 //! What is answered, a line for each call.
 use four_state::Line;
-use gate_journal::Record;
+use gate_journal::{Record, Snapshot};
 use std::alloc::{AllocError, Global};
 use std::fmt::{Debug, Display};
+use sweep_auditor::Audit;
 use turn_clerk::Turn;
 use turn_ledger::{Ledger, Verdicts};
 
@@ -38,6 +39,11 @@ impl Told {
         let _ = writeln!(self.text, "{words}");
     }
 
+    /// Adds a line with the text of a value.
+    pub fn text_of<V: Display>(&mut self, value: &V) {
+        let _ = writeln!(self.text, "{value}");
+    }
+
     /// Adds a line with a value.
     pub fn value<V: Debug>(&mut self, value: &V) {
         let _ = writeln!(self.text, "{value:?}");
@@ -52,6 +58,21 @@ impl Told {
     pub fn refused<E: Debug + Display>(&mut self, refusal: &E) {
         let _ = writeln!(self.text, "refused {refusal:?}: {refusal}");
     }
+
+    /// Adds a line with what a call answered: its value, or its refusal.
+    pub fn outcome<V: Debug, E: Debug + Display>(&mut self, answer: &Result<V, E>) {
+        match answer {
+            Ok(value) => self.value(value),
+            Err(refusal) => self.refused(refusal),
+        }
+    }
+
+    /// Adds a line if a call was refused.
+    pub fn done<E: Debug + Display>(&mut self, made: &Result<(), E>) {
+        if let Err(refusal) = made {
+            self.refused(refusal);
+        }
+    }
 }
 
 impl Told {
@@ -59,6 +80,12 @@ impl Told {
     pub fn line_of(&mut self, line: &Line) {
         let privileges = line.privileges();
         let _ = writeln!(self.text, "{line} privileges {privileges}");
+    }
+
+    /// Adds the line at the end of an audit, and from which turn on one station alone was privileged.
+    pub fn audit(&mut self, audit: &Audit) {
+        self.line_of(&audit.last);
+        self.named("first legitimate", &audit.first_legitimate);
     }
 
     /// Adds a line with a turn: its place, its station, the rule, the number of its batch, and what became of each
@@ -115,12 +142,24 @@ impl Told {
     pub fn ledger(&mut self, next: u64, ledger: &Ledger) {
         let total = ledger.total();
         let _ = write!(self.text, "next {next} total {total}");
-        for (account, balance) in ledger.accounts() {
-            if balance > 0 {
+        self.accounts(ledger.balances(), ledger.marks());
+    }
+
+    /// The same of a snapshot.
+    pub fn snapshot(&mut self, snapshot: &Snapshot) {
+        let _ = write!(self.text, "snapshot");
+        self.accounts(&snapshot.balances, &snapshot.sealed);
+    }
+
+    // Ends a line with these accounts.
+    fn accounts(&mut self, balances: &[u64], marks: &[bool]) {
+        for (place, balance) in balances.iter().enumerate() {
+            if *balance > 0 {
+                let account = place.saturating_add(1);
                 let _ = write!(self.text, " {account}={balance}");
             }
         }
-        for (place, sealed) in ledger.marks().iter().enumerate() {
+        for (place, sealed) in marks.iter().enumerate() {
             if *sealed {
                 let account = place.saturating_add(1);
                 let _ = write!(self.text, " #{account}");

@@ -1,0 +1,137 @@
+//! An office that is closed and opened again after each span.
+ghost use Rattle.std.specs.Prelude.{◌≡◌, length};
+ghost use Rattle.four_state.specs.Configuration.{stations};
+
+use crate::bench::Bench;
+use crate::console::{Hand, Scene};
+use crate::copies::tell_batches;
+use crate::lines::read_line;
+use crate::said::Said;
+use crate::stations::desk_of;
+use crate::told::Told;
+use line_lock::Line;
+use office_day::{Adjourned, Desk, Errand, Gate, HeldEntries, Life, run_spans};
+use std::alloc::{AllocError, Global};
+use std::sync::Wait;
+use std::sync::atomic::{AtomicU64, Ordering};
+use std::thread::Threads;
+use turn_clerk::Turn;
+
+// Sends stations home once so many turns were taken in all.
+#[derive(Drop)]
+struct Until {
+    turns: u64,
+    taken: AtomicU64,
+}
+
+impl Gate for Until {
+    fn errand<R: Wait>(&self, _rt: &R, _station: u8) -> Errand {
+        if self.taken.load(Ordering::SeqCst) >= self.turns {
+            return Errand::Close;
+        }
+        Errand::Turn
+    }
+
+    fn gathered(&self, _station: u8) {}
+
+    fn took(&self, _turn: &Turn) {
+        self.taken.fetch_add(1, Ordering::SeqCst);
+    }
+
+    fn answered(&self, _station: u8) {}
+}
+
+// What spans are lived with: a desk for each station.
+#[derive(Drop)]
+struct Plan {
+    line: Line,
+    desks: Vec<Desk>,
+    moves: u64,
+    turns: u64,
+    ghost as_many: { length desks.items ≡ stations line },
+}
+
+/// `spans STATIONS XBITS UPBITS MOVES TURNS`: an office on the device is closed and opened again after so many turns
+/// each, until so many are taken in all, or a station is refused. The archive in hand catches up between two spans, and
+/// is told. The clerk of the last one is in hand then.
+pub fn have_spans<R: Threads + Wait + Sync>(
+    rt: &R,
+    device: Bench,
+    hand: &mut Hand,
+    said: &mut Said<'_>,
+    told: &mut Told,
+) -> Scene {
+    match planned(hand, said, told) {
+        Some(plan) => live(rt, device, plan, hand, told),
+        None => Scene::Device(device),
+    }
+}
+
+fn planned(hand: &mut Hand, said: &mut Said<'_>, told: &mut Told) -> Option<Plan> {
+    let line = read_line(said, told)?;
+    let (moves, turns) = (said.number(), said.number());
+    let desks = match desks_of(hand.alloc, hand.held.as_slice()) {
+        Ok(desks) => desks,
+        Err(error) => {
+            told.refused(&error);
+            return None;
+        }
+    };
+    if desks.len() != line.stations() as usize || moves == 0 {
+        told.line("not asked: not as many stations hold something, or no moves");
+        return None;
+    }
+    hand.held.clear();
+    Some(Plan {
+        line,
+        desks,
+        moves,
+        turns,
+    })
+}
+
+fn live<R: Threads + Wait + Sync>(
+    rt: &R,
+    device: Bench,
+    plan: Plan,
+    hand: &mut Hand,
+    told: &mut Told,
+) -> Scene {
+    let Some(archive) = &mut hand.archive else {
+        told.line("not asked: no archive");
+        return Scene::Device(device);
+    };
+    let Plan {
+        line,
+        desks,
+        moves,
+        turns,
+    } = plan;
+    let gate = Until {
+        turns,
+        taken: AtomicU64::new(0),
+    };
+    let office = Adjourned {
+        device,
+        line,
+        desks,
+    };
+    match run_spans(rt, hand.alloc, office, &gate, archive, moves) {
+        Ok(Life { clerk, .. }) => {
+            tell_batches(archive, told);
+            Scene::Clerk(clerk)
+        }
+        Err((device, refusal)) => {
+            told.refused(&refusal);
+            Scene::Device(device)
+        }
+    }
+}
+
+fn desks_of(alloc: Global, held: &[HeldEntries]) -> Result<Vec<Desk>, AllocError> {
+    let mut desks = Vec::new(alloc);
+    for one in held {
+        desks.push(desk_of(alloc, one)?)?;
+    }
+    Ok(desks)
+}
