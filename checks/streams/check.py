@@ -7,12 +7,15 @@ import time
 for folder in ("faults", "files", "offices"):
     sys.path.append(str(pathlib.Path(__file__).parent.parent / folder))
 
+import closing
 import cuts
 import damages
 import days
 import failing
 import office
 import readers
+import serving
+import words as words_of_programs
 import writers
 from runs import Programs
 
@@ -37,6 +40,13 @@ CASES = (
     damages.an_exhausted_journal,
     damages.refusals_have_their_numbers,
     damages.refusals_of_a_device_that_fails,
+    words_of_programs.those_of_the_console,
+    words_of_programs.those_of_derbyfig,
+    words_of_programs.sectors_of_a_file,
+    words_of_programs.a_script_in_memory,
+    closing.an_office_may_take_60_seconds,
+    serving.each_word_has_its_effect,
+    serving.counters_anew,
 )
 
 
