@@ -1,6 +1,7 @@
 """Runs each case in a folder of its own, and prints what was seen, or what is wrong."""
 import argparse
 import pathlib
+import subprocess
 import sys
 import time
 
@@ -57,8 +58,11 @@ def holds(words, case):
     folder.mkdir()
     try:
         seen = case(Programs(words.console, words.derbyfig, words.stream, words.fail, folder))
-    except (failing.Mismatch, office.Mismatch, OSError, ValueError, IndexError, KeyError) as told:
-        print(f"{name}: {told if isinstance(told, (failing.Mismatch, office.Mismatch)) else repr(told)}", flush=True)
+    except (failing.Mismatch, office.Mismatch) as told:
+        print(f"{name}: {told}", flush=True)
+        return False
+    except (OSError, ValueError, LookupError, subprocess.SubprocessError) as told:
+        print(f"{name}: {told!r}", flush=True)
         return False
     print(f"{name}: {seen}", flush=True)
     if words.times:

@@ -4,8 +4,8 @@ from scripts import LINES, SCRIPT, of_cut_line
 
 
 def a_script_is_cut_after_each_byte(programs):
-    """The whole lines print what they print, and what is left of the last one is run if it lacks no word. Otherwise the script
-    ends there with the number of that line."""
+    """The whole lines print what they print. What is left of the last line is run if it lacks no word; otherwise the
+    script ends there, with the number of that line."""
     for cut in range(len(SCRIPT) + 1):
         given = SCRIPT[:cut]
         count = given.count("\n")

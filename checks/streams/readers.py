@@ -1,7 +1,7 @@
-"""Scripts that come in pieces, with pauses, or not to their end: nothing of one runs that couldn't be read whole."""
+"""Scripts that come in pieces, with pauses, or not to their end. Nothing runs of a script that can't be read whole."""
 import errno
 
-from failing import require, require_same
+from failing import require_same
 from runs import INPUT, Stream, require_ended
 from scripts import PRINTED, SCRIPT
 
@@ -12,12 +12,13 @@ CALLS = 33_554_432
 # The most bytes that a call is asked for.
 PIECE = 65_536
 
-# What the last line of the long scripts prints, which shows that they were read to their end.
+# What the last line of a long script prints, which shows that it was read to its end.
 LAST, LAST_PRINTS = b"\nbits", "refused NoOffice\n"
 
 
 def one_that_fails_at_each_call(programs):
-    """A script that comes one byte a call is told as unread, whichever call fails, also the one that would tell its end."""
+    """A script comes one byte a call. Whichever call fails, it is told as unread: also if that is the call that would
+    tell its end."""
     for fails in range(1, len(SCRIPT) + 2):
         run = programs.run(SCRIPT.encode(), Stream(INPUT, fails=fails, most=1))
         require_ended(run, 1, "", "read failed", f"a script whose call {fails} fails")
@@ -29,7 +30,8 @@ def one_that_fails_at_each_call(programs):
 
 
 def one_that_fails_although_it_gave_bytes(programs):
-    """A reader that fails behind 0, 1 or 100,000 bytes, of which the first lines would print something, by any error."""
+    """A reader fails behind no byte, behind one, and behind more than a call gives, in lines that would print
+    something."""
     given = (b"", b"#", b"crash\n" * 16_667)
     for script in given:
         calls = -(-len(script) // PIECE) + 1
@@ -44,25 +46,27 @@ def one_that_fails_although_it_gave_bytes(programs):
 
 
 def a_script_of_the_limit(programs):
-    """A script of the most bytes is read and run, and one more byte is told, also where a later call would fail."""
+    """A script of the most bytes is read and run. One more byte is told as too many, also if the call behind it would
+    fail."""
     script = b"#".ljust(LIMIT - len(LAST), b"x") + LAST
+    pieces = LIMIT // PIECE
     run = programs.run(script, Stream(INPUT))
     require_ended(run, 0, LAST_PRINTS, "", f"a script of {len(script)} bytes")
-    pieces = LIMIT // PIECE
     require_same(run.moved, (PIECE,) * pieces + (0,), "what the calls gave")
     for fails in (0, pieces + 2):
         run = programs.run(script + b"\n", Stream(INPUT, fails=fails))
         require_ended(run, 1, "", "script too long", f"one more byte, where call {fails} fails")
-    require_ended(programs.run(script, Stream(INPUT, fails=pieces + 1)), 1, "", "read failed", "the end that can't be read")
+    run = programs.run(script, Stream(INPUT, fails=pieces + 1))
+    require_ended(run, 1, "", "read failed", "an end that can't be read")
     run = programs.run(script + b"\n", Stream(INPUT), program=[programs.derbyfig, "run"])
     require_ended(run, 1, "", "script too long", "the same of derbyfig")
     return f"{LIMIT} bytes are read, and {LIMIT + 1} are told as too long"
 
 
 def one_that_is_called_no_more(programs):
-    """A reader that is interrupted before each call that goes through: the last call that is made may tell the end."""
-    script = LAST[1:]
-    pauses = CALLS // 2 - 1
+    """A reader is interrupted before the call that gives the script, and before the one that tells its end. The last
+    call that may be made still tells the end; a later one isn't made."""
+    script, pauses = LAST[1:], CALLS // 2 - 1
     run = programs.run(script, Stream(INPUT, pauses=pauses))
     require_ended(run, 0, LAST_PRINTS, "", f"a script that is read in {CALLS} calls")
     require_same((run.calls, run.moved), (CALLS, (len(script), 0)), "its calls")
@@ -76,7 +80,7 @@ def one_that_pauses(programs):
     """A reader that is interrupted before each byte gives the same script."""
     for pauses in (1, 2_000):
         run = programs.run(SCRIPT.encode(), Stream(INPUT, pauses=pauses, most=1))
-        require_ended(run, 0, PRINTED, "", f"a script with {pauses} pauses before each byte")
-        require_same(run.calls, (pauses + 1) * (len(SCRIPT) + 1), f"its calls, with {pauses} pauses before each byte")
-    require(run.calls > 100_000, "so few calls")
+        of = f"a script with {pauses} pauses before each byte"
+        require_ended(run, 0, PRINTED, "", of)
+        require_same(run.calls, (pauses + 1) * (len(SCRIPT) + 1), f"calls of {of}")
     return "interrupted calls are made again"

@@ -10,7 +10,7 @@ from failing import Failing, require, require_same
 # How many seconds a run may take.
 PATIENCE = 300
 
-# How many calls of a run are recorded with their sizes. All are counted.
+# Of how many calls of a run the sizes are recorded. All calls are counted.
 RECORDED = 4_096
 
 INPUT, OUTPUT, ERRORS = 0, 1, 2
@@ -18,8 +18,8 @@ INPUT, OUTPUT, ERRORS = 0, 1, 2
 
 @dataclasses.dataclass(frozen=True)
 class Stream:
-    """What becomes of the calls on a file descriptor: how many are interrupted before each that isn't, the number of the one
-    that fails, by which error, and how many bytes a call moves at most."""
+    """What becomes of the calls on a file descriptor: how many are interrupted before each one that isn't, the number
+    of the one that fails and its error, and how many bytes a call moves at most."""
 
     descriptor: int
     pauses: int = 0
@@ -37,8 +37,8 @@ class Stream:
 
 @dataclasses.dataclass(frozen=True)
 class Run:
-    """How a run ended, what it printed and told, how many calls it made on the stream, and the bytes that each one moved that
-    went through."""
+    """How a run ended, what it printed and told, how many calls it made on the stream, and how many bytes each of those
+    moved that went through."""
 
     status: int
     printed: bytes
@@ -61,7 +61,8 @@ class Programs:
     folder: object
 
     def run(self, script, stream, *words, program=None):
-        """A run of the console, or of these words, with a script from a file, of which a call may give all it is asked for."""
+        """A run of the console, or of another program with its first words. The script comes from a file, so that a
+        call may give all that it is asked for."""
         given, record = self.folder / "given", self.folder / "record"
         given.write_bytes(script)
         record.write_bytes(bytes(8 * (2 + RECORDED)))
@@ -94,6 +95,6 @@ def require_ended(run, status, printed, told, of):
 
 
 def require_prefix(run, whole, of):
-    """That what was written is the first of all that would be, and that nothing was asked of the stream behind its fault."""
-    require(whole.startswith(run.printed), f"{of}: {run.printed[-60:]!r} isn't what the whole begins with")
-    require_same(run.ended()[::2], (1, "write failed"), of)
+    """That a console whose output failed has written the beginning of what it prints otherwise, and tells the fault."""
+    require(whole.startswith(run.printed), f"{of}: the whole doesn't begin with what ends so: {run.printed[-60:]!r}")
+    require_same((run.status, run.told), (1, "write failed"), of)

@@ -1,6 +1,6 @@
-"""The script with a day in it, each of its lines with all that it prints, and what is left of a line that is cut off."""
+"""A script with a day in it, what each of its lines prints, and what is left of a line that is cut off."""
 
-# Worked by hand. Station 0 may post its first entry, while account 2 holds nothing for the second one yet.
+# Worked by hand. The withdrawal of station 0 is refused, since account 2 holds nothing before the turn of station 1.
 DAY = """turn 0 station 0 Bottom posted 0
 entry 0 ok
 entry 1 Short
@@ -23,6 +23,8 @@ answer 1 0 posted 1
 answer 2 0 posted 2
 """
 
+BALANCES = "account 1 70\naccount 2 80\ntotal 150\n"
+
 LINES = (
     ("format 4", "formatted 4\n"),
     ("open 3 000 100", "opened 3 next 0 total 0\n"),
@@ -31,7 +33,7 @@ LINES = (
     ("post 2 transfer 1 2 30", "held 2 1\n"),
     ("post 0 withdraw 2 500", "held 0 2\n"),
     ("day 8", DAY),
-    ("balances", "account 1 70\naccount 2 80\ntotal 150\n"),
+    ("balances", BALANCES),
 )
 
 SCRIPT = "".join(f"{line}\n" for line, _ in LINES)
@@ -39,8 +41,8 @@ PRINTED = "".join(prints for _, prints in LINES)
 
 
 def of_cut_line(number, left):
-    """What is left of the line of this number, counted from 0, prints, and what is told of it. One that lacks no word is run
-    with what is left of its last word: of a number that is a smaller one, and of bits too few."""
+    """What is left of a line prints, and what is told of it. The line has this number, counted from 0. If it lacks no
+    word it is run with what is left of its last one: a number is a smaller one then, and bits are too few."""
     line, prints = LINES[number] if number < len(LINES) else ("", "")
     words, found = line.split(), left.split()
     if not found:

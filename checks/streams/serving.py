@@ -4,18 +4,19 @@ import shutil
 import subprocess
 
 import images
-from failing import require_same
+from failing import require, require_same
 from office import Counter, Mismatch, Office
 
-WORDS = ("--counter=a", "--counter=b=folder/b", "--stations=64", "--format=5", "--overwrite", "--sectors=70", "--terminal",
-         "--control=c", "--archive=books", "--no-hello", "--copies=backups", "--counters-file=names", "--counters-anew")
+WORDS = ("--counter=a", "--counter=b=folder/b", "--stations=64", "--format=5", "--overwrite", "--sectors=70",
+         "--terminal", "--control=c", "--archive=books", "--no-hello", "--copies=backups", "--counters-file=names",
+         "--counters-anew")
 
-# What isn't a ledger, in a sector, and what is no file of counters.
+# A sector that is no ledger, and no file of counters.
 LETTER = b"a letter" * 64
 
 NAMES = {"names": ["a", "b", "c", "terminal"], "book.counters": None}
 
-# What is seen of an office with all words.
+# What is seen of an office with all words: what its counters are told of their names, and what lies there then.
 ALL = {
     "printed": ["formatted 5", "opened 64 next 0 total 0"],
     "sectors": 70,
@@ -25,7 +26,7 @@ ALL = {
     "counters": NAMES,
 }
 
-# What is seen otherwise without these. Of 5 slots 59 sectors are needed.
+# What is seen otherwise without these words. A ledger of 5 slots needs 59 sectors.
 WITHOUT = (
     ((), {}),
     (("--counter=a",), {"a": None, "counters": NAMES | {"names": ["b", "c", "terminal"]}}),
@@ -41,11 +42,12 @@ WITHOUT = (
                        "copy": "wrong no hello", "books": True, "copies": False}),
 )
 
-# What isn't opened, and why.
+# Without which words no office is opened, its status, and what it tells.
 REFUSED = (
-    (("--overwrite",), (1, [], ["book: it holds an unfinished ledger, or another program's file; --overwrite takes it"])),
-    (("--format=5", "--overwrite"), (1, [], ["book: it holds no ledger; derbyfig format makes one of a file without anything"])),
-    (("--format=5",), (2, [], ["--overwrite needs --format"])),
+    (("--overwrite",), 1, "book: it holds an unfinished ledger, or another program's file; --overwrite takes it"),
+    (("--format=5", "--overwrite"), 1,
+     "book: it holds no ledger; derbyfig format makes one of a file without anything"),
+    (("--format=5",), 2, "--overwrite needs --format"),
 )
 
 
@@ -92,7 +94,7 @@ class Serving:
             found["counters"] = {name: self.counters(name) for name in ("names", "book.counters")}
             office.run.stdin.write(b"name\n")
             office.run.stdin.close()
-            # without a terminal the end of the input closes nothing
+            # the end of the terminal's input closes the office
             if "--terminal" in left_out:
                 require_same(self.programs.derbyfig_said("close", one.folder), (0, "closed\n", ""), "the closing")
             office.closed()
@@ -102,7 +104,7 @@ class Serving:
         return found
 
     def answer(self, counter, request):
-        """The first two words that a request is answered, and nothing where no office has the counter."""
+        """The first two words of a request's answer, and None if no office has the counter."""
         if counter.input is None:
             try:
                 counter.come()
@@ -113,30 +115,34 @@ class Serving:
 
 
 def each_word_has_its_effect(programs):
-    """An office with all words, and one without each of them in turn: nothing else is seen otherwise."""
+    """An office with all words, and one without each word in turn. Nothing else changes."""
     serving = Serving(programs)
     for left_out, otherwise in WITHOUT:
         require_same(serving.seen(left_out), ALL | otherwise, f"an office without {left_out}")
-    for left_out, ended in REFUSED:
+    for left_out, status, told in REFUSED:
         serving.prepare()
         with serving.office(left_out) as office:
-            require_same((office.status(), office.printed(), office.told()), ended, f"an office without {left_out}")
+            ended = (office.status(), office.printed(), office.told())
+            require_same(ended, (status, [], [told]), f"an office without {left_out}")
         require_same((serving.folder / "book").read_bytes(), LETTER, f"the file without {left_out}")
     return f"{len(WORDS)} words, and {len(WITHOUT) + len(REFUSED) - 1} offices without one or two of them"
 
 
 def counters_anew(programs):
-    """A file of counters that is none is told by its name and kept, and written anew if that is said. Beside the ledger there
-    is none then."""
+    """A file of counters that is none is told by its name and kept, or written anew if that is asked for. Beside the
+    ledger none is made."""
     serving = Serving(programs)
-    names = serving.folder / "names"
-    for more, printed, kept in (((), "", None), (("--counters-anew",), "opened 2 next 0 total 0\n", ["terminal"])):
+    book, names = serving.folder / "book", serving.folder / "names"
+    words = (programs.derbyfig, "serve", str(book), "--terminal", f"--counters-file={names}")
+    told = f"{names}: its line 1 isn't that of a file of counters; --counters-anew writes the file anew"
+    for more, status, printed, kept in (
+        ((), 1, "", None), (("--counters-anew",), 0, "opened 2 next 0 total 0\n", ["terminal"]),
+    ):
         serving.prepare()
-        (serving.folder / "book").write_bytes(images.made(4, images.Holding(0, {}, frozenset())))
-        run = programs.plain(b"close\n", program=[programs.derbyfig, "serve", serving.folder / "book", "--terminal",
-                                                  f"--counters-file={names}", *more])
-        begins = run.printed.decode().startswith(printed)
-        require_same((run.status, begins, run.told.startswith(f"{names}: its line 1 ")),
-                     (0 if kept else 1, True, not kept), f"an office with {more}: {run}")
-        require_same([serving.counters(name) for name in ("names", "book.counters")], [kept, None], f"counters with {more}")
+        book.write_bytes(images.made(4, images.Holding(0, {}, frozenset())))
+        run = programs.plain(b"close\n", *more, program=words)
+        require_same((run.status, run.told), (status, "" if kept else told), f"an office with {more}")
+        require(run.printed.decode().startswith(printed), f"an office with {more} prints {run.printed!r}")
+        found = [serving.counters(name) for name in ("names", "book.counters")]
+        require_same(found, [kept, None], f"counters with {more}")
     return "a file that is none stays, or is written anew"

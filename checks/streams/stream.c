@@ -1,12 +1,11 @@
 /* Interrupts, shortens and fails the calls that the program that it is loaded into makes on one file descriptor: its
    readings if that is 0, and its writings if that is another one. STREAM is the descriptor. STREAM_PAUSES calls are
-   interrupted before each one that isn't. The call of the number STREAM_FAILS, counted from 1 with those that are
-   interrupted, fails by the error STREAM_ERROR, and no other one does. A call moves STREAM_MOST bytes at most; without
-   it as many as it is asked to. The file STREAM_RECORD gets numbers of 8 bytes, in the machine's order: how many calls
-   were made, how many moved something or nothing, and for each of these, as far as the file has room, how many bytes it
-   moved. If SLEPT is set no call of `nanosleep` sleeps: the file SLEPT gets the sum of the nanoseconds instead. */
+   interrupted before each one that isn't. The call with the number STREAM_FAILS alone fails, with the error
+   STREAM_ERROR: calls are counted from 1, and those count that are interrupted. A call moves STREAM_MOST bytes at most,
+   and without that as many as it is asked to. The file STREAM_RECORD gets numbers of 8 bytes in the machine's order:
+   how many calls were made, how many of them went through, and how many bytes each of these moved, as far as the file
+   has room. With SLEPT no call of `nanosleep` sleeps: the file SLEPT gets the sum of the nanoseconds instead. */
 #define _GNU_SOURCE
-#include <dlfcn.h>
 #include <errno.h>
 #include <fcntl.h>
 #include <stdint.h>
@@ -27,7 +26,7 @@ static long number(const char *name, long without) {
     return word ? atol(word) : without;
 }
 
-/* The numbers of a file that is there; how many it has is put at the second word. */
+/* The numbers of the file that this variable names, and in `count` how many they are. */
 static uint64_t *numbers(const char *name, uint64_t *count) {
     const char *path = getenv(name);
     if (!path) return NULL;
