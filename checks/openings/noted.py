@@ -33,8 +33,8 @@ def require_same(found, wanted, of):
 
 @dataclasses.dataclass(frozen=True)
 class Limits:
-    """The numbers of the calls that fail, counted from 0, and their error. If `most` isn't 0, a read or a write moves at
-    most so many bytes."""
+    """The numbers of the calls that fail, counted from 0, and their error. If `most` isn't 0, a read or a write moves
+    only that many bytes."""
 
     fails: tuple = ()
     error: int = errno.EIO
