@@ -13,20 +13,20 @@ SLOTS = 300
 # The gate of the last slot in bank 1.
 GATE = 19 + 2 * SLOTS + 19 + 2 * SLOTS
 
-# All calls from one on.
-ALL = 1_000_000
+# A piece of sectors can't be read, nor then the sector alone that is wanted.
+BOTH = 2
 
 UNREAD = ("it can't be read", "the device failed")
 
 
 def at_each_reading(drawing):
-    """If a reading and all later ones fail, the picture isn't whole, and the status is 3. If only one fails, it is made
-    again, and the picture is whole."""
+    """If a piece can't be read, and the wanted sector alone neither, the picture isn't whole, and the status is 3. If
+    only the piece can't be read, the picture is whole."""
     drawing.file.write_bytes(ledger(3, slots=SLOTS))
     drawing.failing.keep()
     words = ("map", str(path_of(drawing.failing.folder) / "ledger"))
     whole, tried = drawing.failing.done(*words), 0
-    for this, run in drawing.failing.each(words, Fault("read", count=ALL), words[1]):
+    for this, run in drawing.failing.each(words, Fault("read", count=BOTH), words[1]):
         require(run.status == 3 and run.told.endswith(UNREAD), f"{this}: {run.status}, {run.told!r}")
         require(whole.startswith(run.printed) and "</svg>" not in run.printed, f"{this}: the picture is whole")
         tried += 1

@@ -27,6 +27,7 @@ CASES = (
     growths.in_the_folder_of_the_name,
     growths.with_closed_streams,
     growths.that_never_cut,
+    growths.of_an_older_ledger,
     transfers.of_what_is_moved_in_parts,
     transfers.of_writes_that_fail_within,
     transfers.of_reads_that_fail_within,

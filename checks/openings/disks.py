@@ -85,7 +85,7 @@ def that_are_written_over(programs):
 
 
 # Lines of the table of mounts. One has the disk's number where numbers stand, one has it in other places.
-MOUNTED = "37 35 7:1 / /mnt rw - ext4 /dev/loop1 rw\n"
+MOUNTED = "37 35 7:1 / /mnt rw - ext4 /dev/elsewhere rw\n"
 LIKE_IT = "37 35 7:11 / /7:1 rw - ext4 7:1 rw\n"
 OTHER = "36 35 8:1 / /srv rw,noatime master:1 - ext4 /dev/elsewhere rw\n"
 

@@ -2,6 +2,7 @@
 import errno
 import os
 
+from copies import first_layout
 from noted import FAILS, NO_ROOM, NOT_WRITABLE, SECTOR, WHOLE, Limits, failing_at, require, require_same
 
 # How many sectors are asked for, and their length in bytes.
@@ -181,3 +182,19 @@ def that_never_cut(programs):
         require_same(programs.script(asked).ended(), (0, "", ""), f"a file with {asked} sectors")
         wanted = bytes(SECTOR) + second + bytes(SECTOR * (found - 2))
         require_same(programs.held() == wanted, True, f"the bytes of {found} sectors")
+
+
+def of_an_older_ledger(programs):
+    """An older ledger is opened with all the sectors that it has, and keeps its bytes and its length. If a step fails,
+    nothing is made beside it."""
+    old, steps = first_layout(), (*OPENED, *LOCKED, *SYNCED)
+    programs.holds(old)
+    words = [programs.console, "--migrate", programs.path, "--device", "new", "--sectors", "60", "--slots", "4"]
+    for fails in range(len(steps)):
+        run = programs.run(words, failing_at(fails))
+        require_same((run.ended(), run.steps), ((1, "", "device failed"), steps[:fails + 1]), f"a copy, step {fails}")
+        require_same(sorted(path.name for path in programs.folder.iterdir()), ["ledger"], f"what is made, step {fails}")
+    run = programs.run(words)
+    require_same(run.ended(), (0, "migrated 4\n", ""), "a copy of an older ledger")
+    require_same(run.steps[:len(steps)], steps, "the steps of an older ledger")
+    require_same(programs.held() == old, True, "the bytes of an older ledger")

@@ -66,6 +66,7 @@ static bool fails(int file, const char *text) {
     }
 
 static const char *way(int flags) {
+    if (flags & (O_TRUNC | O_APPEND | O_EXCL)) return "in another way";
     if (flags & O_CREAT) return (flags & O_ACCMODE) == O_RDWR ? "to make" : "to make, not to read and write";
     return (flags & O_ACCMODE) == O_RDWR ? "to write" : (flags & O_ACCMODE) == O_RDONLY ? "to read" : "to write alone";
 }
