@@ -25,7 +25,7 @@ def that_have_a_wrong_superblock(drawing):
 
 
 def that_have_wrong_heads(drawing):
-    """It is found at the first byte that no head has. Bytes 0 to 7 are a magic and zeros, and from byte 24 on are zeros.
+    """It is found at the first byte that no head has. Bytes 0 to 7 are a magic and zeros, and zeros follow byte 23.
     Bank 0 is looked at first, unless it is closed. If no bank is open, its gate is wrong. If both banks have the same
     epoch, its epoch is wrong."""
     require_found(drawing, 3, (

@@ -20,17 +20,17 @@ UNREAD = ("it can't be read", "the device failed")
 
 
 def at_each_reading(drawing):
-    """If a piece can't be read, and the wanted sector alone neither, the picture isn't whole, and the status is 3. If
-    only the piece can't be read, the picture is whole."""
+    """If a piece can't be read, nor the wanted sector alone, the status is 3, and the picture ends there: some have a
+    beginning by then. If only the piece can't be read, the picture is whole."""
     drawing.file.write_bytes(ledger(3, slots=SLOTS))
     drawing.failing.keep()
     words = ("map", str(path_of(drawing.failing.folder) / "ledger"))
-    whole, tried = drawing.failing.done(*words), 0
+    whole, tried, begun = drawing.failing.done(*words), 0, 0
     for this, run in drawing.failing.each(words, Fault("read", count=BOTH), words[1]):
         require(run.status == 3 and run.told.endswith(UNREAD), f"{this}: {run.status}, {run.told!r}")
         require(whole.startswith(run.printed) and "</svg>" not in run.printed, f"{this}: the picture is whole")
-        tried += 1
-    require(tried >= 6, f"{tried} readings of a ledger with {39 + 4 * SLOTS} sectors")
+        tried, begun = tried + 1, begun + (run.printed != "")
+    require(tried >= 6 and begun >= 2, f"{tried} readings of {39 + 4 * SLOTS} sectors, {begun} of a picture that was begun")
     for this, run in drawing.failing.each(words, Fault("read"), words[1]):
         require_same((run.status, run.told, run.printed == whole), (0, "", True), f"{this}, alone")
         tried += 1
