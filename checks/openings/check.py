@@ -37,6 +37,7 @@ CASES = (
     ledgers.that_grow_once_they_are_looked_at,
     ledgers.that_a_script_works_on,
     disks.of_which_a_step_fails,
+    disks.that_have_a_cause,
     disks.that_hold_a_ledger_or_nothing,
     disks.that_are_written_over,
     disks.that_are_mounted,

@@ -2,6 +2,8 @@
 
 A library lets the programs take a file for a block device.
 """
+import errno
+
 from noted import SECTOR, WHOLE, failing_at, require_same
 
 # How many sectors are asked for, and how many bytes are looked at.
@@ -57,6 +59,20 @@ def of_which_a_step_fails(programs):
     require_answered(programs, blank, None, LOOKED_AT)
     for fails in range(len(LOOKED_AT)):
         require_answered(programs, blank, "", LOOKED_AT[:fails + 1], failing_at(fails))
+
+
+def that_have_a_cause(programs):
+    """A disk that may not be opened, and one that another program has, are reported as disks by both programs."""
+    begin(programs)
+    whole, blank = str(programs.folder.resolve()), bytes(SECTOR * 400)
+    # The library knows a disk by its whole path.
+    programs.at(f"{whole}/ledger", whole)
+    for fails, error, wanted in ((0, errno.EACCES, DENIED), (0, errno.EROFS, DENIED), (2, errno.EWOULDBLOCK, IN_USE),
+                                 (2, errno.EBUSY, IN_USE)):
+        limits = failing_at(fails, error=error)
+        require_answered(programs, blank, wanted, LOOKED_AT[:fails + 1], limits)
+        told = f"{programs.path}: it {wanted}"
+        require_same(programs.run_script(ASKED, limits).ended(), (3, "", told), f"derbyfig with {limits}")
 
 
 def that_hold_a_ledger_or_nothing(programs):

@@ -117,9 +117,9 @@ class Programs:
         noted = self.libraries / "told"
         noted.unlink(missing_ok=True)
         self.runs += 1
+        begin = (lambda: [os.close(stream) for stream in closed]) if closed else None
         done = subprocess.run(words, input=said, capture_output=True, text=True, timeout=PATIENCE, cwd=self.folder,
-                              check=False, env=self.environment(limits),
-                              preexec_fn=lambda: [os.close(stream) for stream in closed])
+                              check=False, env=self.environment(limits), preexec_fn=begin)
         lines = noted.read_text(encoding="ascii").splitlines() if noted.exists() else []
         steps = [line.partition(" ") for line in lines]
         return Run(done.returncode, done.stdout, done.stderr.removesuffix("\n"), tuple(step for _, _, step in steps),
