@@ -75,29 +75,30 @@ impl Console {
     /// # Errors
     /// Out of memory.
     pub fn new(alloc: Global) -> Result<Console, AllocError> {
-        let snapshot = Snapshot {
-            balances: [0; ACCOUNTS],
-            sealed: [false; ACCOUNTS],
-        };
+        let snapshot = no_accounts(alloc)?;
+        let switch = Arc::new(alloc, Switch::new())?;
+        let other_switch = Arc::new(alloc, Switch::new())?;
+        let entries = no_entries(alloc)?;
+        let told = Told::new(alloc)?;
         Ok(Console {
             scene: Scene::Nothing,
             hand: Hand {
                 alloc,
-                switch: Arc::new(alloc, Switch::new())?,
+                switch,
                 other: None,
-                other_switch: Arc::new(alloc, Switch::new())?,
-                entries: no_entries(alloc)?,
+                other_switch,
+                entries,
                 events: Vec::new(alloc),
                 held: Vec::new(alloc),
                 picks: Picks {
                     list: Vec::new(alloc),
                 },
-                snapshot: Box::new(alloc, snapshot)?,
+                snapshot,
                 seam: None,
                 archive: None,
                 look: None,
             },
-            told: Told::new(alloc)?,
+            told,
         })
     }
 
@@ -148,6 +149,15 @@ impl Console {
     pub fn forget_told(&mut self) {
         self.told.clear();
     }
+}
+
+// Accounts that hold nothing, and none of which is sealed.
+fn no_accounts(alloc: Global) -> Result<Box<Snapshot>, AllocError> {
+    let snapshot = Snapshot {
+        balances: [0; ACCOUNTS],
+        sealed: [false; ACCOUNTS],
+    };
+    Ok(Box::new(alloc, snapshot)?)
 }
 
 impl Scene {
