@@ -2,7 +2,7 @@
 //!
 //! [`run_script`] runs a script on a device that is handed in.
 //!
-//! The test `a_deposit_survives_a_power_loss` in `src/scripts.rt` of the crate `script_tests` is an example.
+//! The test `a_deposit_survives_a_power_loss` in `src/scripts.rt` of the crate `library_examples` is an example.
 #![tactic(auto)]
 
 mod console;

@@ -3,7 +3,7 @@
 //! [`locate`] looks a second time at a device of layout 1, 2 or 3 and finds the sector and the byte. [`draw`] draws the
 //! sectors, with that one in red. Nothing is written.
 //!
-//! The test `damaged_heads_are_found` in `src/banks.rt` of the crate `drawing_tests` is an example.
+//! The test `damaged_heads_are_found` in `src/drawings.rt` of the crate `library_examples` is an example.
 #![tactic(auto)]
 
 mod banks;

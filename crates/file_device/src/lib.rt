@@ -5,7 +5,7 @@
 //! failed sync every later call fails. `ReadAhead` is the buffer that its reads go through: over any device it gives
 //! what that device gives.
 //!
-//! The test `a_file_is_made_and_grown_and_never_cut` in `src/files.rt` of the crate `file_tests` is an example.
+//! The test `a_file_is_made_and_grown_and_never_cut` in `src/files.rt` of the crate `library_examples` is an example.
 #![tactic(auto)]
 
 mod buffer;

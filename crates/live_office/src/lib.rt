@@ -8,7 +8,7 @@
 //! reads nor writes. Each station has a thread of its own. The scheduler is what they share: it wakes whom there is
 //! work for.
 //!
-//! The test `a_counter_is_answered_in_order` in `src/counters.rt` of the crate `live_tests` is an example.
+//! The test `a_counter_is_answered_in_order` in `src/counters.rt` of the crate `library_examples` is an example.
 #![tactic(auto)]
 
 mod conversation;

@@ -4,7 +4,7 @@
 //! [`run_derbyfig`] is all of `derbyfig`, and [`run_console`] all of `turn_console`. [`run_program`] and [`options`]
 //! are the parts of the latter that take words.
 //!
-//! The test `each_command_has_its_words` in `src/words.rt` of the crate `front_tests` is an example.
+//! The programs `derbyfig` and `turn_console` are examples.
 #![tactic(auto)]
 
 mod command_table;

@@ -6,8 +6,8 @@
 //! A counter is a client of an office that stays open. It says one request a line, in a stream that comes byte after
 //! byte: a [`LineCutter`] cuts it into lines, and [`read_request`] reads one as a [`Request`].
 //!
-//! The tests `each_command_is_read` in `src/grammar.rt` and `each_request_is_read` in `src/requests.rt` of the crate
-//! `script_tests` are examples.
+//! The tests `each_command_is_read` and `each_request_is_read` in `src/grammar.rt` of the crate `library_examples` are
+//! examples.
 #![tactic(auto)]
 
 mod commands;

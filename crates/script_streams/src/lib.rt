@@ -1,7 +1,7 @@
 //! The streams of a script: it is read whole from a reader, within limits, and what it prints is gathered and handed to
 //! a writer in large pieces.
 //!
-//! The test `lines_are_gathered_to_65536_bytes` in `src/streams.rt` of the crate `script_tests` is an example.
+//! The test `lines_are_gathered_to_65536_bytes` in `src/streams.rt` of the crate `library_examples` is an example.
 #![tactic(auto)]
 
 mod faults;

@@ -4,8 +4,8 @@
 //! and which a crash at some earlier moment might have left, before, within or after each call.
 //! `MemoryDevice` keeps all of it, loses power on demand, and is what the crates above are tested on.
 //!
-//! The test `a_power_loss_takes_the_last_pick_for_each_pending_sector` in `src/devices.rt` of the crate `journal_tests`
-//! is an example.
+//! The test `a_power_loss_takes_the_last_pick_for_each_pending_sector` in `src/devices.rt` of the crate
+//! `library_examples` is an example.
 #![tactic(auto)]
 
 mod device;

@@ -1,7 +1,9 @@
-//! Tests that need several crates beside each other: an example, what is larger than a device in memory, what searches
-//! read, and the texts of refusals.
+//! Tests that need several crates beside each other: an example, what is larger than a device in memory, what devices
+//! before others hand on, what is told if somebody else writes a device, and the texts of refusals.
 #![tactic(auto)]
 
+#[cfg(test)]
+mod changed;
 #[cfg(test)]
 mod devices;
 #[cfg(test)]
@@ -9,6 +11,8 @@ mod example;
 #[cfg(test)]
 mod limits;
 #[cfg(test)]
-mod refusals;
+mod passed_on;
 #[cfg(test)]
-mod searches;
+mod read_ahead;
+#[cfg(test)]
+mod refusals;

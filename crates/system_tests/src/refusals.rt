@@ -9,7 +9,7 @@ use journal_recovery::{Cause, MigrateRefusal, OpenRefusal};
 use ledger_archive::{AddRefusal, FollowRefusal};
 use ledger_file::{CopyRefusal, HeldFault, LedgerRefusal, PartFault};
 use line_lock::{BalanceRefusal, OfficeRefusal, WithinRefusal};
-use office_day::{CloseRefusal, DayRefusal};
+use office_day::{CloseRefusal, DayRefusal, End, EndName};
 use sector_device::DeviceFault;
 use std::alloc::Global;
 use std::fmt::{Display, Write};
@@ -145,6 +145,23 @@ fn refusals_of_an_office_have_texts(rt: HostRuntime) -> Result<(), Fail> {
         there are no more sequence numbers or epochs\n\
         the device failed\n";
     assert!(rt; reads(rt.alloc(), &refusals, lines)?);
+    Ok(())
+}
+
+// What a script prints of a day's stations.
+#[test]
+fn ends_of_stations_have_names(rt: HostRuntime) -> Result<(), Fail> {
+    let ends = [
+        End::NotStarted,
+        End::Reached,
+        End::Stopped,
+        End::Tries,
+        End::Closed,
+        End::Refused(TurnRefusal::Exhausted),
+        End::Refused(TurnRefusal::Device),
+    ];
+    let lines = "NotStarted\nReached\nStopped\nTries\nClosed\nExhausted\nDevice\n";
+    assert!(rt; reads(rt.alloc(), &ends.map(EndName), lines)?);
     Ok(())
 }
 

@@ -40,12 +40,6 @@ pub const LAYOUT_1: Image<'static> = Image {
     records: &[],
 };
 
-/// A new ledger of layout 2 with four slots in each bank.
-pub const LAYOUT_2: Image<'static> = Image {
-    layout: Layout::Second,
-    ..LAYOUT_1
-};
-
 /// A new ledger of layout 3 with four slots in each bank.
 pub const LAYOUT_3: Image<'static> = Image {
     layout: Layout::Third,
@@ -113,30 +107,6 @@ pub fn put_sectors(device: &mut MemoryDevice, list: &[(u64, Sector)]) -> Result<
         device.write(*at, bytes)?;
     }
     Ok(())
-}
-
-/// A device of these sectors, none of them synced.
-///
-/// # Errors
-/// Out of memory.
-pub fn device_of(alloc: Global, image: &[Sector]) -> Result<MemoryDevice, Fail> {
-    let mut device = MemoryDevice::new(alloc, image.len() as u64)?;
-    for (at, bytes) in image.iter().enumerate() {
-        put_sectors(&mut device, &[(at as u64, *bytes)])?;
-    }
-    Ok(device)
-}
-
-/// Each sector of a device.
-///
-/// # Errors
-/// Out of memory.
-pub fn image_of(alloc: Global, device: &MemoryDevice) -> Result<Vec<Sector>, Fail> {
-    let mut image = Vec::new(alloc);
-    for at in 0..device.sectors() {
-        image.push(*device.sector(at))?;
-    }
-    Ok(image)
 }
 
 /// Whether the device has these sectors.

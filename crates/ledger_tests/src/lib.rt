@@ -1,5 +1,0 @@
-//! Tests of a ledger.
-#![tactic(auto)]
-
-#[cfg(test)]
-mod ledgers;

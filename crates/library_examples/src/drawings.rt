@@ -1,0 +1,69 @@
+//! Where damage is found: heads of banks, in the present layout. The device is written by the tables of the formats,
+//! and in no word of the library.
+use device_drawing::{Place, locate};
+use journal_recovery::{Cause, OpenRefusal, recover};
+use sector_device::{Device, MemoryDevice, SECTOR};
+use std::alloc::Global;
+use std::process::Abort;
+use std::test::Fail;
+use test_scenes::{Image, LAYOUT_3};
+
+/// A byte that is changed: its sector, its number there, and what it becomes.
+type Change = (u64, usize, u8);
+
+// An empty ledger of four slots in each bank, with these bytes changed.
+fn changed(rt: &impl Abort, alloc: Global, changes: &[Change]) -> Result<MemoryDevice, Fail> {
+    let image = Image {
+        slots: 4,
+        ..LAYOUT_3
+    };
+    let mut device = image.device(alloc)?;
+    for (at, byte, value) in changes {
+        assert!(rt; *at < device.sectors() && *byte < SECTOR);
+        let mut bytes = *device.sector(*at);
+        bytes[*byte] = *value;
+        device.write(*at, &bytes)?;
+    }
+    device.sync()?;
+    Ok(device)
+}
+
+// A device with these changes is refused for the bank of that number, and the damage is found in this place.
+fn is_found(
+    rt: &impl Abort,
+    alloc: Global,
+    changes: &[Change],
+    number: u64,
+    (sector, byte): (u64, u16),
+) -> Result<(), Fail> {
+    let Err((mut device, refusal)) = recover(alloc, changed(rt, alloc, changes)?) else {
+        panic!(rt; "recovered");
+    };
+    let cause = Cause::Bank;
+    assert!(rt;
+        refusal
+            == OpenRefusal::Damaged {
+                slot: number,
+                cause
+            }
+    );
+    let place = Place {
+        bank: Some(u8::from(number == 1)),
+        slot: None,
+        sector,
+        byte,
+    };
+    assert!(rt; locate(&mut device, refusal)? == Some(place));
+    Ok(())
+}
+
+// The heads are sectors 2 and 29. The magic and zeros have bytes 0 to 7, and zeros stand from 24 on. The first bank is
+// live, unless its gate, sector 1, is closed, and the other one's, sector 28, is open: then its head has zeros alone.
+#[test]
+fn damaged_heads_are_found(rt: HostRuntime) -> Result<(), Fail> {
+    let alloc = rt.alloc();
+    is_found(&rt, alloc, &[(2, 4, 1)], 0, (2, 4))?;
+    is_found(&rt, alloc, &[(2, 24, 1), (2, 7, 1)], 0, (2, 7))?;
+    let second = [(1, 0, 0), (28, 0, 0xa5)];
+    is_found(&rt, alloc, &second, 1, (29, 0))
+}

@@ -1,0 +1,64 @@
+//! What is printed is gathered.
+use script_streams::{Output, StreamFault};
+use std::alloc::Global;
+use std::io;
+use std::io::Write;
+use std::test::Fail;
+
+// A writer that remembers what each call brought.
+#[derive(Drop)]
+struct Taking {
+    alloc: Global,
+    pieces: Vec<Vec<u8>>,
+}
+
+impl Write for Taking {
+    fn write(&mut self, buf: &[u8]) -> io::Result<usize> {
+        let mut piece = Vec::new(self.alloc);
+        piece.extend_from_slice(buf)?;
+        self.pieces.push(piece)?;
+        Ok(buf.len())
+    }
+
+    fn flush(&mut self) -> io::Result<()> {
+        Ok(())
+    }
+}
+
+// So many lines of this text, and one more.
+fn print_lines(
+    alloc: Global,
+    writer: &mut Taking,
+    text: &str,
+    count: u64,
+) -> Result<(), StreamFault> {
+    let mut output = Output::new(alloc, writer)?;
+    for _ in 0..count {
+        output.line(text)?;
+    }
+    output.line(format_args!("account {} {}", 1, 500))?;
+    output.flush()?;
+    output.flush()
+}
+
+// 64 lines of 1,024 bytes are 65,536.
+#[test]
+fn lines_are_gathered_to_65536_bytes(rt: HostRuntime) -> Result<(), Fail> {
+    let alloc = rt.alloc();
+    let mut text = String::new(alloc);
+    for _ in 0..1_023 {
+        text.push('x')?;
+    }
+    let mut writer = Taking {
+        alloc,
+        pieces: Vec::new(alloc),
+    };
+    print_lines(alloc, &mut writer, text.as_str(), 65)?;
+    let [first, last] = writer.pieces.as_slice() else {
+        return Err(Fail::from(StreamFault::Write));
+    };
+    assert!(rt; first.len() == 65_536);
+    assert!(rt; last.len() == 1_024 + 14);
+    assert!(rt; last.as_slice().ends_with(b"\naccount 1 500\n"));
+    Ok(())
+}

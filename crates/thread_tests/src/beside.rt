@@ -1,0 +1,119 @@
+//! Threads at once: a station gathers while another one's sync is under way.
+
+use crate::waiting::{TRIES, wait_for};
+use fault_injector::{Held, HeldFlags};
+use line_lock::Line;
+use office_day::run_office;
+use sector_device::MemoryDevice;
+use station_desk::{Desk, Errand, Feed, Gate, Outcome, desk};
+use std::alloc::Global;
+use std::process::Abort;
+use std::sync::atomic::{AtomicBool, AtomicU64, Ordering};
+use std::sync::{Arc, Wait};
+use std::test::Fail;
+use std::thread::{Threads, yield_now};
+use test_scenes::{deposit, formatted, line};
+
+// How often the gate looks at most, once the sync has its leave. It lets other threads run each time, which a busy
+// machine needs.
+const LOOKS: u32 = 10_000_000;
+
+// How often station 1 looks whether the sync has begun, before it gathers.
+const FIRST_LOOKS: u32 = 100_000;
+
+// Gives leave to the held sync when station 1 has gathered for the first time, and then looks whether it has begun. The
+// sync waits for a while only, so station 0 begins once the other one's thread runs. Station 1 mostly gathers when the
+// sync has begun; where it is early, it waits then.
+#[derive(Drop)]
+struct BesideSync {
+    flags: Arc<HeldFlags, Global>,
+    arrived: AtomicU64,
+    asked: AtomicBool,
+    seen: AtomicBool,
+}
+
+impl BesideSync {
+    fn has_begun(&self) -> bool {
+        self.flags.begun.load(Ordering::SeqCst)
+    }
+
+    // Station 1 is there.
+    fn arrive(&self) {
+        self.arrived.store(1, Ordering::SeqCst);
+        for _ in 0..FIRST_LOOKS {
+            if self.has_begun() {
+                return;
+            }
+        }
+    }
+}
+
+impl Gate for BesideSync {
+    fn errand<R: Wait>(&self, _rt: &R, station: u8) -> Errand {
+        match station {
+            0 => wait_for(&self.arrived, 1),
+            _ => self.arrive(),
+        }
+        Errand::Turn
+    }
+
+    fn gathered(&self, station: u8) {
+        if station != 1 || self.asked.swap(true, Ordering::SeqCst) {
+            return;
+        }
+        self.flags.go.store(true, Ordering::SeqCst);
+        for _ in 0..LOOKS {
+            if self.has_begun() {
+                self.seen.store(true, Ordering::SeqCst);
+                return;
+            }
+            yield_now();
+        }
+    }
+
+    fn answered(&self, _station: u8) {}
+}
+
+// The feed of the bottom one of two stations, at which a deposit is submitted, and both desks.
+fn two_desks(rt: &impl Abort, alloc: Global) -> Result<(Feed, Vec<Desk>), Fail> {
+    let (mut feed, bottom) = desk(alloc, 4)?;
+    let (_, top) = desk(alloc, 4)?;
+    assert!(rt; feed.submit(deposit(1, 5)) == Ok(0));
+    Ok((feed, vec![in alloc; bottom, top]?))
+}
+
+// One turn of the two stations on this device: what account 1 holds then.
+fn one_turn<R: Abort + Threads + Wait + Sync>(
+    rt: &R,
+    alloc: Global,
+    device: Held<MemoryDevice>,
+    line: Line,
+    desks: Vec<Desk>,
+    gate: &BesideSync,
+) -> Option<u64> {
+    assert!(rt; desks.len() == line.stations() as usize);
+    match run_office(rt, alloc, device, line, desks, gate, 1, TRIES) {
+        Ok((closing, _)) => closing.clerk.ledger().balance(1),
+        Err((_, refusal)) => panic!(rt; "{refusal}"),
+    }
+}
+
+#[test]
+fn gather_runs_beside_sync(rt: HostRuntime) -> Result<(), Fail> {
+    let alloc = rt.alloc();
+    let line = line([0, 0], [1, 0])?;
+    let flags = Arc::new(alloc, HeldFlags::new())?;
+    let device = Held::new(formatted(alloc, 4)?, 1, Arc::try_clone(&flags)?);
+    let gate = BesideSync {
+        flags,
+        arrived: AtomicU64::new(0),
+        asked: AtomicBool::new(false),
+        seen: AtomicBool::new(false),
+    };
+    let (mut feed, desks) = two_desks(&rt, alloc)?;
+    let balance = one_turn(&rt, alloc, device, line, desks, &gate);
+    assert!(rt; balance == Some(5) && gate.seen.load(Ordering::SeqCst));
+    let outcome = feed.answer().map(|answer| answer.outcome);
+    assert!(rt; outcome == Some(Outcome::Posted(0)));
+    Ok(())
+}
