@@ -5,6 +5,7 @@ import os
 import pathlib
 import shutil
 import subprocess
+import tempfile
 
 # How many seconds a run may take.
 PATIENCE = 120
@@ -91,18 +92,24 @@ class Failing:
 
     def run(self, words, fault=None, under=None, said=""):
         """A run with the words behind the program's name. Only calls on what is in that folder fail."""
-        hears, says = os.pipe()
-        os.dup2(says, TELLS)
-        os.close(says)
         fails = {"LD_PRELOAD": str(self.library), **fault.environment(under or self.folder)} if fault else {}
-        try:
-            started = subprocess.Popen([self.program, *words], stdin=subprocess.PIPE, stdout=subprocess.PIPE, stderr=subprocess.PIPE,
-                                       cwd=self.folder, env={**os.environ, **fails}, text=True, pass_fds=[TELLS])
-        finally:
-            os.close(TELLS)
-        with os.fdopen(hears, "rb") as heard, started:
-            printed, told = started.communicate(said, timeout=PATIENCE)
-            return Run(printed, told.removesuffix("\n"), started.returncode, heard.read().decode().partition("\n")[0])
+        # a file and no pipe, which would be full behind some thousand calls
+        with tempfile.TemporaryFile() as failed:
+            os.dup2(failed.fileno(), TELLS)
+            try:
+                started = subprocess.Popen([self.program, *words], stdin=subprocess.PIPE, stdout=subprocess.PIPE,
+                                           stderr=subprocess.PIPE, cwd=self.folder, env={**os.environ, **fails}, text=True,
+                                           pass_fds=[TELLS])
+            finally:
+                os.close(TELLS)
+            with started:
+                try:
+                    printed, told = started.communicate(said, timeout=PATIENCE)
+                except subprocess.TimeoutExpired:
+                    started.kill()
+                    raise
+            failed.seek(0)
+            return Run(printed, told.removesuffix("\n"), started.returncode, failed.read().decode().partition("\n")[0])
 
     def done(self, *words, said=""):
         """What a run prints that ends well."""
