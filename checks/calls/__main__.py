@@ -18,11 +18,12 @@ import openings
 import places
 import schedules
 import searches
+import stacked
 
 HERE = Path(__file__).resolve().parent
 
 # What types tests, and the longest that one of them may take.
-DRIVERS = (limits, listings, many_turns, openings, places, schedules, searches)
+DRIVERS = (limits, listings, many_turns, openings, places, schedules, searches, stacked)
 SECONDS = 30
 
 # How many lines of a difference are shown.

@@ -4,8 +4,8 @@ ghost use Rattle.sector_device.specs.Device.{HasCause};
 ghost use Rattle.sector_device.specs.MemoryDevice.{memory_device_state};
 ghost use Rattle.sector_device.specs.Wrapped.{one_more};
 
-use crate::switch::Switch;
-use fault_injector::Call;
+use crate::switch::{Asked, Switch};
+use file_device::ReadRun;
 use sector_device::{Device, DeviceFault, MemoryDevice, Picks, Sector};
 use std::alloc::{AllocError, Global};
 use std::sync::Arc;
@@ -19,7 +19,7 @@ pub struct Bench {
     inner: MemoryDevice,
     switch: Arc<Switch>,
     failures: u64,
-    calls: Vec<Call>,
+    calls: Vec<Asked>,
     // What stood in each sector that is pending, at the last sync.
     before: Vec<(u64, Sector)>,
 }
@@ -37,7 +37,7 @@ impl Bench {
     }
 
     /// The calls that it has noted.
-    pub fn calls(&self) -> &[Call] {
+    pub fn calls(&self) -> &[Asked] {
         self.calls.as_slice()
     }
 
@@ -108,18 +108,26 @@ impl Bench {
         }
     }
 
-    // Notes a call, and tells whether it fails.
-    fn fails(&mut self, call: Call) -> bool
+    // Notes a call, and tells whether it is to fail.
+    fn note(&mut self, call: Asked) -> bool
+        ensures inner { self.new.inner ≡ self.old.inner }
+        ensures failures { self.new.failures ≡ self.old.failures }
+    {
+        if self.calls.len() < self.calls.capacity() {
+            self.calls.push_reserved(call);
+        }
+        self.switch.fails(call)
+    }
+
+    // The same, where one that fails is counted.
+    fn fails(&mut self, call: Asked) -> bool
         ensures inner { self.new.inner ≡ self.old.inner }
         ensures passed { IsFalse result → self.new.failures ≡ self.old.failures }
         ensures failed { IsTrue result → self.new.failures ≡ one_more self.old.failures }
         ensures cause { HasCause self.old.failures self.new.failures (IsTrue result) }
         ensures no_fewer { self.old.failures ≤ self.new.failures }
     {
-        if self.calls.len() < self.calls.capacity() {
-            self.calls.push_reserved(call);
-        }
-        let fails = self.switch.fails(call);
+        let fails = self.note(call);
         if fails {
             self.failures = self.failures.saturating_add(1);
         }
@@ -139,14 +147,14 @@ impl Device for Bench {
     }
 
     fn read(&mut self, at: u64, into: &mut Sector) -> Result<(), DeviceFault> {
-        if self.fails(Call::Read(at)) {
+        if self.fails(Asked::Read(at)) {
             return Err(DeviceFault);
         }
         self.inner.read(at, into)
     }
 
     fn write(&mut self, at: u64, from: &Sector) -> Result<(), DeviceFault> {
-        if self.fails(Call::Write(at)) {
+        if self.fails(Asked::Write(at)) {
             return Err(DeviceFault);
         }
         self.remember(at);
@@ -154,7 +162,7 @@ impl Device for Bench {
     }
 
     fn sync(&mut self) -> Result<(), DeviceFault> {
-        if self.fails(Call::Sync) {
+        if self.fails(Asked::Sync) {
             return Err(DeviceFault);
         }
         self.before.clear();
@@ -162,4 +170,13 @@ impl Device for Bench {
     }
 
     ghost sound = { λ b honest. sound_with_failures (memory_device_state b.inner) b.failures (memory_sound b.inner) };
+}
+
+impl ReadRun for Bench {
+    fn read_run(&mut self, at: u64, into: &mut [Sector]) -> Result<(), DeviceFault> {
+        if self.note(Asked::Run(at, into.len())) {
+            return Err(DeviceFault);
+        }
+        self.inner.read_run(at, into)
+    }
 }

@@ -7,9 +7,10 @@ use crate::entries::no_entries;
 use crate::offices::{Planned, play};
 use crate::said::Said;
 use crate::spans::have_spans;
+use crate::stacked::Stacked;
 use crate::switch::Switch;
 use crate::told::Told;
-use crate::{clerks, desks, devices, fillings, journals, ledgers, lines, listings};
+use crate::{clerks, desks, devices, fillings, journals, ledgers, lines, listings, stacked};
 use four_state::Line;
 use gate_journal::{ACCOUNTS, Filling, Journal, Snapshot};
 use ledger_archive::Seam;
@@ -37,6 +38,7 @@ pub enum Scene {
     Listing(Listing<Bench>),
     Clerk(Clerk<Bench>),
     Office(Planned),
+    Stacked(Stacked),
 }
 
 /// What earlier lines have put together for a call.
@@ -194,6 +196,7 @@ impl Scene {
             Scene::Journal(journal) => journals::ask(journal, hand, name, said, told),
             Scene::Listing(listing) => listings::ask(listing, hand, name, said, told),
             Scene::Clerk(clerk) => clerks::ask(clerk, hand, name, said, told),
+            Scene::Stacked(stacked) => stacked::ask(stacked, hand, name, said, told),
             Scene::Nothing | Scene::Desk(_) | Scene::Filling(_) | Scene::Office(_) => {}
         }
     }
@@ -205,6 +208,7 @@ impl Scene {
             Scene::Filling(filling) => Scene::Device(filling.into_device()),
             Scene::Listing(listing) => Scene::Device(listing.into_device()),
             Scene::Clerk(clerk) => Scene::Device(clerk.into_device()),
+            Scene::Stacked(stacked) => Scene::Device(stacked.into_device()),
             scene => scene,
         }
     }

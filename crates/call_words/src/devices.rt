@@ -12,9 +12,9 @@ use crate::journals::open_journal;
 use crate::listings::open_listing;
 use crate::offices::plan_office;
 use crate::said::Said;
-use crate::switch::{NEVER, Switch};
+use crate::stacked::{call, stack};
+use crate::switch::{Kind, NEVER, Switch};
 use crate::told::Told;
-use fault_injector::Op;
 use gate_journal::{ACCOUNTS, FirstSector, format, format_with};
 use sector_device::{Device, SECTOR, Sector};
 use std::alloc::AllocError;
@@ -59,6 +59,7 @@ pub fn begin(
         "old" => show_old(device, told),
         "list" => list(device, hand, told),
         "crash" => crash(device, hand, said, told),
+        "ahead" | "stop" | "only" => stack(device, hand, name, told),
         _ => Scene::Device(device),
     }
 }
@@ -81,15 +82,16 @@ pub fn begins(name: &str) -> bool {
             | "old"
             | "list"
             | "crash"
+            | "ahead"
+            | "stop"
+            | "only"
     )
 }
 
 /// Any other word of a device.
 pub fn ask(device: &mut Bench, hand: &mut Hand, name: &str, said: &mut Said<'_>, told: &mut Told) {
     match name {
-        "read" => read(device, said, told),
-        "write" => write(device, said, told),
-        "sync" => told.done(&device.sync()),
+        "read" | "write" | "sync" => call(device, name, said, told),
         "pick" => pick(hand, said, told),
         "hold" => hold(hand, said, told),
         "archive" => new_archive(hand, said, told),
@@ -169,36 +171,6 @@ fn read_behind(sector: &mut Sector, offset: usize, said: &mut Said<'_>) {
     said.bytes(rest);
 }
 
-// `read AT`
-fn read(device: &mut Bench, said: &mut Said<'_>, told: &mut Told) {
-    let at = said.number();
-    let mut sector = [0; SECTOR];
-    if !said.is_right(told) {
-        return;
-    }
-    if at >= device.sectors() {
-        told.line("not asked: no such sector");
-        return;
-    }
-    match device.read(at, &mut sector) {
-        Ok(()) => told.bytes(&sector),
-        Err(fault) => told.refused(&fault),
-    }
-}
-
-// `write AT HEX`: a sector that begins with these bytes, of which the last fills it.
-fn write(device: &mut Bench, said: &mut Said<'_>, told: &mut Told) {
-    let (at, sector) = (said.number(), read_sector(said));
-    if !said.is_right(told) {
-        return;
-    }
-    if at >= device.sectors() {
-        told.line("not asked: no such sector");
-        return;
-    }
-    told.done(&device.write(at, &sector));
-}
-
 // `sector AT`: its bytes up to the last one that isn't zero.
 fn show_sector(device: &Bench, said: &mut Said<'_>, told: &mut Told) {
     match device.sector(said.number()) {
@@ -252,14 +224,15 @@ fn show_calls(device: &mut Bench, told: &mut Told) {
     device.forget_calls();
 }
 
-/// `fault none`, or `fault stop|once|twice any|read|write|sync K [K]`.
+/// `fault none`, or `fault stop|once|twice any|read|write|sync|run K [K]`.
 pub fn set_fault(hand: &mut Hand, said: &mut Said<'_>, told: &mut Told) {
     let kind = said.word().unwrap_or("");
-    let op = match said.word() {
-        Some("read") => Op::Read,
-        Some("write") => Op::Write,
-        Some("sync") => Op::Sync,
-        _ => Op::Any,
+    let calls = match said.word() {
+        Some("read") => Kind::Read,
+        Some("write") => Kind::Write,
+        Some("sync") => Kind::Sync,
+        Some("run") => Kind::Run,
+        _ => Kind::Any,
     };
     let (left, then) = match kind {
         "none" => (NEVER, NEVER),
@@ -271,6 +244,6 @@ pub fn set_fault(hand: &mut Hand, said: &mut Said<'_>, told: &mut Told) {
         }
     };
     if said.is_right(told) {
-        hand.switch.set(op, left, then, kind == "stop");
+        hand.switch.set(calls, left, then, kind == "stop");
     }
 }

@@ -23,6 +23,7 @@ mod listings;
 mod offices;
 mod said;
 mod spans;
+mod stacked;
 mod stations;
 mod switch;
 mod told;

@@ -1,5 +1,5 @@
-//! Tests that need several crates beside each other: an example, what is larger than a device in memory, what devices
-//! before others hand on, what is told if somebody else writes a device, and the texts of refusals.
+//! Tests that need several crates beside each other: an example, what is larger than a device in memory, what is told
+//! if somebody else writes a device, and the texts of refusals.
 #![tactic(auto)]
 
 #[cfg(test)]
@@ -10,9 +10,5 @@ mod devices;
 mod example;
 #[cfg(test)]
 mod limits;
-#[cfg(test)]
-mod passed_on;
-#[cfg(test)]
-mod read_ahead;
 #[cfg(test)]
 mod refusals;
