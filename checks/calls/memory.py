@@ -10,6 +10,7 @@ import subprocess
 import sys
 import tempfile
 
+import office_memory
 from console import Console, Mismatch, require, require_same
 
 # The file descriptor on which the library tells that it refused a request.
@@ -168,6 +169,7 @@ def main():
         try:
             for row in ROWS:
                 print(f"{row.name}: {refuse_each(console, row)} requests were refused in turn", flush=True)
+            print(f"an office works: {office_memory.refuse_each(console)} requests were refused in turn", flush=True)
         except Mismatch as told:
             sys.exit(str(told))
         finally:

@@ -12,14 +12,11 @@ from refusing import Refuser, requests_beside
 
 # The calls that may tell of want of memory. A call's own device is a request of the memory device within it.
 CALLS = {
-    "FileDevice::open", "HeldEntries::new", "HeldFlags in an Arc", "Office::open", "Office::turn", "Office::turn_within",
-    "Office::turn_within, by its device", "run_day", "run_stations",
+    "FileDevice::open", "HeldEntries::new", "HeldFlags in an Arc", "run_day", "run_stations",
 }
 # Openings make one call of the device that takes memory, their sync, and it has none left only where its record is
 # full.
-BY_THE_DEVICE = {
-    f"{call}, by its device" for call in ("Office::open", "run_day", "run_stations")
-}
+BY_THE_DEVICE = {f"{call}, by its device" for call in ("run_day", "run_stations")}
 THREADS = "days::a_day_is_had"
 
 DEPOSIT = b"format 4\nopen 3 000 100\npost 0 deposit 1 500\nturn 0\nbalances\ncrash\nopen 3 111 110\nbalances\n"

@@ -12,5 +12,3 @@ mod days;
 mod devices;
 #[cfg(test)]
 mod files;
-#[cfg(test)]
-mod offices;
