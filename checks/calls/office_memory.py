@@ -40,7 +40,8 @@ def names(answers):
 
 def require_all(console, told, of):
     """Want of memory was told once, and the same call again took the turn, so that all are taken."""
-    at = next(place for place, (found, wanted) in enumerate(zip(told, whole())) if found != wanted)
+    at = next((place for place, (found, wanted) in enumerate(zip(told, whole())) if found != wanted), None)
+    require(at is not None, f"{of}: nobody told of it")
     require(told[at] in WANT and at % 2 == (at > 0), f"{of}: {told}")
     rest = whole()
     if at:
