@@ -1,5 +1,6 @@
 """Where the damage is for which a ledger is refused: a sector, a byte of it, and the bank and the slot that it is of."""
 from formats import OPEN, Bank, body, deposit, head, put, sectors, superblock
+from writing import transfer
 
 SLOTS = 4
 
@@ -17,13 +18,6 @@ TEXTS = {
     "Verdict(0)": "the entry at place 0 of a record breaks a rule of the ledger",
     "Verdict(1)": "the entry at place 1 of a record breaks a rule of the ledger",
 }
-
-
-def transfer(source, target, amount):
-    """The place of a transfer."""
-    place = bytearray(deposit(target, amount))
-    place[0], place[7] = 3, source
-    return bytes(place)
 
 
 def sound():

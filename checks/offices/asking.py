@@ -1,9 +1,15 @@
 """Two counters that ask at once, and references that are far above the last one."""
 import fcntl
-import struct
+import pathlib
+import sys
 
 from office import require, require_same
 from talking import require_closed
+
+# These write the bytes of a record.
+sys.path.append(str(pathlib.Path(__file__).parents[1] / "calls"))
+
+from writing import body, deposit
 
 # How often a counter asks the same.
 QUESTIONS = 700
@@ -65,8 +71,7 @@ def with_deposits(case):
     case.formatted_ledger(BATCHES + 4)
     image = bytearray(case.device.read_bytes())
     for number in range(BATCHES):
-        place = struct.pack(">B3xII4xQQ", 1, 0, 1, 1, 1)
-        record = (b"TLB1" + struct.pack(">HHQ16x", 0, 1, number) + place).ljust(512, b"\0") + b"\xa5"
+        record = body(0, number, [deposit(1, 1)]) + b"\xa5"
         at = 512 * (20 + 2 * number)
         image[at:at + len(record)] = record
     case.device.write_bytes(image)
