@@ -1,5 +1,6 @@
 //! The words of a console for tests: each line asks for one public call of the library, and what the call answers is
-//! printed. Nothing here has a type parameter, so that each word is proved once, as it is compiled.
+//! printed. But for the words in an office and the three calls of a device, none has a type parameter, so that it is
+//! proved once, as it is compiled.
 //!
 //! A [`Console`] has a device, or what stands on it, in hand. A word that isn't one of that is told, and changes
 //! nothing. What a call requires is asked first.
