@@ -1,5 +1,5 @@
 -- What a span accepted is in sight of each image that a crash left.
-use Rattle.std.proofs.Common.{◌≡◌, ◌+◌, ◌<◌, ◌≤◌, ℕ, length, take, inl, inr, ⊎_elim, subst, arith}
+use Rattle.std.proofs.Common.{◌≡◌, ◌+◌, ◌<◌, ◌≤◌, ℕ, length, take, inl, inr, ⊎_elim, refl, subst, arith}
 use Rattle.std.proofs.lemmas.List.{length-take-le}
 use Rattle.sector_device.specs.Image.{Image}
 use Rattle.sector_device.specs.Device.{DeviceState}
@@ -44,4 +44,4 @@ all_in_sight state clerk ends has few prefix records =
           let spells = (keeps.as_posted (end_of sight) (first + k) (numbered sight (first + k)) there (omega (arith, far sight seen))).spells (omega arith) in
           subst (λ (n : ℕ). Spells (numbered sight (first + k)) (batch_at batches n)) (omega arith) spells;
     })
-    prefix records
+    (prefix.holds 0 clerk.opening.journal refl) records

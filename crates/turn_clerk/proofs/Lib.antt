@@ -2,6 +2,7 @@ mod OneBatch
 mod Checkpointed
 mod Banks
 mod Prefixes
+mod Moments
 mod AfterTurn
 mod AfterAnswer
 mod AfterOpening

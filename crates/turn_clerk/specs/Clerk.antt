@@ -1,5 +1,5 @@
 -- A clerk at one moment.
-use Rattle.std.specs.Prelude.{◌≡◌, ◌⊎◌, ◌≤◌, ℕ, false, List, [], ◌∷◌, ◌++◌, length, take, Option, Some, None}
+use Rattle.std.specs.Prelude.{◌≡◌, ◌⊎◌, ◌≤◌, ℕ, false, List, [], ◌∷◌, ◌++◌, length, take, slice_get, Option, Some, None}
 use Rattle.four_state.specs.Configuration.{Configuration}
 use Rattle.sector_device.specs.Image.{Image}
 use Rattle.sector_device.specs.Device.{DeviceState}
@@ -34,6 +34,8 @@ pub record ClerkState (D : Type 0) : Type 0 where
   pub line : Configuration
   -- the turns since the opening
   pub history : List Turn
+  -- the journal, and in it the device, as it was when each of them was acknowledged, in order
+  pub acknowledged : List (JournalState D)
   -- the accepted entries of the turn that ended by a fault of the device
   pub in_flight : Option (List Entry)
   -- and the station that took it
@@ -54,13 +56,15 @@ pub record KeepsHistory {D : Type 0} (clerk : ClerkState D) : Type 0 where
   pub line : clerk.line ≡ line_after clerk.opening.line clerk.history
   pub state : present_state clerk ≡ state_after_turns (opening_state clerk) clerk.history
 
--- The clerk after a turn: its batch is journaled and posted, its move is made, and it is the last of the history.
+-- The clerk after a turn: its batch is journaled and posted, its move is made, it is the last of the history, and is
+-- acknowledged now.
 abbrev pub after_turn : {D : Type 0} → ClerkState D → D → Turn → ClerkState D
 after_turn old device turn = record old {
   journal = after_batches old.journal device (length (as_batch (accepted_of turn)));
   ledger = posted_in_order old.ledger (accepted_of turn);
   line = moved old.line turn.station turn.rule;
   history = old.history ++ turn ∷ [];
+  acknowledged = old.acknowledged ++ after_batches old.journal device (length (as_batch (accepted_of turn))) ∷ [];
 }
 
 -- the clerk after a turn of a station in which the device failed, where that bank was live: these entries are in flight
@@ -116,10 +120,24 @@ abbrev pub LeavesAcknowledged : {D : Type 0} → (D → DeviceState) → ClerkSt
 LeavesAcknowledged state clerk = (image : Image) → (state clerk.journal.device).may_leave image
     → RecoversToPrefix (opening_state clerk) (accepted_batches clerk) (length (batches_of clerk.history)) image
 
--- each image that a crash left at any moment since the opening recovers to the ledger of a prefix of the accepted
--- batches
-abbrev pub LeftPrefixEver : {D : Type 0} → (D → DeviceState) → ClerkState D → Type 0
-LeftPrefixEver state clerk = LeavesOnly (state clerk.opening.journal.device) (state clerk.journal.device) (RecoversToPrefix (opening_state clerk) (accepted_batches clerk) 0)
+-- the journal at the opening, and as it was when each turn was acknowledged, in order
+abbrev pub moments_of : {D : Type 0} → ClerkState D → List (JournalState D)
+moments_of clerk = clerk.opening.journal ∷ clerk.acknowledged
+
+-- none of these moments is before an earlier one
+abbrev pub NeverFall : {D : Type 0} → (D → DeviceState) → List (JournalState D) → Type 0
+NeverFall {D} state moments = (m n : ℕ) (earlier later : JournalState D) → m ≤ n → slice_get moments m ≡ Some earlier → slice_get moments n ≡ Some later
+    → (state earlier.device).moment ≤ (state later.device).moment
+
+-- Each image that a crash left at any moment since the opening recovers to the ledger of a prefix of the accepted
+-- batches that holds every batch that had been acknowledged by that moment.
+pub record LeftPrefixEver {D : Type 0} (state : D → DeviceState) (clerk : ClerkState D) : Type 0 where
+  -- each turn was acknowledged at a moment
+  pub one_each : length clerk.acknowledged ≡ length clerk.history
+  pub in_order : NeverFall state (moments_of clerk)
+  -- what a crash left since so many turns had been acknowledged holds every batch of theirs
+  pub holds : (turns : ℕ) (then : JournalState D) → slice_get (moments_of clerk) turns ≡ Some then
+      → LeavesOnly (state then.device) (state clerk.journal.device) (RecoversToPrefix (opening_state clerk) (accepted_batches clerk) (length (batches_of (take turns clerk.history))))
 
 -- At rest, on an honest device.
 pub record IsAtRest {D : Type 0} (state : D → DeviceState) (clerk : ClerkState D) : Type 0 where
@@ -127,7 +145,7 @@ pub record IsAtRest {D : Type 0} (state : D → DeviceState) (clerk : ClerkState
   pub holds : clerk.journal.faulted ≡ false → HoldsState state clerk.journal (present_state clerk)
   -- a crash now leaves a prefix of the accepted batches with all those of the turns taken
   pub now : LeavesAcknowledged state clerk
-  -- a crash at any moment since the opening left a prefix of the accepted batches
+  -- a crash at any moment since the opening left a prefix of the accepted batches with all that were acknowledged then
   pub ever : LeftPrefixEver state clerk
 
 -- What holds of every clerk.

@@ -2,6 +2,7 @@ pub mod Turn
 pub mod Room
 pub mod History
 pub mod HistoryLaws
+pub mod Past
 pub mod Clerk
 pub mod Refused
 pub mod Reply

@@ -10,6 +10,7 @@ mod effects;
 mod events;
 mod journaling;
 mod laws;
+mod past;
 mod postings;
 mod refusals;
 mod searching;
