@@ -9,7 +9,7 @@ use Rattle.journal_recovery.specs.State.{State}
 use Rattle.journal_recovery.specs.Recovery.{RecoversTo}
 use Rattle.turn_clerk.specs.declared.turns.Turn.{Turn}
 use Rattle.turn_clerk.specs.History.{IsLegal}
-use Rattle.turn_clerk.specs.Clerk.{ClerkState, KeepsHistory, LeavesAcknowledged, opening_state}
+use Rattle.turn_clerk.specs.Clerk.{ClerkState, KeepsHistory, LeavesAcknowledged, LeftPrefixEver, opening_state}
 
 -- Two descriptions of a device say the same of it.
 pub record SayTheSame (one other : DeviceState) : Type 0 where
@@ -47,13 +47,15 @@ pub record WasOpenedOn {D : Type 0} (state : D → DeviceState) (device : Device
   pub recovers : device.honest → RecoversTo (opening_state clerk) device.reads
 
 -- The device comes from a clerk that was opened on that one with that line: its turns are a legal history, and a crash
--- now leaves the ledger of a prefix of the accepted batches with every acknowledged one.
+-- now leaves the ledger of a prefix of the accepted batches with every acknowledged one. So did a crash at any moment
+-- since the opening, with every one that had been acknowledged then.
 pub record WasLeftByClerk {D : Type 0} (state : D → DeviceState) (device : DeviceState) (from : Configuration) (after : D) : Type 0 where
   pub clerk : ClerkState D
   pub has : clerk.journal.device ≡ after
   pub opened : WasOpenedOn state device from clerk
   pub legal : KeepsHistory clerk
   pub acknowledged : device.honest → LeavesAcknowledged state clerk
+  pub at_any_moment : device.honest → LeftPrefixEver state clerk
 
 -- The turns are a legal history from the opening on that device with that line: from that line on, and from a state
 -- that on an honest device is what its image recovers to.

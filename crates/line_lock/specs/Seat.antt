@@ -8,7 +8,8 @@ use Rattle.turn_clerk.specs.Turn.{HasPrivilege}
 use Rattle.turn_clerk.specs.History.{line_after, state_after_turns}
 use Rattle.turn_clerk.specs.Refused.{Standing, ClerkRefuses}
 use Rattle.turn_ledger.specs.declared.entry.Entry.{Entry}
-use Rattle.line_lock.specs.OpenedOn.{IsHistoryOf}
+use Rattle.turn_clerk.specs.Clerk.{ClerkState, KeepsHistory, LeavesAcknowledged}
+use Rattle.line_lock.specs.OpenedOn.{WasOpenedOn, IsHistoryOf}
 use Rattle.line_lock.specs.declared.told.ToldBalance.{ToldBalance}
 
 pub record SeatState : Type 0 where
@@ -34,10 +35,16 @@ pub record SeatState : Type 0 where
 abbrev pub new_seat : ℕ → SeatState
 new_seat station = record { station = station; turns = []; denied = None; reached = 0; failed = 0; told = None; faulted = false; undecided = None; room = 0 }
 
--- The turn is the last one of a legal history from the opening on that device with that line.
-pub record EndsHistoryOf (device : DeviceState) (from : Configuration) (turn : Turn) : Type 0 where
+-- The turn was acknowledged: a clerk that was opened on that device with that line had it as the last of a legal
+-- history, and each image that a crash then left recovers to the ledger of a prefix of the accepted batches with all
+-- batches of this history, and so with its own.
+pub record WasAcknowledged {D : Type 0} (state : D → DeviceState) (device : DeviceState) (from : Configuration) (turn : Turn) : Type 0 where
+  pub clerk : ClerkState D
+  pub opened : WasOpenedOn state device from clerk
+  pub legal : KeepsHistory clerk
   pub before : List Turn
-  pub history : IsHistoryOf device from (before ++ turn ∷ [])
+  pub last : clerk.history ≡ before ++ turn ∷ []
+  pub leaves : device.honest → LeavesAcknowledged state clerk
 
 -- So many turns are a legal history from the opening on that device with that line, after which the station has no
 -- privilege.

@@ -92,15 +92,31 @@ impl<D: Device, L: Count + OpenedOn> Office<D, L> {
         seat: &mut Seat<L>,
         entries: &[Entry],
     ) -> Result<Turn, TurnRefusal>
-        ensures told { WasTold L.device L.line seat.old seat.new
+        ensures told { WasTold D.state L.device L.line seat.old seat.new
             entries.now result (λ refusal. refusal) }
+        ensures reached { seat.new.reached ≡ seat.old.reached }
+    {
+        match self.take_turn(rt, seat, entries) {
+            Ok(_) => Ok(seat.turns[seat.turns.len() - 1]),
+            Err(refusal) => Err(refusal),
+        }
+    }
+
+    // The same, but the turn stays where it is kept, the last of the seat's list.
+    fn take_turn<R: Wait>(
+        &self,
+        rt: &R,
+        seat: &mut Seat<L>,
+        entries: &[Entry],
+    ) -> Result<Taken, TurnRefusal>
+        ensures told { WasTold D.state L.device L.line seat.old seat.new
+            entries.now (turn_of result) (λ refusal. refusal) }
         ensures reached { seat.new.reached ≡ seat.old.reached }
     {
         if !seat.has_place() {
             return Err(TurnRefusal::Memory);
         }
-        self.locked.lock(rt).turn(seat, entries)?;
-        Ok(seat.turns[seat.turns.len() - 1])
+        self.locked.lock(rt).turn(seat, entries)
     }
 
     /// As `turn`, but for an office whose history is meant to hold so many turns and no more: under the lock it is
@@ -115,7 +131,7 @@ impl<D: Device, L: Count + OpenedOn> Office<D, L> {
         entries: &[Entry],
         limit: u64,
     ) -> Result<Turn, WithinRefusal>
-        ensures told { WasTold L.device L.line seat.old seat.new
+        ensures told { WasTold D.state L.device L.line seat.old seat.new
             entries.now result WithinRefusal.Turn }
         ensures within { IfOk result (λ turn. turn.index < limit) }
         ensures reached { result ≡ Err WithinRefusal.Reached → limit ≤ seat.new.reached }
@@ -142,7 +158,7 @@ impl<D: Device, L: Count + OpenedOn> Office<D, L> {
         entries: &[Entry],
         limit: u64,
     ) -> Result<Taken, WithinRefusal>
-        ensures told { WasTold L.device L.line seat.old seat.new
+        ensures told { WasTold D.state L.device L.line seat.old seat.new
             entries.now (turn_of result) WithinRefusal.Turn }
         ensures within { IfOk (turn_of result) (λ turn. turn.index < limit) }
         ensures reached { result ≡ Err WithinRefusal.Reached → limit ≤ seat.new.reached }

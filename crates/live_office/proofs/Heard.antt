@@ -64,5 +64,6 @@ left_open state moves closes device line desks last left after old new lived has
     opened = lived.closed.closed.opened;
     legal = lived.closed.closed.legal;
     acknowledged = λ honest. lived.closed.closed.acknowledged (lived.closed.closed.opened.stays_honest honest);
+    at_any_moment = λ honest. lived.closed.closed.at_any_moment (lived.closed.closed.opened.stays_honest honest);
   };
 }

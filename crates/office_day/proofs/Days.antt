@@ -41,11 +41,11 @@ pub record Parts : Type 0 where
 -- How a day went in an office that was opened on that device with that line, and has this clerk: what each station
 -- holds is handed in, it runs from a new seat and a fresh desk, nobody sends it home, the clerk bears out what its seat
 -- then holds, and its requests are reconciled.
-pub record Went {D : Type 0} (device : DeviceState) (from : Configuration) (clerk : ClerkState D) (moves : ℕ) (parts : Parts) : Type 0 where
+pub record Went {D : Type 0} (state : D → DeviceState) (device : DeviceState) (from : Configuration) (clerk : ClerkState D) (moves : ℕ) (parts : Parts) : Type 0 where
   pub handed : AllZip HasHandedIn parts.held parts.feeds
   pub together : AllZip AreTogether parts.feeds parts.desks
   pub fresh : All IsFresh parts.desks
-  pub served : HaveServed device from (new_seats (length parts.held)) parts.desks parts.after parts.left moves ⊥
+  pub served : HaveServed state device from (new_seats (length parts.held)) parts.desks parts.after parts.left moves ⊥
   pub borne_out : All (IsBorneOut clerk) parts.after
   pub reconciled : AreReconciled parts.feeds parts.left parts.days
 
@@ -58,7 +58,7 @@ pub new_seat_at : (n i : ℕ) (seat : SeatState) → i < n → slice_index_or (n
 new_seat_at n i seat low = get_or-map-range_with_len new_seat 0 n i i seat low (omega arith)
 
 -- the day of one station
-record One {D : Type 0} (device : DeviceState) (from : Configuration) (clerk : ClerkState D) (moves i : ℕ) : Type 0 where
+record One {D : Type 0} (state : D → DeviceState) (device : DeviceState) (from : Configuration) (clerk : ClerkState D) (moves i : ℕ) : Type 0 where
   entries : List Entry
   feed : FeedState
   before : DeskState
@@ -69,11 +69,11 @@ record One {D : Type 0} (device : DeviceState) (from : Configuration) (clerk : C
   sat : seat ≡ new_seat i
   handed : HasHandedIn entries feed
   fresh : IsFresh before
-  ran : HasRun device from seat after before left.desk left.end moves ⊥
+  ran : HasRun state device from seat after before left.desk left.end moves ⊥
   out : IsBorneOut clerk after
   done : IsReconciled feed left day
 
-had_day : {D : Type 0} {device : DeviceState} {from : Configuration} {clerk : ClerkState D} {moves i : ℕ} (one : One device from clerk moves i)
+had_day : {D : Type 0} {state : D → DeviceState} {device : DeviceState} {from : Configuration} {clerk : ClerkState D} {moves i : ℕ} (one : One state device from clerk moves i)
     → HadDay clerk moves i one.entries one.day
 had_day {clerk = clerk} {moves = moves} {i = i} one =
     let history = clerk.history in
@@ -100,8 +100,8 @@ had_day {clerk = clerk} {moves = moves} {i = i} one =
           (has_ended clerk i one.seat one.after one.before one.left.desk one.left.end one.sat one.ran one.out);
     }
 
-pub had_their_day : {D : Type 0} {device : DeviceState} {from : Configuration} {clerk : ClerkState D} {moves : ℕ} {parts : Parts}
-    → Went device from clerk moves parts → HadTheirDay clerk moves parts.held parts.days
+pub had_their_day : {D : Type 0} {state : D → DeviceState} {device : DeviceState} {from : Configuration} {clerk : ClerkState D} {moves : ℕ} {parts : Parts}
+    → Went state device from clerk moves parts → HadTheirDay clerk moves parts.held parts.days
 had_their_day {parts = parts} went =
     let count = length parts.held in
     let as_many = AllZip-long HasHandedIn parts.held parts.feeds went.handed in

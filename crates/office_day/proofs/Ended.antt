@@ -19,9 +19,9 @@ there_is : (P Q : ℕ → Type 0) (told : Option ℕ) → IsSomeAnd told P → I
 there_is P Q (Some n) _ holds = (n, holds)
 there_is P Q None x holds = elim x [ ]
 
-pub has_ended : {D : Type 0} (clerk : ClerkState D) {device : DeviceState} {from : Configuration} {moves : ℕ} {closes : Type 0} (station : ℕ) (old new : SeatState)
+pub has_ended : {D : Type 0} (clerk : ClerkState D) {state : D → DeviceState} {device : DeviceState} {from : Configuration} {moves : ℕ} {closes : Type 0} (station : ℕ) (old new : SeatState)
     (before after : DeskState) (end : End)
-    → old ≡ new_seat station → (ran : HasRun device from old new before after end moves closes) → IsBorneOut clerk new
+    → old ≡ new_seat station → (ran : HasRun state device from old new before after end moves closes) → IsBorneOut clerk new
     → HasEnded clerk moves station closes end ran.worked.given_up
 has_ended clerk station old new before after end sat ran out =
     let sits : new.station ≡ station = ran.worked.station ∙ ap (λ (s : SeatState). s.station) sat in

@@ -82,8 +82,8 @@ failures_are (Refused Memory) n one none = none (λ is. absurd (cc))
 failures_are (Refused Exhausted) n one none = none (λ is. absurd (cc))
 failures_are (Refused Device) n one none = one refl
 
-pub failures_counted : {D : Type 0} {device : DeviceState} {from : Configuration} {clerk : ClerkState D} {moves : ℕ} {parts : Parts}
-    → Went device from clerk moves parts → sum_by (λ seat. seat.failed) parts.after ≡ failures_told parts.days
+pub failures_counted : {D : Type 0} {state : D → DeviceState} {device : DeviceState} {from : Configuration} {clerk : ClerkState D} {moves : ℕ} {parts : Parts}
+    → Went state device from clerk moves parts → sum_by (λ seat. seat.failed) parts.after ≡ failures_told parts.days
 failures_counted {parts = parts} went =
     let count = length parts.held in
     let fed = AllZip-long HasHandedIn parts.held parts.feeds went.handed in

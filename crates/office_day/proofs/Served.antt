@@ -18,10 +18,11 @@ use Rattle.office_day.proofs.Lists.{AllZip-at, AllZip-each}
 use Rattle.office_day.proofs.Pairing.{stands_with}
 use Rattle.std.proofs.lemmas.Slice.Zip.{AllZip-long}
 
-pub have_served : {X : Type 0} {device : DeviceState} {from : Configuration} (seats : List SeatState) (desks : List DeskState) (old new : List (Station X)) (moves : ℕ) (closes : Type 0)
+pub have_served : {D X : Type 0} {state : D → DeviceState} {device : DeviceState} {from : Configuration}
+    (seats : List SeatState) (desks : List DeskState) (old new : List (Station X)) (moves : ℕ) (closes : Type 0)
     → map (λ (station : Station X). station.seat) old ≡ seats → map (λ (station : Station X). station.desk) old ≡ desks
-    → HaveRun device from old new moves closes → HaveServed device from seats desks (map (λ (station : Station X). station.seat) new) (map left_of new) moves closes
-have_served {X = X} {device = device} {from = from} seats desks old new moves closes sat stood ran =
+    → HaveRun state device from old new moves closes → HaveServed state device from seats desks (map (λ (station : Station X). station.seat) new) (map left_of new) moves closes
+have_served {X = X} {state = state} {device = device} {from = from} seats desks old new moves closes sat stood ran =
     let seat_of : Station X → SeatState = λ station. station.seat in
     let desk_of : Station X → DeskState = λ station. station.desk in
     let as_many : length seats ≡ length old = sym (ap length sat) ∙ length-map old seat_of in
@@ -38,12 +39,12 @@ have_served {X = X} {device = device} {from = from} seats desks old new moves cl
           let new_part = sym (get_or-map left_of new i there part after) in
           let was = slice_index_or old i there in
           let is = slice_index_or new i there in
-          subst (λ (s : SeatState). HasRun device from s (slice_index_or (map seat_of new) i seat) (slice_index_or desks i desk) (slice_index_or (map left_of new) i part).desk
+          subst (λ (s : SeatState). HasRun state device from s (slice_index_or (map seat_of new) i seat) (slice_index_or desks i desk) (slice_index_or (map left_of new) i part).desk
           (slice_index_or (map left_of new) i part).end moves closes) old_seat
-          (subst (λ (s : SeatState). HasRun device from was.seat s (slice_index_or desks i desk) (slice_index_or (map left_of new) i part).desk
+          (subst (λ (s : SeatState). HasRun state device from was.seat s (slice_index_or desks i desk) (slice_index_or (map left_of new) i part).desk
           (slice_index_or (map left_of new) i part).end moves closes) new_seat
-          (subst (λ (d : DeskState). HasRun device from was.seat is.seat d (slice_index_or (map left_of new) i part).desk (slice_index_or (map left_of new) i part).end moves closes) old_desk
-          (subst (λ (p : Left). HasRun device from was.seat is.seat was.desk p.desk p.end moves closes) new_part (ran.each i there before))));
+          (subst (λ (d : DeskState). HasRun state device from was.seat is.seat d (slice_index_or (map left_of new) i part).desk (slice_index_or (map left_of new) i part).end moves closes) old_desk
+          (subst (λ (p : Left). HasRun state device from was.seat is.seat was.desk p.desk p.end moves closes) new_part (ran.each i there before))));
     }
 
 -- where the lists are these, what holds of these holds of them
@@ -57,9 +58,10 @@ pub lent_back : {A : Type 0} (n : ℕ) (new old : List A) → length new ≡ n �
 lent_back n new old long = ap (λ m. take m (new ++ drop (length new) old)) (sym long) ∙ take-append_seam new (drop (length new) old)
 
 -- each feed is still that of the desk that its station left
-pub stay_together : {device : DeviceState} {from : Configuration} (feeds : List FeedState) (seats : List SeatState) (desks : List DeskState) (after : List SeatState) (left : List Left)
+pub stay_together : {D : Type 0} {state : D → DeviceState} {device : DeviceState} {from : Configuration}
+    (feeds : List FeedState) (seats : List SeatState) (desks : List DeskState) (after : List SeatState) (left : List Left)
     (moves : ℕ) (closes : Type 0)
-    → AllZip AreTogether feeds desks → length desks ≡ length seats → HaveServed device from seats desks after left moves closes → AllZip stands_with feeds left
+    → AllZip AreTogether feeds desks → length desks ≡ length seats → HaveServed state device from seats desks after left moves closes → AllZip stands_with feeds left
 stay_together feeds seats desks after left moves closes together alike served =
     let as_many : length desks ≡ length feeds = AllZip-long AreTogether feeds desks together in
     AllZip-each stands_with feeds left (served.left_as_many ∙ sym alike ∙ as_many)

@@ -13,7 +13,7 @@ use Rattle.sweep_auditor.specs.declared.moves.Audit.{Audit}
 use Rattle.turn_clerk.specs.declared.refusals.TurnRefusal.TheVariants.{Device}
 use Rattle.line_lock.specs.Account.{turns_of, IsBorneOut}
 use Rattle.line_lock.specs.Lent.{new_seats}
-use Rattle.line_lock.specs.Seat.{SeatState, new_seat}
+use Rattle.line_lock.specs.Seat.{SeatState, WasAcknowledged, new_seat}
 use Rattle.station_desk.specs.declared.messages.Ask.{Ask}
 use Rattle.station_desk.specs.declared.end.End.TheVariants.{NotStarted, Refused}
 use Rattle.station_desk.specs.declared.messages.Answer.{Answer}
@@ -41,9 +41,10 @@ use Rattle.office_day.proofs.Pairing.{stands_with}
 use Rattle.office_day.proofs.Limits.{IsBelow, all_below, short}
 
 -- In an office whose clerk bears out what its seats hold, a station's own turns are those of the history.
-module _ {device : DeviceState} {from : Configuration} {moves : ℕ} {closes : Type 0} (count : ℕ) {D : Type 0} (clerk : ClerkState D) {desks : List DeskState} {after : List SeatState}
+module _ {D : Type 0} {state : D → DeviceState} {device : DeviceState} {from : Configuration} {moves : ℕ} {closes : Type 0} (count : ℕ) (clerk : ClerkState D)
+    {desks : List DeskState} {after : List SeatState}
     {left : List Left}
-    (served : HaveServed device from (new_seats count) desks after left moves closes) (out : All (IsBorneOut clerk) after) where
+    (served : HaveServed state device from (new_seats count) desks after left moves closes) (out : All (IsBorneOut clerk) after) where
   in_seats : (i : ℕ) → i < count → i < length (new_seats count)
   in_seats i low = subst (λ n. i < n) (sym (length-new_seats count)) low
 
@@ -51,7 +52,7 @@ module _ {device : DeviceState} {from : Configuration} {moves : ℕ} {closes : T
   in_after i low = subst (λ n. i < n) (sym served.seats_as_many) (in_seats i low)
 
   abbrev worked : (i : ℕ) (desk : DeskState) (part : Left) (low : i < count) → let seat = new_seat 0 in
-      HasWorked (slice_index_or (new_seats count) i seat) (slice_index_or after i seat) (slice_index_or desks i desk) (slice_index_or left i part).desk moves
+      HasWorked (WasAcknowledged state device from) (slice_index_or (new_seats count) i seat) (slice_index_or after i seat) (slice_index_or desks i desk) (slice_index_or left i part).desk moves
       ((slice_index_or left i part).end ≡ Refused Device)
   worked i desk part low = (served.each i (new_seat 0) desk part (in_seats i low)).worked
 

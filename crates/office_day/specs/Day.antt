@@ -67,9 +67,11 @@ pub record AreReconciled (feeds : List FeedState) (left : List Left) (days : Lis
       → IsReconciled (slice_index_or feeds i feed) (slice_index_or left i part) (slice_index_or days i day)
 
 -- The stations at these seats and desks have run, and left what they then had.
-pub record HaveServed (device : DeviceState) (from : Configuration) (seats : List SeatState) (desks : List DeskState) (after : List SeatState) (left : List Left) (moves : ℕ)
+pub record HaveServed {D : Type 0} (state : D → DeviceState) (device : DeviceState) (from : Configuration)
+    (seats : List SeatState) (desks : List DeskState) (after : List SeatState) (left : List Left) (moves : ℕ)
     (closes : Type 0) : Type 0 where
   pub seats_as_many : length after ≡ length seats
   pub left_as_many : length left ≡ length seats
   pub each : (i : ℕ) (seat : SeatState) (desk : DeskState) (part : Left) → i < length seats
-      → HasRun device from (slice_index_or seats i seat) (slice_index_or after i seat) (slice_index_or desks i desk) (slice_index_or left i part).desk (slice_index_or left i part).end moves closes
+      → HasRun state device from (slice_index_or seats i seat) (slice_index_or after i seat) (slice_index_or desks i desk)
+      (slice_index_or left i part).desk (slice_index_or left i part).end moves closes

@@ -38,7 +38,7 @@ pub fn run_office<D: Device + Send, G: Gate + Sync, R: Threads + Wait + Sync>(
 
     // What the stations made of their desks and of their seats, which account for the whole history.
     ensures ran { IfOk result (λ run. (seats : List SeatState)
-        × HaveServed (D.state device) line (new_seats (stations line)) desks.items
+        × HaveServed D.state (D.state device) line (new_seats (stations line)) desks.items
         seats run.1.items moves (G.closes gate.now)
         × AccountFor (stations line) seats run.0.clerk) }
 
@@ -76,7 +76,8 @@ fn named_run<
     requires named { Names L.name L.parts L.device L.line blank (D.state device) line }
     requires as_many { length desks.items ≡ stations line }
     ensures ran { IfOk result (λ run. (seats : List SeatState)
-        × HaveServed L.device L.line (new_seats (stations line)) desks.items seats run.1.items moves (G.closes gate.now)
+        × HaveServed D.state L.device L.line (new_seats (stations line))
+        desks.items seats run.1.items moves (G.closes gate.now)
         × AccountFor (stations line) seats run.0.clerk) }
     ensures closed { IfOk result (λ run. IsClosed D.state L.device L.line run.0.clerk run.0.audit) }
     ensures left { IfErr result (λ e.
@@ -115,7 +116,8 @@ fn served<
 ) -> Result<(Vec<Seat<L>>, Vec<Left>), AllocError>
     requires as_many { length desks.items ≡ length seats.items }
     ensures { IfOk result (λ both.
-        HaveServed L.device L.line seats.items desks.items both.0.items both.1.items moves (G.closes gate.now)) }
+        HaveServed D.state L.device L.line seats.items desks.items
+        both.0.items both.1.items moves (G.closes gate.now)) }
 {
     let mut stations = seated(alloc, seats, desks)?;
     run_stations(rt, office, stations.as_mut_slice(), gate, moves, tries);

@@ -14,8 +14,8 @@ pub record ArePaired {X : Type 0} (feeds : List FeedState) (stations : List (Sta
   pub each : (i : ℕ) (f : FeedState) (s : Station X) → i < length stations → AreTogether (slice_index_or feeds i f) (slice_index_or stations i s).desk
 
 -- A run leaves each feed with its station.
-pub stay_paired : {X : Type 0} {device : DeviceState} {from : Configuration} (feeds : List FeedState) (old new : List (Station X)) (moves : ℕ) (closes : Type 0)
-    → HaveRun device from old new moves closes → ArePaired feeds old → ArePaired feeds new
+pub stay_paired : {D X : Type 0} {state : D → DeviceState} {device : DeviceState} {from : Configuration} (feeds : List FeedState) (old new : List (Station X)) (moves : ℕ) (closes : Type 0)
+    → HaveRun state device from old new moves closes → ArePaired feeds old → ArePaired feeds new
 stay_paired feeds old new moves closes ran paired = record {
   as_many = paired.as_many ∙ sym ran.as_many;
   each = λ i f s low.

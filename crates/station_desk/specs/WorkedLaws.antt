@@ -34,13 +34,14 @@ served-joined old mid new turns more given_up far next = record {
   answers = next.answers ∙ far.answers;
 }
 
-pub worked-nothing : (seat : SeatState) (desk : DeskState) (moves : ℕ) (failed : Type 0) → ¬ failed → HasWorked seat seat desk desk moves failed
-worked-nothing seat desk moves failed not = record {
+pub worked-nothing : {was_acknowledged : Turn → Type 0} (seat : SeatState) (desk : DeskState) (moves : ℕ) (failed : Type 0) → ¬ failed → HasWorked was_acknowledged seat seat desk desk moves failed
+worked-nothing {was_acknowledged = was_acknowledged} seat desk moves failed not = record {
   turns = [];
   given_up = [];
   station = refl;
   listed = sym (append-nil seat.turns);
   within = All-nil (λ (turn : Turn). turn.index < moves);
+  acknowledged = All-nil was_acknowledged;
   served = served-nothing desk;
   undecided = λ _. refl;
   nothing_held = λ is. absurd (not is);
@@ -51,9 +52,10 @@ worked-nothing seat desk moves failed not = record {
 }
 
 -- work in which nothing failed, and more of it
-pub worked-joined : (old mid new : SeatState) (before between after : DeskState) (moves : ℕ) (failed : Type 0) → HasWorked old mid before between moves ⊥
-    → HasWorked mid new between after moves failed → HasWorked old new before after moves failed
-worked-joined old mid new before between after moves failed far next =
+pub worked-joined : {was_acknowledged : Turn → Type 0} (old mid new : SeatState) (before between after : DeskState) (moves : ℕ) (failed : Type 0)
+    → HasWorked was_acknowledged old mid before between moves ⊥
+    → HasWorked was_acknowledged mid new between after moves failed → HasWorked was_acknowledged old new before after moves failed
+worked-joined {was_acknowledged = was_acknowledged} old mid new before between after moves failed far next =
     let none : far.given_up ≡ [] = far.undecided (λ never. never) in
     record {
       turns = far.turns ++ next.turns;
@@ -61,6 +63,7 @@ worked-joined old mid new before between after moves failed far next =
       station = next.station ∙ far.station;
       listed = next.listed ∙ ap (λ (turns : List Turn). turns ++ next.turns) far.listed ∙ append_assoc old.turns far.turns next.turns;
       within = All-append (λ (turn : Turn). turn.index < moves) far.turns next.turns far.within next.within;
+      acknowledged = All-append was_acknowledged far.turns next.turns far.acknowledged next.acknowledged;
       served = served-joined before between after far.turns next.turns next.given_up
           (subst (λ (asks : List Ask). HasServed before between far.turns asks) none far.served) next.served;
       undecided = next.undecided;
@@ -72,14 +75,15 @@ worked-joined old mid new before between after moves failed far next =
     }
 
 -- that something else failed, or that it is said in other words
-pub worked-where : (old new : SeatState) (before after : DeskState) (moves : ℕ) (failed other : Type 0) → (failed → other) → (other → failed)
-    → HasWorked old new before after moves failed → HasWorked old new before after moves other
+pub worked-where : {was_acknowledged : Turn → Type 0} (old new : SeatState) (before after : DeskState) (moves : ℕ) (failed other : Type 0) → (failed → other) → (other → failed)
+    → HasWorked was_acknowledged old new before after moves failed → HasWorked was_acknowledged old new before after moves other
 worked-where old new before after moves failed other there back worked = record {
   turns = worked.turns;
   given_up = worked.given_up;
   station = worked.station;
   listed = worked.listed;
   within = worked.within;
+  acknowledged = worked.acknowledged;
   served = worked.served;
   undecided = λ not. worked.undecided (λ is. not (there is));
   nothing_held = λ is. worked.nothing_held (back is);
@@ -90,14 +94,16 @@ worked-where old new before after moves failed other there back worked = record 
 }
 
 -- a question behind the work
-pub worked-noted : (old mid new : SeatState) (before after : DeskState) (moves : ℕ) (failed : Type 0) → NotesAlone mid new → HasWorked old mid before after moves failed
-    → HasWorked old new before after moves failed
+pub worked-noted : {was_acknowledged : Turn → Type 0} (old mid new : SeatState) (before after : DeskState) (moves : ℕ) (failed : Type 0) → NotesAlone mid new
+    → HasWorked was_acknowledged old mid before after moves failed
+    → HasWorked was_acknowledged old new before after moves failed
 worked-noted old mid new before after moves failed alone worked = record {
   turns = worked.turns;
   given_up = worked.given_up;
   station = ap (λ (seat : SeatState). seat.station) alone ∙ worked.station;
   listed = ap (λ (seat : SeatState). seat.turns) alone ∙ worked.listed;
   within = worked.within;
+  acknowledged = worked.acknowledged;
   served = worked.served;
   undecided = worked.undecided;
   nothing_held = worked.nothing_held;

@@ -2,7 +2,7 @@
 ghost use Rattle.std.specs.Prelude.{◌≡◌, ◌≢◌, ◌+◌, ◌<◌, ◌≤◌, ◌↔◌, ◌∷◌, ◌++◌, [], List, length, OnOk, OnErr, IsSomeAnd, Err, Some, None};
 ghost use Rattle.turn_clerk.specs.declared.refusals.TurnRefusal.{TurnRefusal};
 ghost use Rattle.turn_clerk.specs.declared.turns.Turn.{Turn};
-ghost use Rattle.line_lock.specs.Seat.{IsDeniedAfter};
+ghost use Rattle.line_lock.specs.Seat.{WasAcknowledged, IsDeniedAfter};
 ghost use Rattle.station_desk.specs.Worked.{HasWorked};
 ghost use Rattle.station_desk.specs.Run.{HasRun, HaveRun};
 
@@ -38,8 +38,8 @@ fn round<D: Device, L: Count + OpenedOn, G: Gate, R: Wait>(
     gate: &G,
     moves: u64,
 ) -> Result<(), WithinRefusal>
-    ensures worked { HasWorked seat.old seat.new desk.old desk.new moves (result
-        ≡ Err (WithinRefusal.Turn TurnRefusal.Device)) }
+    ensures worked { HasWorked (WasAcknowledged D.state L.device L.line)
+        seat.old seat.new desk.old desk.new moves (result ≡ Err (WithinRefusal.Turn TurnRefusal.Device)) }
     ensures one_turn { OnOk result (length seat.new.turns ≡ length seat.old.turns + 1) }
     ensures no_turn { OnErr result (seat.new.turns ≡ seat.old.turns) }
     ensures reached { result ≡ Err WithinRefusal.Reached → moves ≤ seat.new.reached }
@@ -111,8 +111,8 @@ fn work<D: Device, L: Count + OpenedOn, G: Gate, R: Wait>(
     moves: u64,
     tries: u64,
 ) -> End
-    ensures worked { HasWorked seat.old seat.new desk.old desk.new moves (result
-        ≡ End.Refused TurnRefusal.Device) }
+    ensures worked { HasWorked (WasAcknowledged D.state L.device L.line)
+        seat.old seat.new desk.old desk.new moves (result ≡ End.Refused TurnRefusal.Device) }
     ensures reached { result ≡ End.Reached → moves ≤ seat.new.reached }
     ensures tries { result ≡ End.Tries
         → IsSomeAnd seat.new.denied (IsDeniedAfter L.device L.line seat.old.station) }
@@ -161,7 +161,7 @@ fn run_station<D: Device, L: Count + OpenedOn, G: Gate, R: Wait>(
     moves: u64,
     tries: u64,
 )
-    ensures { HasRun L.device L.line station.old.seat station.new.seat
+    ensures { HasRun D.state L.device L.line station.old.seat station.new.seat
         station.old.desk station.new.desk station.new.end moves (G.closes gate.now) }
 {
     let Station { seat, desk, end } = station;
@@ -184,7 +184,7 @@ pub fn run_stations<
     G: Gate + Sync,
     R: Threads + Wait + Sync,
 >(rt: &R, office: &Office<D, L>, stations: &mut [Station<L>], gate: &G, moves: u64, tries: u64)
-    ensures { HaveRun L.device L.line stations.old stations.new moves (G.closes gate.now) }
+    ensures { HaveRun D.state L.device L.line stations.old stations.new moves (G.closes gate.now) }
 {
     if stations.is_empty() {
         return;

@@ -54,14 +54,14 @@ parts g c = record {
 }
 
 went : (g : given.Over) (c : goal.In-Ok-all_reconciled g) → let clerk = c.in-Ok-run.run'.0.clerk in
-    Went (g.D.Device.state c.args.device) c.args.line clerk c.args.moves (parts g c)
+    Went g.D.Device.state (g.D.Device.state c.args.device) c.args.line clerk c.args.moves (parts g c)
 went g c =
     let ran = c.in-Ok-run.ensures.ran in
     record {
       handed = c.in-Ok.ensures.handed_in;
       together = c.in-Ok.ensures.together;
       fresh = c.in-Ok.ensures.fresh;
-      served = subst (λ (count : ℕ). HaveServed (g.D.Device.state c.args.device) c.args.line (new_seats count) c.in-Ok.desks.items ran.0 c.in-Ok-run.run'.1.items c.args.moves ⊥)
+      served = subst (λ (count : ℕ). HaveServed g.D.Device.state (g.D.Device.state c.args.device) c.args.line (new_seats count) c.in-Ok.desks.items ran.0 c.in-Ok-run.run'.1.items c.args.moves ⊥)
           (sym c.requires.held) ran.1;
       borne_out = ran.2.borne_out;
       reconciled = c.in-Ok-all_reconciled.ensures;
@@ -90,4 +90,5 @@ returns-in-Err-all_reconciled-clause-left g c =
       opened = closed.opened;
       legal = closed.legal;
       acknowledged = λ honest. closed.acknowledged (closed.opened.stays_honest honest);
+      at_any_moment = λ honest. closed.at_any_moment (closed.opened.stays_honest honest);
     })

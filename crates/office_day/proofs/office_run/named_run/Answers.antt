@@ -20,7 +20,7 @@ returns-in-Ok-close-clause-ran g c =
     let closing = c.in-Ok-close.ensures in
     let clerk = c.in-Ok-close.closing.clerk in
     let seats = c.in-Ok-served.both.0.items in
-    let makes = λ (lent : List SeatState). HaveServed g.L.OpenedOn.device g.L.OpenedOn.line lent c.args.desks.items seats c.in-Ok-served.both.1.items c.args.moves
+    let makes = λ (lent : List SeatState). HaveServed g.D.Device.state g.L.OpenedOn.device g.L.OpenedOn.line lent c.args.desks.items seats c.in-Ok-served.both.1.items c.args.moves
     (g.G.Gate.closes c.args.gate.now) in (
       seats,
       subst makes c.in-Ok.ensures.seats c.in-Ok-served.ensures,

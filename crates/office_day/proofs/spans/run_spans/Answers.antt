@@ -45,6 +45,7 @@ returns-in-Err-between_spans-clause-broken_off g c =
         opened = closed.opened;
         legal = closed.legal;
         acknowledged = λ honest. closed.acknowledged (closed.opened.stays_honest honest);
+        at_any_moment = λ honest. closed.at_any_moment (closed.opened.stays_honest honest);
       };
     }
 
