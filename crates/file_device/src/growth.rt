@@ -1,12 +1,10 @@
 ghost use Rattle.std.specs.Prelude.{◌*◌, ◌<◌, ◌≤◌, ◌^◌, length};
 
-use sector_device::{SECTOR, Sector};
+use crate::opening::SECTOR_LENGTH;
+use sector_device::Sector;
 use std::fs::OpenFile;
 use std::io;
 use std::os::unix::fs::FileExt;
-
-/// The size of a sector, as a length of a file.
-const SECTOR_LENGTH: u64 = SECTOR as u64;
 
 /// Grows a file of `from` sectors until it has `to` of them. After an error it has the length from before, if the
 /// system can give it that.

@@ -34,7 +34,7 @@ pub use fail_stop::FailStop;
 pub use locked_file::{LockedFile, Wanted};
 pub use looking::{Locking, ReadOnlyFile, ReadOnlyOn};
 pub use made_file::{FileNumber, MadeFile};
-pub use opening::Making;
+pub use opening::{Making, clear_of_streams};
 pub use read_ahead::ReadAhead;
 pub use read_only::ReadOnly;
 pub use read_run::ReadRun;

@@ -15,7 +15,7 @@ use std::{fs, io};
 pub(crate) const SECTOR_LENGTH: u64 = SECTOR as u64;
 
 /// The most sectors of a file, whose length the system counts below 2^63.
-pub(crate) const MOST_SECTORS: u64 = i64::MAX as u64 / SECTOR_LENGTH;
+pub(crate) const MOST_FILE_SECTORS: u64 = i64::MAX as u64 / SECTOR_LENGTH;
 
 /// The number of standard error. Those of standard input and output are lower.
 const LAST_STREAM: RawFd = 2;
@@ -131,9 +131,12 @@ fn folder_of(path: &str) -> Path<'_> {
     }
 }
 
-// Moves the file off the numbers of the standard streams: where one of these is closed, what is printed to it would
-// land in the file.
-fn clear_of_streams<F: OpenFile + AsRawFd + Drop>(file: F) -> io::Result<F>
+/// Moves a file off the numbers of the standard streams: where one of these is closed, what is printed to it would land
+/// in the file.
+///
+/// # Errors
+/// The system gives it no other number.
+pub fn clear_of_streams<F: OpenFile + AsRawFd + Drop>(file: F) -> io::Result<F>
     ensures clear { IfOk result (λ file. IfSome (F.raw_fd file) (λ number. pos 2 <ℤ number)) }
 {
     if file.as_raw_fd() > LAST_STREAM {
@@ -151,7 +154,7 @@ pub(crate) fn check_length(sectors: u64) -> Result<(), FileFault>
     ensures fits { IsOk result ↔ (sectors * 512 < 2 ^ 63) }
     ensures refused { IfErr result (λ fault. fault ≡ FileFault.NoRoom) }
 {
-    if sectors > MOST_SECTORS {
+    if sectors > MOST_FILE_SECTORS {
         return Err(FileFault::NoRoom);
     }
     Ok(())

@@ -1,5 +1,5 @@
 //! An office in memory that stays open for one counter, whose lines are written out and whose answers come by a pipe.
-use live_office::{Closed, CopyRefusal, Counter, Identity, Keeper, Kept, Kind, Seen, keep_open};
+use live_office::{Closed, CounterCopyRefusal, Counter, Identity, Keeper, Kept, Kind, Seen, keep_open};
 use office_day::{End, Line};
 use sector_device::{Device, MemoryDevice};
 use std::alloc::Global;
@@ -24,12 +24,12 @@ impl<D: Device> Keeper<D> for Sample {
         (device, Kept::NoArchive)
     }
 
-    fn copy(&mut self, device: D) -> (D, Result<u64, CopyRefusal>) {
+    fn copy(&mut self, device: D) -> (D, Result<u64, CounterCopyRefusal>) {
         self.copies = self.copies.saturating_add(1);
         if self.copies == 1 {
             return (device, Ok(7));
         }
-        (device, Err(CopyRefusal::Occupied))
+        (device, Err(CounterCopyRefusal::Occupied))
     }
 
     fn last(&mut self, _station: u8) -> Option<Seen> {

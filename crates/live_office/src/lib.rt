@@ -40,7 +40,7 @@ pub use line_lock::Posting;
 pub use look::{Look, Seen, last_posting};
 pub use messages::{Message, WrongLine};
 pub use open_office::{Closed, LiveRefusal, keep_open};
-pub use recess::{CopyRefusal, Keeper, Kept};
+pub use recess::{CounterCopyRefusal, Keeper, Kept};
 pub use responses::{Judgement, REQUESTS, Response};
 pub use standing::{Standing, StandingRefusal};
 pub use turn_ledger::Entry;

@@ -14,7 +14,7 @@ use std::sync::Wait;
 
 /// Why there is no copy. The first that holds.
 #[derive(Clone, Copy, Debug, PartialEq, Eq)]
-pub enum CopyRefusal {
+pub enum CounterCopyRefusal {
     /// The office has no folder for copies.
     NoFolder,
     /// Out of memory.
@@ -60,8 +60,8 @@ pub trait Keeper<D: Device> {
     /// and handed back.
     ///
     /// # Errors
-    /// [`CopyRefusal`].
-    fn copy(&mut self, device: D) -> (D, Result<u64, CopyRefusal>)
+    /// [`CounterCopyRefusal`].
+    fn copy(&mut self, device: D) -> (D, Result<u64, CounterCopyRefusal>)
         ensures looked { WasLookedAt (D.state device) (D.state result.0) }
         ensures archive { archive self.new ≡ archive self.old };
 
@@ -90,7 +90,7 @@ pub(crate) enum Wish {
 #[derive(Clone, Copy)]
 pub(crate) enum Came {
     Archive(Kept),
-    Copy(Result<u64, CopyRefusal>),
+    Copy(Result<u64, CounterCopyRefusal>),
     Last(Option<Seen>),
     Standing(Result<Standing, StandingRefusal>),
 }

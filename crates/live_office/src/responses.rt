@@ -6,7 +6,7 @@ ghost use Rattle.live_office.specs.Conversation.{is_answer, told_of_balance, IsO
 
 use crate::look::Seen;
 use crate::messages::WrongLine;
-use crate::recess::CopyRefusal;
+use crate::recess::CounterCopyRefusal;
 use crate::standing::{Standing, StandingRefusal};
 use line_lock::{BalanceRefusal, FindRefusal};
 use station_desk::{Answer, Outcome};
@@ -99,7 +99,7 @@ pub enum Response {
         next: u64,
     },
     /// Why there is no copy.
-    NoCopy(CopyRefusal),
+    NoCopy(CounterCopyRefusal),
     /// How the office stands.
     Standing(Standing),
     /// Why that isn't told.

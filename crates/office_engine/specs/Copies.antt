@@ -1,11 +1,11 @@
 -- What a counter is told of a copy that wasn't made.
 use Rattle.archive_engine.specs.declared.copying.FolderCopyRefusal.{FolderCopyRefusal}
 use Rattle.archive_engine.specs.declared.copying.FolderCopyRefusal.TheVariants as fault
-use Rattle.live_office.specs.declared.recess.CopyRefusal.{CopyRefusal}
-use Rattle.live_office.specs.declared.recess.CopyRefusal.TheVariants.{Memory, Device, Occupied, Unwritten}
+use Rattle.live_office.specs.declared.recess.CounterCopyRefusal.{CounterCopyRefusal}
+use Rattle.live_office.specs.declared.recess.CounterCopyRefusal.TheVariants.{Memory, Device, Occupied, Unwritten}
 
 -- that there is no memory, that the ledger isn't read, that something is there already, and that the file isn't written
-abbrev pub told_as : FolderCopyRefusal → CopyRefusal
+abbrev pub told_as : FolderCopyRefusal → CounterCopyRefusal
 told_as fault.Memory = Memory
 told_as (fault.Ledger refusal) = Device
 told_as fault.Occupied = Occupied

@@ -13,7 +13,7 @@ use archive_engine::{
     open_copies,
 };
 use file_device::FileNumber;
-use live_office::{CopyRefusal, Keeper, Kept, Seen};
+use live_office::{CounterCopyRefusal, Keeper, Kept, Seen};
 use office_counters::RosterPath;
 use sector_device::Device;
 use std::alloc::{Alloc, Global};
@@ -150,9 +150,9 @@ impl<D: Device, R: Files<File = File> + Alloc<A = Global> + Clone + Drop> Keeper
         }
     }
 
-    fn copy(&mut self, device: D) -> (D, Result<u64, CopyRefusal>) {
+    fn copy(&mut self, device: D) -> (D, Result<u64, CounterCopyRefusal>) {
         let Some(folder) = &self.copies else {
-            return (device, Err(CopyRefusal::NoFolder));
+            return (device, Err(CounterCopyRefusal::NoFolder));
         };
         let (device, copied) = copy_to_folder(self.rt, self.alloc, device, folder, self.place);
         match copied {
@@ -188,14 +188,14 @@ fn open_archive<'a, R: Files<File = File> + Alloc<A = Global> + Clone + Drop>(
 }
 
 // Why there is no copy.
-fn told_as(refusal: FolderCopyRefusal) -> CopyRefusal
+fn told_as(refusal: FolderCopyRefusal) -> CounterCopyRefusal
     ensures { result ≡ told_as refusal }
 {
     match refusal {
-        FolderCopyRefusal::Memory => CopyRefusal::Memory,
-        FolderCopyRefusal::Ledger(_) => CopyRefusal::Device,
-        FolderCopyRefusal::Occupied => CopyRefusal::Occupied,
-        FolderCopyRefusal::Unwritten => CopyRefusal::Unwritten,
+        FolderCopyRefusal::Memory => CounterCopyRefusal::Memory,
+        FolderCopyRefusal::Ledger(_) => CounterCopyRefusal::Device,
+        FolderCopyRefusal::Occupied => CounterCopyRefusal::Occupied,
+        FolderCopyRefusal::Unwritten => CounterCopyRefusal::Unwritten,
     }
 }
 

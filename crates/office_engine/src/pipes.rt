@@ -2,16 +2,12 @@
 ghost use Rattle.std.specs.Prelude.{◌<ℤ◌, pos, IfOk};
 ghost use Rattle.std.specs.Fd.{file_raw_fd};
 
-use file_device::FileNumber;
+use file_device::{FileNumber, clear_of_streams};
 use std::alloc::Global;
 use std::fs::{File, Files, OpenFile, OpenOptions, TryLockError};
 use std::io;
 use std::io::ErrorKind;
-use std::os::fd::{AsRawFd, RawFd};
 use std::os::unix::fs::FileTypeExt;
-
-/// The number of standard error. Those of standard input and output are lower.
-const LAST_STREAM: RawFd = 2;
 
 /// Which of a counter's pipes it is.
 #[derive(Clone, Copy, Debug, PartialEq, Eq)]
@@ -71,7 +67,7 @@ pub fn open_pipe<R: Files<File = File>>(
     let (file, number) = find_pipe(rt, alloc, folder, side)?;
     note_pipe(number, opened)?;
     match file.try_lock() {
-        Ok(()) => clear_of_streams(file),
+        Ok(()) => clear_of_streams(file).or(Err(PipeRefusal::Unopened)),
         Err(TryLockError::WouldBlock) => Err(PipeRefusal::InUse),
         Err(TryLockError::Error(_)) => Err(PipeRefusal::Unlocked),
     }
@@ -131,18 +127,4 @@ fn note_pipe(number: FileNumber, opened: &mut Vec<FileNumber>) -> Result<(), Pip
         return Err(PipeRefusal::Taken);
     }
     opened.push(number).or(Err(PipeRefusal::Memory))
-}
-
-// Moves the file off the numbers of the standard streams: where one of these is closed, what is printed to it would
-// land in the pipe.
-fn clear_of_streams(file: File) -> Result<File, PipeRefusal>
-    ensures clear { IfOk result (λ moved. pos 2 <ℤ file_raw_fd moved) }
-{
-    if file.as_raw_fd() > LAST_STREAM {
-        return Ok(file);
-    }
-    match file.try_clone() {
-        Ok(moved) if moved.as_raw_fd() > LAST_STREAM => Ok(moved),
-        _ => Err(PipeRefusal::Unopened),
-    }
 }

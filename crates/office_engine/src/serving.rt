@@ -47,7 +47,7 @@ pub struct Serving<'a> {
 
 /// Why words that are well read don't go together.
 #[derive(Clone, Copy, Debug, PartialEq, Eq, Error)]
-pub enum WrongWords {
+pub enum ServingConflict {
     /// Nobody could say anything.
     #[error("an office needs a --counter or --terminal")]
     NoCounter,
@@ -75,8 +75,8 @@ impl Serving<'_> {
     /// What is worked out of it.
     ///
     /// # Errors
-    /// [`WrongWords`], the first that holds.
-    pub fn plan(&self) -> Result<Plan, WrongWords>
+    /// [`ServingConflict`], the first that holds.
+    pub fn plan(&self) -> Result<Plan, ServingConflict>
         ensures some { IfOk result (λ plan. 2 ≤ plan.stations) }
         ensures enough { IfOk result (λ plan. counters_of self.now ≤ plan.stations) }
         ensures stations { IfOk result (λ plan. plan.stations ≡ stations_of self.now) }
@@ -86,9 +86,9 @@ impl Serving<'_> {
             IfSome plan.formatting (λ f. f.sectors ≡ unwrap_or self.now.sectors 0)) }
         ensures overwrite { IfOk result (λ plan.
             IfSome plan.formatting (λ f. f.overwrite ≡ self.now.overwrite)) }
-        ensures nobody { (result ≡ Err WrongWords.NoCounter) ↔ (counters_of self.now ≡ 0) }
-        ensures too_many { (result ≡ Err WrongWords.TooManyCounters) ↔ (64 < counters_of self.now) }
-        ensures too_few { (result ≡ Err WrongWords.TooFewStations)
+        ensures nobody { (result ≡ Err ServingConflict.NoCounter) ↔ (counters_of self.now ≡ 0) }
+        ensures too_many { (result ≡ Err ServingConflict.TooManyCounters) ↔ (64 < counters_of self.now) }
+        ensures too_few { (result ≡ Err ServingConflict.TooFewStations)
             ↔ ((1 ≤ counters_of self.now) × (counters_of self.now ≤ 64)
             × (stations_of self.now < fewest_of self.now)) }
     {
@@ -99,50 +99,50 @@ impl Serving<'_> {
     }
 
     // How many stations the office has: as many as are asked for, and else one for each counter, but two at least.
-    fn stations_wanted(&self) -> Result<u64, WrongWords>
+    fn stations_wanted(&self) -> Result<u64, ServingConflict>
         ensures some { IfOk result (λ stations. 2 ≤ stations) }
         ensures enough { IfOk result (λ stations. length self.now.counters.items ≤ stations) }
         ensures terminal { IfOk result (λ stations. IsTrue self.now.terminal
             → length self.now.counters.items + 1 ≤ stations) }
         ensures as_asked { IfOk result (λ stations. stations ≡ stations_of self.now) }
-        ensures nobody { (result ≡ Err WrongWords.NoCounter) ↔ (counters_of self.now ≡ 0) }
-        ensures too_many { (result ≡ Err WrongWords.TooManyCounters) ↔ (64 < counters_of self.now) }
-        ensures too_few { (result ≡ Err WrongWords.TooFewStations)
+        ensures nobody { (result ≡ Err ServingConflict.NoCounter) ↔ (counters_of self.now ≡ 0) }
+        ensures too_many { (result ≡ Err ServingConflict.TooManyCounters) ↔ (64 < counters_of self.now) }
+        ensures too_few { (result ≡ Err ServingConflict.TooFewStations)
             ↔ ((1 ≤ counters_of self.now) × (counters_of self.now ≤ 64)
             × (stations_of self.now < fewest_of self.now)) }
-        ensures not_format { result ≢ Err WrongWords.NoFormat }
+        ensures not_format { result ≢ Err ServingConflict.NoFormat }
     {
         let terminals = if self.terminal { 1 } else { 0 };
         let folders = self.counters.len() as u64;
         if folders == 0 && !self.terminal {
-            return Err(WrongWords::NoCounter);
+            return Err(ServingConflict::NoCounter);
         }
         if folders > MOST_STATIONS - terminals {
-            return Err(WrongWords::TooManyCounters);
+            return Err(ServingConflict::TooManyCounters);
         }
         let fewest = (folders + terminals).max(FEWEST_STATIONS);
         match self.stations {
-            Some(stations) if stations < fewest => Err(WrongWords::TooFewStations),
+            Some(stations) if stations < fewest => Err(ServingConflict::TooFewStations),
             Some(stations) => Ok(stations),
             None => Ok(fewest),
         }
     }
 
     // How the ledger is to be made, if that is asked for.
-    fn formatting(&self) -> Result<Option<Formatting>, WrongWords>
+    fn formatting(&self) -> Result<Option<Formatting>, ServingConflict>
         ensures slots { IfOk result (λ formatting.
             option_map (λ f. f.slots) formatting ≡ self.now.format) }
         ensures sectors { IfOk result (λ formatting.
             IfSome formatting (λ f. f.sectors ≡ unwrap_or self.now.sectors 0)) }
         ensures overwrite { IfOk result (λ formatting.
             IfSome formatting (λ f. f.overwrite ≡ self.now.overwrite)) }
-        ensures refused { (result ≡ Err WrongWords.NoFormat)
+        ensures refused { (result ≡ Err ServingConflict.NoFormat)
             ↔ ((self.now.format ≡ None) × IsTrue self.now.overwrite) }
-        ensures only { IfErr result (λ wrong. wrong ≡ WrongWords.NoFormat) }
+        ensures only { IfErr result (λ wrong. wrong ≡ ServingConflict.NoFormat) }
     {
         let Some(slots) = self.format else {
             return if self.overwrite {
-                Err(WrongWords::NoFormat)
+                Err(ServingConflict::NoFormat)
             } else {
                 Ok(None)
             };

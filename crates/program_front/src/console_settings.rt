@@ -21,7 +21,7 @@ pub struct Options<'a> {
 
 /// Why words that are well read don't go together. The first that holds is answered.
 #[derive(Clone, Copy, Debug, PartialEq, Eq, Error)]
-pub enum WrongWords {
+pub enum OptionConflict {
     /// There is nothing to copy onto, or nothing says how many slots it gets.
     #[error("--migrate needs --device and --slots")]
     MigrateAlone,
@@ -73,34 +73,34 @@ impl<'a> Options<'a> {
     /// On what the script runs, if the options go together.
     ///
     /// # Errors
-    /// [`WrongWords`], the first that holds.
-    pub fn plan(self) -> Result<Plan<'a>, WrongWords>
+    /// [`OptionConflict`], the first that holds.
+    pub fn plan(self) -> Result<Plan<'a>, OptionConflict>
         ensures plan { IfOk result (IsPlanOf self.entry) }
-        ensures migrate_alone { (result ≡ Err WrongWords.MigrateAlone)
+        ensures migrate_alone { (result ≡ Err OptionConflict.MigrateAlone)
             ↔ (IsSome self.entry.migrate
             × ((self.entry.device ≡ None) ⊎ (self.entry.slots ≡ None))) }
-        ensures slots_alone { (result ≡ Err WrongWords.SlotsAlone)
+        ensures slots_alone { (result ≡ Err OptionConflict.SlotsAlone)
             ↔ ((self.entry.migrate ≡ None) × IsSome self.entry.slots) }
-        ensures one_path { (result ≡ Err WrongWords.OnePath)
+        ensures one_path { (result ≡ Err OptionConflict.OnePath)
             ↔ (NamesOnePath self.entry × IsSome self.entry.slots) }
-        ensures overwrite_alone { (result ≡ Err WrongWords.OverwriteAlone)
+        ensures overwrite_alone { (result ≡ Err OptionConflict.OverwriteAlone)
             ↔ (IsTrue self.entry.overwrite × (self.entry.device ≡ None)
             × (self.entry.migrate ≡ None) × (self.entry.slots ≡ None)) }
     {
         let upgrade = match (self.migrate, self.device, self.slots) {
-            (None, None, None) if self.overwrite => return Err(WrongWords::OverwriteAlone),
+            (None, None, None) if self.overwrite => return Err(OptionConflict::OverwriteAlone),
             (None, None, None) => return Ok(Plan::Memory(self.sectors)),
             (None, Some(path), None) => return Ok(Plan::File(self.target(path))),
-            (None, _, Some(_)) => return Err(WrongWords::SlotsAlone),
+            (None, _, Some(_)) => return Err(OptionConflict::SlotsAlone),
             (Some(old), Some(path), Some(slots)) => Upgrade {
                 old,
                 onto: self.target(path),
                 slots,
             },
-            (Some(_), _, _) => return Err(WrongWords::MigrateAlone),
+            (Some(_), _, _) => return Err(OptionConflict::MigrateAlone),
         };
         if upgrade.old == upgrade.onto.path {
-            return Err(WrongWords::OnePath);
+            return Err(OptionConflict::OnePath);
         }
         Ok(Plan::Upgraded(upgrade))
     }
