@@ -91,7 +91,7 @@ def require_told(failing, making, run, of):
     """That it tells in one line that it failed, with the path, prints nothing, and ends with status 3."""
     target = target_of(failing, making)
     is_told = run.told.startswith((f"{target}/", f"{target}: ")) and "\n" not in run.told
-    is_told = is_told or run.told in ("migrate refused Target", "out of memory")
+    is_told = is_told or run.told == "out of memory"
     require((run.status, run.printed, is_told) == (3, "", True), f"{of}: {run}")
 
 

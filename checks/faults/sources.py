@@ -19,7 +19,7 @@ def try_reading(failing, making, source):
         of = f"{making}, {this}"
         made, now = split(failing, making)
         require_same(now == others, True, f"all else behind {of}")
-        is_told = run.told.startswith(str(path)) or run.told == "migrate refused Source Device"
+        is_told = run.told.startswith(str(path))
         require((run.status, run.printed, is_told, "\n" in run.told) == (3, "", True, False), f"{of}: {run}")
         # an archive gets the counters behind its batches
         if making is not ARCHIVE or ".counters: " not in run.told:

@@ -7,6 +7,8 @@ from holdings import FOREIGN, LEDGER
 from parts import make
 from programs import Said, kept, require_same
 
+MIGRATES = "derbyfig migrate copies one of version 1 or 2 to a new file"
+
 
 def word(number, length):
     return number.to_bytes(length, "big")
@@ -79,7 +81,7 @@ def that_are_no_ledgers(programs, _moments):
     present = kept(make(programs, "present", 4, 30))
     for held, status, sentence in (
         (None, 3, "there is no such file"),
-        (first_layout(), 1, "it holds a ledger of version 1; derbyfig migrate copies one of version 1 or 2 to a new file"),
+        (first_layout(), 1, f"it holds a ledger of version 1; {MIGRATES}"),
         (present[:512 * 50], 1, "its number of slots is out of range, or it is too short for them"),
         (closed(present, 4), 1, "damage at 0: a bank isn't sound, or none is live"),
         (b"2026-11-26 opening balance\n".ljust(512), 1, "it holds no ledger"),
@@ -115,14 +117,14 @@ def that_are_refused(programs, moments):
     require_refused(programs, missing, new, 3, f"{missing}: there is no such file")
     require_same(kept(missing), None, "an older file that isn't there")
     present = make(programs, "present", 4, 30)
-    require_refused(programs, present, new, 1, "migrate refused Source Version 3")
+    require_refused(programs, present, new, 1, f"{present}: it holds a ledger of version 3; {MIGRATES}")
     damaged = programs.folder / "damaged"
     older = first_layout()
     damaged.write_bytes(older[:512 + 32] + b"\4" + older[512 + 33:])
-    require_refused(programs, damaged, new, 1, "migrate refused Source Damaged 0 Entry 0")
+    require_refused(programs, damaged, new, 1, f"{damaged}: damage at 0: place 0 of a record is no entry")
     text = programs.folder / "text"
     text.write_bytes(b"2026-11-26 opening balance\n".ljust(512))
-    require_refused(programs, text, new, 1, "migrate refused Source Unformatted")
+    require_refused(programs, text, new, 1, f"{text}: it holds no ledger")
     old = programs.folder / "old"
     old.write_bytes(older)
     for held, sentence in ((moments.randbytes(1024), FOREIGN), (kept(present), LEDGER)):
@@ -130,7 +132,7 @@ def that_are_refused(programs, moments):
         require_refused(programs, old, new, 1, f"{new}: {sentence}")
     # blank, and damaged: a file that was there stays
     new.write_bytes(bytes(512 * 55))
-    require_refused(programs, damaged, new, 1, "migrate refused Source Damaged 0 Entry 0")
+    require_refused(programs, damaged, new, 1, f"{damaged}: damage at 0: place 0 of a record is no entry")
 
 
 def require_refused(programs, old, new, status, told):

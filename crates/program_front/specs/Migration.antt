@@ -2,7 +2,7 @@
 use Rattle.journal_recovery.specs.declared.migration.MigrateRefusal.{MigrateRefusal}
 use Rattle.journal_recovery.specs.declared.migration.MigrateRefusal.TheVariants as migrate
 use Rattle.journal_recovery.specs.declared.refusals.OpenRefusal.TheVariants as source
-use Rattle.program_front.specs.declared.faults.MigrationFault.TheVariants.{Refused}
+use Rattle.program_front.specs.declared.console_faults.MigrationFault.TheVariants.{Refused}
 use Rattle.console_engine.specs.declared.faults.ScriptFault.TheVariants as script
 use Rattle.program_front.specs.declared.console_faults.ProgramFault.{ProgramFault}
 use Rattle.program_front.specs.declared.console_faults.ProgramFault.TheVariants as program

@@ -2,10 +2,10 @@
 ghost use Rattle.std.specs.Prelude.{◌≡◌};
 ghost use Rattle.program_front.specs.Faults.{of_device};
 
-use crate::faults::MigrationFault;
 use console_engine::ScriptFault;
 use file_device::{DeviceRefusal, DiskFault, FileRefusal};
-use journal_recovery::{MigrateRefusal, OpenRefusal};
+use journal_recovery::{MigrateRefusal, OpenName, OpenRefusal};
+use std::fmt;
 use thiserror::Error;
 
 /// A disk that was refused, and why.
@@ -15,6 +15,29 @@ pub struct RefusedDisk<'a> {
     /// Where it was looked for.
     pub path: &'a str,
     pub fault: DiskFault,
+}
+
+/// Why a ledger wasn't copied to another device.
+#[derive(Clone, Copy, Debug, PartialEq, Eq)]
+pub enum MigrationFault {
+    /// The device may hold postings, which would be lost.
+    NotEmpty,
+    /// The older device couldn't be read, or the device not written.
+    Refused(MigrateRefusal),
+}
+
+/// The name of the refusal, with that of the older device's behind it and its numbers.
+impl fmt::Display for MigrationFault {
+    fn fmt<W: fmt::Write>(&self, f: &mut fmt::Formatter<W>) -> fmt::Result {
+        write!(f, "migrate refused ")?;
+        match self {
+            MigrationFault::NotEmpty => write!(f, "{self:?}"),
+            MigrationFault::Refused(MigrateRefusal::Source(refusal)) => {
+                write!(f, "Source {}", OpenName(*refusal))
+            }
+            MigrationFault::Refused(refusal) => write!(f, "{refusal:?}"),
+        }
+    }
 }
 
 /// Why the program ended before its script did.

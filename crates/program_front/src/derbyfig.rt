@@ -163,6 +163,13 @@ fn serve_counters<
     }
 }
 
+// The layout of a ledger that is copied.
+#[derive(Clone, Copy)]
+enum Layout {
+    Present,
+    Older,
+}
+
 // What the commands work with that say what was done.
 #[derive(Drop)]
 struct Doing<'r, R, W> {
@@ -193,36 +200,27 @@ impl<R: Files<File = File> + Alloc<A = Global> + Clock + Clone + Drop, W: Write>
         self.say(format_args!("formatted {}", formatting.slots))
     }
 
-    // Copies an older ledger.
+    // Copies a ledger of an older layout.
     fn migrate_file<'a>(&mut self, copying: Copying<'a>) -> Result<(), Fault<'a>> {
         let older = self.opened_first(copying.old)?;
-        self.migrate(older, copying)?;
+        self.copy(
+            older,
+            Layout::Older,
+            RosterPath::Beside(copying.old),
+            copying,
+        )?;
         self.say(format_args!("migrated {}", copying.formatting.slots))
-    }
-
-    fn migrate<'a>(&self, older: ReadOnlyFile, copying: Copying<'a>) -> Result<(), Fault<'a>> {
-        let Copying {
-            old,
-            path,
-            formatting,
-        } = copying;
-        let (older, opened) = open_for_migration(self.rt, self.alloc, older, path, formatting);
-        let place = opened.map_err(|refusal| Fault::of_migration(path, refusal))?;
-        let place = self.counters_first(place, RosterPath::Beside(old), path)?;
-        let is_made = place.made.is_some();
-        match place.migrate(self.rt, self.alloc, older) {
-            (_, Ok(_)) => Ok(()),
-            (_, Err(refusal)) => {
-                self.forget_counters(is_made, path);
-                Err(Fault::of_migration(path, CopyRefusal::Copy(refusal)))
-            }
-        }
     }
 
     // Copies a ledger of the present layout.
     fn copy_file<'a>(&mut self, copying: Copying<'a>) -> Result<(), Fault<'a>> {
         let ledger = self.opened_first(copying.old)?;
-        self.copy(ledger, RosterPath::Beside(copying.old), copying)?;
+        self.copy(
+            ledger,
+            Layout::Present,
+            RosterPath::Beside(copying.old),
+            copying,
+        )?;
         self.say(format_args!("copied {}", copying.formatting.slots))
     }
 
@@ -244,14 +242,20 @@ impl<R: Files<File = File> + Alloc<A = Global> + Clock + Clone + Drop, W: Write>
     fn restore<'a>(&mut self, copying: Copying<'a>) -> Result<(), Fault<'a>> {
         let newest = open_newest(self.rt, self.alloc, copying.old)?;
         check_archive(self.rt, self.alloc, copying.old)?;
-        self.copy(newest, RosterPath::Inside(copying.old), copying)?;
+        self.copy(
+            newest,
+            Layout::Present,
+            RosterPath::Inside(copying.old),
+            copying,
+        )?;
         self.say(format_args!("restored {}", copying.formatting.slots))
     }
 
-    // Copies a ledger whose counters are kept there.
+    // Copies a ledger of that layout, whose counters are kept there.
     fn copy<'a>(
         &self,
         ledger: ReadOnlyFile,
+        layout: Layout,
         counters: RosterPath<'a>,
         copying: Copying<'a>,
     ) -> Result<(), Fault<'a>> {
@@ -260,13 +264,20 @@ impl<R: Files<File = File> + Alloc<A = Global> + Clock + Clone + Drop, W: Write>
             path,
             formatting,
         } = copying;
-        let (ledger, opened) = open_for_copy(self.rt, self.alloc, ledger, path, formatting);
+        let (ledger, opened) = match layout {
+            Layout::Present => open_for_copy(self.rt, self.alloc, ledger, path, formatting),
+            Layout::Older => open_for_migration(self.rt, self.alloc, ledger, path, formatting),
+        };
         let place = opened.map_err(|refusal| Fault::of_copy(old, path, refusal))?;
         let place = self.counters_first(place, counters, path)?;
         let is_made = place.made.is_some();
-        match place.copy(self.rt, self.alloc, ledger) {
-            (_, Ok(_)) => Ok(()),
-            (_, Err(refusal)) => {
+        let (_, made) = match layout {
+            Layout::Present => place.copy(self.rt, self.alloc, ledger),
+            Layout::Older => place.migrate(self.rt, self.alloc, ledger),
+        };
+        match made {
+            Ok(_) => Ok(()),
+            Err(refusal) => {
                 self.forget_counters(is_made, path);
                 Err(Fault::of_copy(old, path, CopyRefusal::Copy(refusal)))
             }

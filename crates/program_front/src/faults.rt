@@ -6,37 +6,13 @@ ghost use Rattle.program_front.specs.Statuses.{status_of, of_copy};
 use archive_engine::ArchiveFault;
 use console_engine::ScriptFault;
 use file_device::FileFault;
-use journal_recovery::{MigrateRefusal, OpenName, OpenRefusal};
+use journal_recovery::{MigrateRefusal, OpenRefusal};
 use ledger_file::{CopyRefusal, FormatRefusal, LedgerRefusal, PartFault};
 use ledger_inspection::BookFault;
 use office_counters::CountersFault;
 use office_engine::{ControlFault, OfficeFault};
 use program_ends::Status;
-use std::fmt;
 use thiserror::Error;
-
-/// Why a ledger wasn't copied to another device.
-#[derive(Clone, Copy, Debug, PartialEq, Eq)]
-pub enum MigrationFault {
-    /// The device may hold postings, which would be lost.
-    NotEmpty,
-    /// The older device couldn't be read, or the device not written.
-    Refused(MigrateRefusal),
-}
-
-/// The name of the refusal, with that of the older device's behind it and its numbers.
-impl fmt::Display for MigrationFault {
-    fn fmt<W: fmt::Write>(&self, f: &mut fmt::Formatter<W>) -> fmt::Result {
-        write!(f, "migrate refused ")?;
-        match self {
-            MigrationFault::NotEmpty => write!(f, "{self:?}"),
-            MigrationFault::Refused(MigrateRefusal::Source(refusal)) => {
-                write!(f, "Source {}", OpenName(*refusal))
-            }
-            MigrationFault::Refused(refusal) => write!(f, "{refusal:?}"),
-        }
-    }
-}
 
 /// Why a command of `derbyfig` ended before it was done.
 #[derive(Clone, Copy, Debug, Error)]
@@ -62,9 +38,6 @@ pub enum Fault<'a> {
         path: &'a str,
         refusal: OpenRefusal,
     },
-    /// An older ledger wasn't copied.
-    #[error("{0}")]
-    Migration(MigrationFault),
     /// An office wasn't kept open, or ended early.
     #[error("{0}")]
     Office(#[from] OfficeFault<'a>),
@@ -93,8 +66,6 @@ impl<'a> Fault<'a> {
         match self {
             Fault::Script(fault) => fault.status(),
             Fault::Ledger { refusal, .. } => Status::from(refusal),
-            Fault::Migration(MigrationFault::Refused(refusal)) => Status::from(refusal),
-            Fault::Migration(MigrationFault::NotEmpty) => Status::Refused,
             Fault::Office(fault) => fault.status(),
             Fault::Control(fault) => fault.status(),
             Fault::Archive(fault) => fault.status(),
@@ -125,18 +96,7 @@ impl<'a> Fault<'a> {
         }
     }
 
-    // Of an older ledger that wasn't copied to a path.
-    pub(crate) fn of_migration(path: &'a str, refusal: CopyRefusal) -> Fault<'a>
-        ensures { status_of result ≡ of_copy refusal }
-    {
-        match refusal {
-            CopyRefusal::Target(refusal) => Fault::of_ledger(path, refusal),
-            CopyRefusal::Copy(MigrateRefusal::Source(OpenRefusal::Memory)) => Fault::MEMORY,
-            CopyRefusal::Copy(refusal) => Fault::Migration(MigrationFault::Refused(refusal)),
-        }
-    }
-
-    // Of a ledger that wasn't copied from one path to another.
+    // Of a ledger, of the present layout or an older one, that wasn't copied from one path to another.
     pub(crate) fn of_copy(old: &'a str, path: &'a str, refusal: CopyRefusal) -> Fault<'a>
         ensures { status_of result ≡ of_copy refusal }
     {
@@ -152,7 +112,7 @@ impl<'a> Fault<'a> {
         Fault::of_ledger(path, LedgerRefusal::Format(refusal))
     }
 
-    // Of a path where there is no sound ledger of the present layout.
+    // Of a path where there is no sound ledger of the layout that is copied.
     fn of_opening(path: &'a str, refusal: OpenRefusal) -> Fault<'a>
         ensures { status_of result ≡ of_opening refusal }
     {

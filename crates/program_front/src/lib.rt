@@ -24,12 +24,12 @@ mod words;
 pub use archive_engine::{ArchiveFault, Archived, Archiving};
 pub use commands::VERSION;
 pub use console_engine::{LineFault, ScriptFault};
-pub use console_faults::{ProgramFault, RefusedDisk};
+pub use console_faults::{MigrationFault, ProgramFault, RefusedDisk};
 pub use console_program::run_program;
-pub use console_settings::{Options, Plan, Target, Upgrade, WrongWords};
+pub use console_settings::{OptionConflict, Options, Plan, Target, Upgrade};
 pub use console_words::options;
 pub use derbyfig::{run_derbyfig, run_on_device};
-pub use faults::{Fault, MigrationFault};
+pub use faults::Fault;
 pub use host::{run_console, run_derbyfig_words, words_given};
 pub use ledger_file::{DeviceRefusal, DiskFault, FileFault, Formatting, LedgerRefusal};
 pub use ledger_inspection::{

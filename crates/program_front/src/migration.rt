@@ -5,8 +5,7 @@ ghost use Rattle.journal_recovery.specs.Migration.{IsMigrated};
 ghost use Rattle.journal_recovery.specs.Older.{OldRecoveryRefuses};
 ghost use Rattle.journal_recovery.specs.Postings.{MayHoldPostings};
 
-use crate::console_faults::ProgramFault;
-use crate::faults::MigrationFault;
+use crate::console_faults::{MigrationFault, ProgramFault};
 use journal_recovery::{MigrateRefusal, OpenRefusal, may_hold_postings, migrate};
 use sector_device::Device;
 use std::alloc::Global;
