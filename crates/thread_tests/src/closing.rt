@@ -2,7 +2,7 @@
 ghost use Rattle.sector_device.specs.MemoryDevice.{memory_device_state};
 ghost use Rattle.line_lock.specs.OpenedOn.{Names};
 
-use line_lock::{Blank, CloseRefusal, Closing, Count, Line, Office, OpenedOn, Seat, TurnRefusal};
+use line_lock::{Blank, CloseRefusal, Closing, Count, Line, Office, OpenedOn, Seat};
 use sector_device::MemoryDevice;
 use std::alloc::Global;
 use std::marker::Brand;
@@ -30,48 +30,69 @@ fn act_in<L: Count + OpenedOn, R: Abort + Wait>(
     requires { Names L.name L.parts L.device L.line blank (memory_device_state device) line }
 {
     match Office::<MemoryDevice, L>::open(alloc, device, line, blank) {
-        Ok((office, seats)) if closes => close_twice(rt, office, seats),
-        // it is the bottom station's turn
-        Ok((office, _)) => {
-            assert!(rt; office.into_clerk().history().is_empty());
+        Ok((office, seats)) => {
+            if closes {
+                return close_twice(rt, office, seats);
+            }
+            // it is the bottom station's turn
+            assert!(rt; turns_of_unclosed(office) == 0);
             Ok(())
         }
         Err((_, refusal)) => Err(Fail::from(refusal)),
     }
 }
 
-// Turns 0 and 1 of an office: how many each seat lists then.
-fn one_turn_each<L: Count + OpenedOn, R: Wait>(
-    rt: &R,
-    office: &Office<MemoryDevice, L>,
-    bottom: &mut Seat<L>,
-    top: &mut Seat<L>,
-) -> Result<(u64, u64), TurnRefusal> {
-    let first = office.turn(rt, bottom, &[deposit(1, 7)])?;
-    let second = office.turn(rt, top, &[])?;
-    Ok((first.index, second.index))
+fn turns_of_unclosed<L: Count + OpenedOn>(office: Office<MemoryDevice, L>) -> usize {
+    office.into_clerk().history().len()
 }
 
-// Closes the office without the top station's seat, which is refused; then each station takes a turn, and the office is
-// closed with both seats.
+// How many turns the clerk of an office lists that is closed, if it is.
+fn turns_of_closed<L: Count + OpenedOn>(
+    office: Office<MemoryDevice, L>,
+    seats: Vec<Seat<L>>,
+) -> Option<usize> {
+    match office.close(seats) {
+        Ok(Closing { clerk, .. }) => Some(clerk.history().len()),
+        Err(_) => None,
+    }
+}
+
+// Whether turns 0 and 1 of an office were taken.
+fn are_taken<L: Count + OpenedOn, R: Wait>(
+    rt: &R,
+    office: &Office<MemoryDevice, L>,
+    seats: &mut [Seat<L>],
+    top: &mut Seat<L>,
+) -> bool {
+    let [bottom] = seats else {
+        return false;
+    };
+    office.turn(rt, bottom, &[deposit(1, 7)]).is_ok() && office.turn(rt, top, &[]).is_ok()
+}
+
+// Closes the office without the top station's seat, which is refused.
 fn close_twice<L: Count + OpenedOn, R: Abort + Wait>(
     rt: &R,
     office: Office<MemoryDevice, L>,
     mut seats: Vec<Seat<L>>,
 ) -> Result<(), Fail> {
-    let mut top = seats.pop().ok_or("the seat of station 1")?;
-    let Err((office, mut seats, CloseRefusal::SeatMissing)) = office.close(seats) else {
-        panic!(rt; "closed");
-    };
-    let [bottom] = seats.as_mut_slice() else {
-        panic!(rt; "the seat of station 0");
-    };
-    assert!(rt; one_turn_each(rt, &office, bottom, &mut top)? == (0, 1));
-    seats.push(top)?;
+    let top = seats.pop().ok_or("the seat of station 1")?;
     match office.close(seats) {
-        Ok(Closing { clerk, .. }) => assert!(rt; clerk.history().len() == 2),
-        Err((_, _, refusal)) => panic!(rt; "{refusal}"),
+        Err((office, seats, CloseRefusal::SeatMissing)) => go_on(rt, office, seats, top),
+        _ => panic!(rt; "closed"),
     }
+}
+
+// Each station takes a turn after that refusal, and the office is closed with both seats.
+fn go_on<L: Count + OpenedOn, R: Abort + Wait>(
+    rt: &R,
+    office: Office<MemoryDevice, L>,
+    mut seats: Vec<Seat<L>>,
+    mut top: Seat<L>,
+) -> Result<(), Fail> {
+    assert!(rt; are_taken(rt, &office, seats.as_mut_slice(), &mut top));
+    seats.push(top)?;
+    assert!(rt; turns_of_closed(office, seats) == Some(2));
     Ok(())
 }
 

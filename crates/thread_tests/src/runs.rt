@@ -34,21 +34,25 @@ pub fn played<D: Device + Send + Drop, G: Gate + Sync, R: Abort + Threads + Wait
     let line = line([0, 0], [1, 0])?;
     assert!(rt; desks.len() == line.stations() as usize);
     match run_office(rt, alloc, device, line, desks, gate, moves, tries) {
-        Ok((closing, left)) => Ok(of_run(&closing, left.as_slice()).ok_or("two stations")?),
+        Ok((closing, left)) => Ok(of_run(&closing, left.as_slice())),
         Err((_, refusal)) => Err(Fail::from(refusal)),
     }
 }
 
-fn of_run<D: Device>(closing: &Closing<D>, left: &[Left]) -> Option<Remains> {
-    let [bottom, top] = left else {
-        return None;
-    };
+fn of_run<D: Device>(closing: &Closing<D>, left: &[Left]) -> Remains {
     let history = closing.clerk.history();
-    Some(Remains {
-        ends: [bottom.end, top.end],
+    Remains {
+        ends: [end_of(left, 0), end_of(left, 1)],
         turns: [turns_of(history, 0), turns_of(history, 1)],
         balance: closing.clerk.ledger().balance(1),
-    })
+    }
+}
+
+fn end_of(left: &[Left], station: usize) -> End {
+    match left.get(station) {
+        Some(station) => station.end,
+        None => End::NotStarted,
+    }
 }
 
 fn turns_of(history: &[Turn], station: u8) -> u64 {
