@@ -1,8 +1,10 @@
 //! The two sides of a desk: a feed at which a client asks, and the desk from which a station answers.
 use crate::clerks::opened;
-use station_desk::{Answer, Entry, EntryRefusal, Feed, Outcome, desk};
+use sector_device::MemoryDevice;
+use station_desk::{Answer, Desk, Entry, EntryRefusal, Feed, Outcome, TurnRefusal, desk};
 use std::test::Fail;
 use test_scenes::{deposit, line, withdrawal};
+use turn_clerk::Clerk;
 
 fn answer(ticket: u64, entry: Entry, outcome: Outcome) -> Answer {
     Answer {
@@ -22,15 +24,24 @@ fn tells_of_three(feed: &mut Feed) -> bool {
         && feed.answer() == None
 }
 
-#[test]
-fn a_turn_answers_what_was_gathered(rt: HostRuntime) -> Result<(), Fail> {
-    let mut clerk = opened(rt.alloc(), line([0, 0], [1, 0])?)?;
-    let (mut feed, mut desk) = desk(rt.alloc(), 4)?;
+// Whether a turn answers three requests.
+fn are_answered(
+    clerk: &mut Clerk<MemoryDevice>,
+    feed: &mut Feed,
+    desk: &mut Desk,
+) -> Result<bool, TurnRefusal> {
     for entry in [deposit(1, 100), withdrawal(1, 500), deposit(1, 20)] {
         let _ = feed.submit(entry);
     }
     let turn = clerk.turn(0, desk.gather())?;
     desk.settle(&turn);
-    assert!(rt; desk.gather().is_empty() && tells_of_three(&mut feed));
+    Ok(desk.gather().is_empty() && tells_of_three(feed))
+}
+
+#[test]
+fn a_turn_answers_what_was_gathered(rt: HostRuntime) -> Result<(), Fail> {
+    let (mut feed, mut desk) = desk(rt.alloc(), 4)?;
+    let mut clerk = opened(rt.alloc(), line([0, 0], [1, 0])?)?;
+    assert!(rt; are_answered(&mut clerk, &mut feed, &mut desk)?);
     Ok(())
 }
