@@ -7,29 +7,23 @@ use sector_device::{Device, MemoryDevice};
 use std::alloc::Global;
 use std::process::Abort;
 use std::test::Fail;
-use test_scenes::{body_of, deposit};
+use test_scenes::deposit;
 
 // The records of the ledger, and how many of them the first archive takes.
 const RECORDS: u64 = 3000;
 
 const FIRST: u64 = 2000;
 
-// A record that brings 1 into account 1.
-fn one() -> Result<Record, Fail> {
-    let mut payload = [0; 480];
-    payload.copy_from_slice(&body_of(0, 0, &[deposit(1, 1)])[32..]);
-    Ok(Record::new(0, 1, payload).ok_or("a record")?)
-}
-
-// A new journal on this device, with no record, from sequence 7 on.
-fn begun(rt: &impl Abort, device: MemoryDevice) -> Filling<MemoryDevice> {
+// A new journal with no record, from sequence 7 on.
+fn begun(alloc: Global) -> Result<Filling<MemoryDevice>, Fail> {
     let empty = Snapshot {
         balances: [0; 1024],
         sealed: [false; 1024],
     };
+    let device = MemoryDevice::new(alloc, sectors_needed(RECORDS))?;
     match Filling::begin(device, RECORDS, 7, &empty) {
-        Ok(filling) => filling,
-        Err((_, refusal)) => panic!(rt; "{refusal}"),
+        Ok(filling) => Ok(filling),
+        Err((_, refusal)) => Err(Fail::from(refusal)),
     }
 }
 
@@ -38,61 +32,83 @@ fn longer(
     rt: &impl Abort,
     filling: Filling<MemoryDevice>,
     added: &Record,
-) -> Filling<MemoryDevice> {
+) -> Result<Filling<MemoryDevice>, Fail> {
     assert!(rt; filling.room() >= 1 && filling.next() < u64::MAX);
     match filling.put(added) {
-        Ok(filling) => filling,
-        Err((_, fault)) => panic!(rt; "{fault}"),
+        Ok(filling) => Ok(filling),
+        Err((_, fault)) => Err(Fail::from(fault)),
     }
 }
 
-// A ledger of as many such records.
+// A ledger of as many records, each of which brings 1 into account 1.
 fn ledger(rt: &impl Abort, alloc: Global) -> Result<MemoryDevice, Fail> {
-    let record = one()?;
-    let mut filling = begun(rt, MemoryDevice::new(alloc, sectors_needed(RECORDS))?);
+    let mut record = Record::zeroed(0, 1);
+    record.set_place(0, &deposit(1, 1).write());
+    let mut filling = begun(alloc)?;
     for _ in 0..RECORDS {
-        filling = longer(rt, filling, &record);
+        filling = longer(rt, filling, &record)?;
     }
     match filling.finish() {
         Ok(device) => Ok(device),
-        Err((_, fault)) => panic!(rt; "{fault}"),
+        Err((_, fault)) => Err(Fail::from(fault)),
     }
 }
 
-fn sound<D: Device + Drop>(rt: &impl Abort, alloc: Global, device: D) -> Sound<D> {
+fn sound(alloc: Global, device: MemoryDevice) -> Result<Sound<MemoryDevice>, Fail> {
     match look(alloc, device) {
-        Ok(sound) => sound,
-        Err((_, refusal)) => panic!(rt; "{refusal}"),
+        Ok(sound) => Ok(sound),
+        Err((_, refusal)) => Err(Fail::from(refusal)),
     }
 }
 
-// The journal with the next records, that many.
+// The listing of such a ledger.
+fn listed(rt: &impl Abort, alloc: Global) -> Result<Listing<MemoryDevice>, Fail> {
+    Ok(listing_of(sound(alloc, ledger(rt, alloc)?)?)?)
+}
+
+// A device with the next records, that many.
 fn added<D: Device>(
     rt: &impl Abort,
     alloc: Global,
     listing: &mut Listing<D>,
     count: u64,
-) -> Result<Sound<MemoryDevice>, Fail> {
+) -> Result<MemoryDevice, Fail> {
     assert!(rt; count >= 1 && count <= RECORDS && count <= listing.left());
-    let device = MemoryDevice::new(alloc, sectors_needed(count))?;
-    match add(listing, device, count) {
-        Ok(device) => Ok(sound(rt, alloc, device)),
-        Err((_, refusal)) => panic!(rt; "{refusal}"),
+    match add(
+        listing,
+        MemoryDevice::new(alloc, sectors_needed(count))?,
+        count,
+    ) {
+        Ok(device) => Ok(device),
+        Err((_, refusal)) => Err(Fail::from(refusal)),
     }
+}
+
+// The first archive of the ledger, and the one that goes on where it ends.
+fn first_archive(rt: &impl Abort, alloc: Global) -> Result<Sound<MemoryDevice>, Fail> {
+    sound(alloc, added(rt, alloc, &mut listed(rt, alloc)?, FIRST)?)
+}
+
+fn next_archive(
+    rt: &impl Abort,
+    alloc: Global,
+    ended: &Sound<MemoryDevice>,
+) -> Result<Sound<MemoryDevice>, Fail> {
+    let mut listing = listed(rt, alloc)?;
+    follow(&mut listing, ended.journal.numbers().next, &ended.ledger)?;
+    let left = listing.left();
+    sound(alloc, added(rt, alloc, &mut listing, left)?)
+}
+
+// Whether its records begin with this number, and account 1 holds so much behind them.
+fn holds(sound: &Sound<MemoryDevice>, base: u64, amount: u64) -> bool {
+    sound.journal.numbers().base == base && sound.ledger.balance(1) == Some(amount)
 }
 
 #[test]
 fn an_archive_goes_on_where_it_ended(rt: HostRuntime) -> Result<(), Fail> {
-    let alloc = rt.alloc();
-    let mut listing = listing_of(sound(&rt, alloc, ledger(&rt, alloc)?))?;
-    let first = added(&rt, alloc, &mut listing, FIRST)?;
-    assert!(rt; first.ledger.balance(1) == Some(FIRST));
-    let mut later = listing_of(sound(&rt, alloc, ledger(&rt, alloc)?))?;
-    follow(&mut later, first.journal.numbers().next, &first.ledger)?;
-    let left = later.left();
-    let second = added(&rt, alloc, &mut later, left)?;
-    assert!(rt;
-        second.ledger.balance(1) == Some(RECORDS) && second.journal.numbers().base == FIRST + 7
-    );
+    let ended = first_archive(&rt, rt.alloc())?;
+    let next = next_archive(&rt, rt.alloc(), &ended)?;
+    assert!(rt; holds(&ended, 7, FIRST) && holds(&next, FIRST + 7, RECORDS));
     Ok(())
 }

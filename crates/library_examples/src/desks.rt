@@ -1,12 +1,9 @@
 //! The two sides of a desk: a feed at which a client asks, and the desk from which a station answers.
-ghost use Rattle.station_desk.specs.Rings.{StandsAt};
-
+use crate::clerks::opened;
 use sector_device::MemoryDevice;
-use station_desk::{Answer, Entry, EntryRefusal, Feed, Outcome, desk};
-use std::alloc::Global;
-use std::process::Abort;
+use station_desk::{Answer, Desk, Entry, EntryRefusal, Feed, Outcome, TurnRefusal, desk};
 use std::test::Fail;
-use test_scenes::{deposit, formatted, line, withdrawal};
+use test_scenes::{deposit, line, withdrawal};
 use turn_clerk::Clerk;
 
 fn answer(ticket: u64, entry: Entry, outcome: Outcome) -> Answer {
@@ -17,35 +14,34 @@ fn answer(ticket: u64, entry: Entry, outcome: Outcome) -> Answer {
     }
 }
 
-fn two_stations(rt: &impl Abort, alloc: Global) -> Result<Clerk<MemoryDevice>, Fail> {
-    match Clerk::open(alloc, formatted(alloc, 4)?, line([0, 0], [1, 0])?) {
-        Ok(clerk) => Ok(clerk),
-        Err((_, refusal)) => panic!(rt; "{refusal}"),
-    }
-}
-
 // The withdrawal was too much, and the deposits before and behind it were posted.
-fn tells_of_three(rt: &impl Abort, feed: &mut Feed)
-    ensures { StandsAt feed.old feed.new }
-{
+fn tells_of_three(feed: &mut Feed) -> bool {
     let posted = Outcome::Posted(0);
     let refused = Outcome::Refused(EntryRefusal::Short);
-    assert!(rt; feed.answer() == Some(answer(0, deposit(1, 100), posted)));
-    assert!(rt; feed.answer() == Some(answer(1, withdrawal(1, 500), refused)));
-    assert!(rt; feed.answer() == Some(answer(2, deposit(1, 20), posted)));
-    assert!(rt; feed.answer() == None);
+    feed.answer() == Some(answer(0, deposit(1, 100), posted))
+        && feed.answer() == Some(answer(1, withdrawal(1, 500), refused))
+        && feed.answer() == Some(answer(2, deposit(1, 20), posted))
+        && feed.answer() == None
 }
 
-#[test]
-fn a_turn_answers_what_was_gathered(rt: HostRuntime) -> Result<(), Fail> {
-    let mut clerk = two_stations(&rt, rt.alloc())?;
-    let (mut feed, mut desk) = desk(rt.alloc(), 4)?;
+// Whether a turn answers three requests.
+fn are_answered(
+    clerk: &mut Clerk<MemoryDevice>,
+    feed: &mut Feed,
+    desk: &mut Desk,
+) -> Result<bool, TurnRefusal> {
     for entry in [deposit(1, 100), withdrawal(1, 500), deposit(1, 20)] {
         let _ = feed.submit(entry);
     }
     let turn = clerk.turn(0, desk.gather())?;
     desk.settle(&turn);
-    assert!(rt; desk.gather() == [].as_slice());
-    tells_of_three(&rt, &mut feed);
+    Ok(desk.gather().is_empty() && tells_of_three(feed))
+}
+
+#[test]
+fn a_turn_answers_what_was_gathered(rt: HostRuntime) -> Result<(), Fail> {
+    let (mut feed, mut desk) = desk(rt.alloc(), 4)?;
+    let mut clerk = opened(rt.alloc(), line([0, 0], [1, 0])?)?;
+    assert!(rt; are_answered(&mut clerk, &mut feed, &mut desk)?);
     Ok(())
 }

@@ -4,7 +4,6 @@ use device_drawing::{Place, locate};
 use journal_recovery::{Cause, OpenRefusal, recover};
 use sector_device::{Device, MemoryDevice, SECTOR};
 use std::alloc::Global;
-use std::process::Abort;
 use std::test::Fail;
 use test_scenes::{Image, LAYOUT_3};
 
@@ -12,14 +11,16 @@ use test_scenes::{Image, LAYOUT_3};
 type Change = (u64, usize, u8);
 
 // An empty ledger of four slots in each bank, with these bytes changed.
-fn changed(rt: &impl Abort, alloc: Global, changes: &[Change]) -> Result<MemoryDevice, Fail> {
+fn changed(alloc: Global, changes: &[Change]) -> Result<MemoryDevice, Fail> {
     let image = Image {
         slots: 4,
         ..LAYOUT_3
     };
     let mut device = image.device(alloc)?;
     for (at, byte, value) in changes {
-        assert!(rt; *at < device.sectors() && *byte < SECTOR);
+        if *at >= device.sectors() || *byte >= SECTOR {
+            return Err(Fail::from("no such byte"));
+        }
         let mut bytes = *device.sector(*at);
         bytes[*byte] = *value;
         device.write(*at, &bytes)?;
@@ -30,31 +31,25 @@ fn changed(rt: &impl Abort, alloc: Global, changes: &[Change]) -> Result<MemoryD
 
 // A device with these changes is refused for the bank of that number, and the damage is found in this place.
 fn is_found(
-    rt: &impl Abort,
     alloc: Global,
     changes: &[Change],
     number: u64,
     (sector, byte): (u64, u16),
-) -> Result<(), Fail> {
-    let Err((mut device, refusal)) = recover(alloc, changed(rt, alloc, changes)?) else {
-        panic!(rt; "recovered");
-    };
-    let cause = Cause::Bank;
-    assert!(rt;
-        refusal
-            == OpenRefusal::Damaged {
-                slot: number,
-                cause
-            }
-    );
+) -> Result<bool, Fail> {
+    let (slot, cause) = (number, Cause::Bank);
     let place = Place {
         bank: Some(u8::from(number == 1)),
         slot: None,
         sector,
         byte,
     };
-    assert!(rt; locate(&mut device, refusal)? == Some(place));
-    Ok(())
+    match recover(alloc, changed(alloc, changes)?) {
+        Ok(_) => Ok(false),
+        Err((mut device, refusal)) => Ok(
+            refusal == OpenRefusal::Damaged { slot, cause }
+                && locate(&mut device, refusal) == Ok(Some(place)),
+        ),
+    }
 }
 
 // The heads are sectors 2 and 29. The magic and zeros have bytes 0 to 7, and zeros stand from 24 on. The first bank is
@@ -62,8 +57,11 @@ fn is_found(
 #[test]
 fn damaged_heads_are_found(rt: HostRuntime) -> Result<(), Fail> {
     let alloc = rt.alloc();
-    is_found(&rt, alloc, &[(2, 4, 1)], 0, (2, 4))?;
-    is_found(&rt, alloc, &[(2, 24, 1), (2, 7, 1)], 0, (2, 7))?;
     let second = [(1, 0, 0), (28, 0, 0xa5)];
-    is_found(&rt, alloc, &second, 1, (29, 0))
+    assert!(rt;
+        is_found(alloc, &[(2, 4, 1)], 0, (2, 4))?
+            && is_found(alloc, &[(2, 24, 1), (2, 7, 1)], 0, (2, 7))?
+            && is_found(alloc, &second, 1, (29, 0))?
+    );
+    Ok(())
 }

@@ -1,16 +1,17 @@
 //! A device that fails on demand.
 use fault_injector::{Fuse, Op};
 use sector_device::{Device, MemoryDevice, SECTOR};
-use std::process::Abort;
 use std::test::Fail;
 
-// Which of four calls fail: a write, a read, a write and a sync.
-fn failures<D: Device>(rt: &impl Abort, device: &mut D) -> [bool; 4] {
-    assert!(rt; device.sectors() > 0);
-    let mut bytes = [0; SECTOR];
-    let first = device.write(0, &[1; SECTOR]).is_err();
+// Which of four calls fail: a write, a read, a write and a sync. Without a sector all do.
+fn failures<D: Device>(device: &mut D) -> [bool; 4] {
+    if device.sectors() == 0 {
+        return [true; 4];
+    }
+    let mut bytes = [1; SECTOR];
+    let first = device.write(0, &bytes).is_err();
     let second = device.read(0, &mut bytes).is_err();
-    let third = device.write(0, &[2; SECTOR]).is_err();
+    let third = device.write(0, &bytes).is_err();
     [first, second, third, device.sync().is_err()]
 }
 
@@ -23,7 +24,7 @@ fn a_fuse_fails_from_its_call_on(rt: HostRuntime) -> Result<(), Fail> {
     ];
     for (op, at, expected) in table {
         let mut device = Fuse::new(MemoryDevice::new(rt.alloc(), 1)?, op, at);
-        assert!(rt; failures(&rt, &mut device) == expected);
+        assert!(rt; failures(&mut device) == expected);
     }
     Ok(())
 }

@@ -7,8 +7,8 @@ fn command(line: &[u8]) -> Option<Command> {
     read_command(line, 7).ok().flatten()
 }
 
-fn has_bits(bits: &Bits, wanted: &[bool]) -> bool {
-    bits.kept().as_slice() == wanted
+fn has_bits(bits: &Bits, wanted: [bool; 3]) -> bool {
+    bits.kept().as_slice() == wanted.as_slice()
 }
 
 // An entry has the number of its line as its reference.
@@ -18,38 +18,34 @@ const WANTED: Entry = Entry::Withdraw {
     reference: 7,
 };
 
+// Whether a line is read as the command of this number.
+fn is_command(number: u8, line: &[u8]) -> bool {
+    match (number, command(line)) {
+        (0, Some(Command::Format { slots })) => slots.get() == 4,
+        (1, Some(Command::Turn { station })) => station == u64::MAX,
+        (2, Some(Command::Open { stations, x, up })) => {
+            stations == 3
+                && has_bits(&x, [false, true, true])
+                && has_bits(&up, [true, false, false])
+        }
+        (3, Some(Command::Post { station, entry })) => station == 2 && entry == WANTED,
+        (4, Some(Command::Bits)) | (5, Some(Command::Balances)) | (6, Some(Command::Crash)) => true,
+        (7, Some(Command::Day { moves })) => moves == 100_000,
+        _ => false,
+    }
+}
+
 #[test]
 fn each_command_is_read(rt: HostRuntime) {
     assert!(rt;
-        matches!(command(b"format 0004"), Some(Command::Format { slots }) if slots.get() == 4)
-            && matches!(
-                command(b"  turn   18446744073709551615 "),
-                Some(Command::Turn { station: u64::MAX })
-            )
-    );
-    assert!(rt;
-        matches!(
-            command(b"open 3 011 100"),
-            Some(Command::Open { stations: 3, x, up })
-                if has_bits(&x, &[false, true, true]) && has_bits(&up, &[true, false, false])
-        )
-    );
-    assert!(rt;
-        matches!(
-            command(b"post 2 withdraw 1 0500"),
-            Some(Command::Post { station: 2, entry }) if entry == WANTED
-        )
-    );
-    assert!(rt;
-        matches!(command(b"bits"), Some(Command::Bits))
-            && matches!(command(b"balances"), Some(Command::Balances))
-            && matches!(command(b"crash"), Some(Command::Crash))
-    );
-    assert!(rt;
-        matches!(
-            command(b"day 0100000"),
-            Some(Command::Day { moves: 100_000 })
-        )
+        is_command(0, b"format 0004")
+            && is_command(1, b"  turn   18446744073709551615 ")
+            && is_command(2, b"open 3 011 100")
+            && is_command(3, b"post 2 withdraw 1 0500")
+            && is_command(4, b"bits")
+            && is_command(5, b"balances")
+            && is_command(6, b"crash")
+            && is_command(7, b"day 0100000")
     );
 }
 

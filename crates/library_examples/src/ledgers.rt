@@ -1,7 +1,7 @@
 //! Worked examples: what is expected was worked out by hand from the rules.
 
 use std::test::Fail;
-use turn_ledger::{Batch, Entry, EntryRefusal, Ledger};
+use turn_ledger::{Batch, Entry, EntryRefusal, Ledger, Verdicts};
 
 fn deposit(to: u32, amount: u64) -> Entry {
     Entry::Deposit {
@@ -28,23 +28,38 @@ fn transfer(from: u32, to: u32, amount: u64) -> Entry {
     }
 }
 
+// Of three entries the second one is refused, since the account holds too little.
+fn are_told(verdicts: &Verdicts) -> bool {
+    for verdict in verdicts {
+        if *verdict == Err(EntryRefusal::OverLimit) {
+            return false;
+        }
+    }
+    (verdicts.len(), verdicts.accepted(), verdicts.is_empty()) == (3, 2, false)
+        && verdicts.get(1) == Some(Err(EntryRefusal::Short))
+}
+
+// Two entries were accepted, of which this is the second.
+fn is_accepted(batch: &Batch, last: Entry) -> bool {
+    (batch.len(), batch.is_empty(), batch.get(1)) == (2, false, Some(last))
+}
+
+// What the 1,024 accounts hold.
+fn is_posted(ledger: &Ledger) -> bool {
+    (ledger.balance(1), ledger.balance(2), ledger.total()) == (Some(60), Some(40), 100)
+        && ledger.accounts().count() == 1024
+}
+
 #[test]
 fn an_example_of_a_turn(rt: HostRuntime) -> Result<(), Fail> {
     let mut ledger = Ledger::new(rt.alloc())?;
     let entries = [deposit(1, 100), withdraw(1, 150), transfer(1, 2, 40)];
     let verdicts = ledger.screen(&entries);
-    assert!(rt; (verdicts.len(), verdicts.accepted(), verdicts.is_empty()) == (3, 2, false));
-    assert!(rt; verdicts.get(1) == Some(Err(EntryRefusal::Short)));
-    for verdict in &verdicts {
-        assert!(rt; *verdict != Err(EntryRefusal::OverLimit));
-    }
     let batch = Batch::of_accepted(&entries, &verdicts);
-    assert!(rt; (batch.len(), batch.is_empty(), batch.get(1)) == (2, false, Some(entries[2])));
+    assert!(rt; are_told(&verdicts) && is_accepted(&batch, entries[2]));
     for entry in &batch {
-        assert!(rt; ledger.post(entry) == Ok(()));
+        ledger.post(entry)?;
     }
-    let held = (ledger.balance(1), ledger.balance(2), ledger.total());
-    assert!(rt; held == (Some(60), Some(40), 100));
-    assert!(rt; ledger.accounts().count() == 1024);
+    assert!(rt; is_posted(&ledger));
     Ok(())
 }

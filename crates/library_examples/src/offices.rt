@@ -1,9 +1,10 @@
 //! An office that is opened, takes two turns and is closed: what its seats are answered.
 use line_lock::{
-    BalanceRefusal, Clerk, Closing, Count, Found, Office, OfficeWork, OpenedOn, Rule, Seat,
-    ToldBalance, Turn, TurnRefusal, WithinRefusal, with_office,
+    BalanceRefusal, Closing, Count, Found, Office, OfficeWork, OpenedOn, Rule, Seat, ToldBalance,
+    Turn, TurnRefusal, WithinRefusal, with_office,
 };
 use sector_device::MemoryDevice;
+use std::alloc::Global;
 use std::process::Abort;
 use std::sync::Wait;
 use std::test::Fail;
@@ -16,7 +17,7 @@ struct OneTurnAfterTheOther<'a, R> {
 }
 
 impl<'a, R: Abort + Wait> OfficeWork<MemoryDevice> for OneTurnAfterTheOther<'a, R> {
-    type Answer = (Turn, Turn);
+    type Answer = [Turn; 2];
 
     type Failure = WithinRefusal;
 
@@ -24,74 +25,114 @@ impl<'a, R: Abort + Wait> OfficeWork<MemoryDevice> for OneTurnAfterTheOther<'a, 
         self,
         office: &Office<MemoryDevice, L>,
         mut seats: Vec<Seat<L>>,
-    ) -> Result<(Vec<Seat<L>>, (Turn, Turn)), WithinRefusal> {
+    ) -> Result<(Vec<Seat<L>>, [Turn; 2]), WithinRefusal> {
         let OneTurnAfterTheOther { rt } = self;
         let alloc = *seats.allocator();
-        let [bottom, top] = seats.as_mut_slice() else {
-            panic!(rt; "two seats");
-        };
-        assert!(rt; (bottom.station(), top.station()) == (0, 1));
-        assert!(rt; (bottom.turns().len(), bottom.denied()) == (0, None));
-        let first = bottom_turn(rt, office, bottom, top)?;
-        let second = top_turn(rt, office, top)?;
-        assert!(rt; bottom.reached() == 0);
-        assert!(rt; bottom.turns() == [first].as_slice() && top.turns() == [second].as_slice());
-        let shown = format!(in alloc; "{office:?} {top:?}").expect(rt, "memory");
-        assert!(rt; shown.as_str() == SHOWN);
-
+        let turns = one_turn_each(rt, alloc, office, seats.as_mut_slice())?;
         // in whatever order the seats are handed in
         seats.as_mut_slice().reverse();
-        Ok((seats, (first, second)))
+        Ok((seats, turns))
     }
+}
+
+fn one_turn_each<L: Count + OpenedOn, R: Abort + Wait>(
+    rt: &R,
+    alloc: Global,
+    office: &Office<MemoryDevice, L>,
+    seats: &mut [Seat<L>],
+) -> Result<[Turn; 2], WithinRefusal> {
+    let [bottom, top] = seats else {
+        panic!(rt; "two seats");
+    };
+    assert!(rt; is_new(bottom, 0) && is_new(top, 1) && is_denied(rt, office, top, 0));
+    let first = bottom_turn(rt, office, bottom)?;
+    let second = top_turn(rt, office, top)?;
+    assert!(rt; is_listed(bottom, &first, 0) && is_listed(top, &second, 1));
+    assert!(rt; is_shown(alloc, office, top));
+    Ok([first, second])
+}
+
+// The seat of this station has no turn, and was denied none.
+fn is_new<L: Count>(seat: &Seat<L>, station: u8) -> bool {
+    seat.station() == station && seat.turns().is_empty() && seat.denied().is_none()
+}
+
+// The seat lists this turn alone, and was last told that so many turns were taken.
+fn is_listed<L: Count>(seat: &Seat<L>, turn: &Turn, reached: u64) -> bool {
+    let [listed] = seat.turns() else {
+        return false;
+    };
+    listed == turn && seat.reached() == reached
 }
 
 const SHOWN: &str =
     "Office { .. } Seat { station: 1, turns: 1, denied: Some(2), reached: 1, told: Some(ToldBalance { account: 1, amount: 5, turns: 2 }), was_faulted: false, .. }";
 
+fn is_shown<L: Count + OpenedOn>(
+    alloc: Global,
+    office: &Office<MemoryDevice, L>,
+    top: &Seat<L>,
+) -> bool {
+    match format!(in alloc; "{office:?} {top:?}") {
+        Ok(shown) => shown.as_str() == SHOWN,
+        Err(_) => false,
+    }
+}
+
 // The seat is told what account 1 holds, where the history has so many turns.
-fn is_told<L: Count + OpenedOn, R: Abort + Wait>(
+fn is_told<L: Count + OpenedOn, R: Wait>(
     rt: &R,
     office: &Office<MemoryDevice, L>,
     seat: &mut Seat<L>,
     amount: u64,
     turns: u64,
-) {
-    assert!(rt; office.balance(rt, seat, 1) == Ok(amount));
+) -> bool {
     let account = 1;
     let told = ToldBalance {
         account,
         amount,
         turns,
     };
-    assert!(rt; office.balance(rt, seat, 1_025) == Err(BalanceRefusal::NoAccount));
-    assert!(rt; seat.told() == Some(told) && !seat.was_faulted());
+    office.balance(rt, seat, 1) == Ok(amount)
+        && office.balance(rt, seat, 1_025) == Err(BalanceRefusal::NoAccount)
+        && seat.told() == Some(told)
+        && !seat.was_faulted()
 }
 
 // The seat is denied a turn, which would have had this index.
-fn is_denied<L: Count + OpenedOn, R: Abort + Wait>(
+fn is_denied<L: Count + OpenedOn, R: Wait>(
     rt: &R,
     office: &Office<MemoryDevice, L>,
     seat: &mut Seat<L>,
     index: u64,
-) {
-    assert!(rt; office.turn(rt, seat, &[]) == Err(TurnRefusal::NotPrivileged));
-    assert!(rt; seat.denied() == Some(index));
+) -> bool {
+    office.turn(rt, seat, &[]) == Err(TurnRefusal::NotPrivileged) && seat.denied() == Some(index)
 }
 
-// The first turn is the bottom station's, which is denied a second one; before it the top station is denied.
+// The turn within that limit isn't taken, for this reason; the seat was last told of one turn.
+fn is_refused_within<L: Count + OpenedOn, R: Wait>(
+    rt: &R,
+    office: &Office<MemoryDevice, L>,
+    seat: &mut Seat<L>,
+    limit: u64,
+    refusal: WithinRefusal,
+) -> bool {
+    office.turn_within(rt, seat, &[], limit) == Err(refusal) && seat.reached() == 1
+}
+
+// The first turn is the bottom station's, which is denied a second one.
 fn bottom_turn<L: Count + OpenedOn, R: Abort + Wait>(
     rt: &R,
     office: &Office<MemoryDevice, L>,
     bottom: &mut Seat<L>,
-    top: &mut Seat<L>,
 ) -> Result<Turn, WithinRefusal> {
-    is_denied(rt, office, top, 0);
-    is_told(rt, office, bottom, 0, 0);
-    let sixteen = [deposit(1, 5); 16];
-    assert!(rt; office.turn(rt, bottom, &sixteen) == Err(TurnRefusal::TooMany));
+    let sixteen = office.turn(rt, bottom, &[deposit(1, 5); 16]);
+    assert!(rt; sixteen == Err(TurnRefusal::TooMany) && is_told(rt, office, bottom, 0, 0));
     let first = office.turn(rt, bottom, &[deposit(1, 5)])?;
-    assert!(rt; (first.index, first.rule, first.posted) == (0, Rule::Bottom, Some(0)));
-    is_denied(rt, office, bottom, 1);
+    assert!(rt;
+        (first.index, first.rule, first.posted) == (0, Rule::Bottom, Some(0))
+            && is_denied(rt, office, bottom, 1)
+    );
     Ok(first)
 }
 
@@ -101,44 +142,42 @@ fn top_turn<L: Count + OpenedOn, R: Abort + Wait>(
     office: &Office<MemoryDevice, L>,
     top: &mut Seat<L>,
 ) -> Result<Turn, WithinRefusal> {
-    let stopped = office.turn_within(rt, top, &[], 1).err();
-    assert!(rt; (stopped, top.reached()) == (Some(WithinRefusal::Reached), 1));
+    assert!(rt; is_refused_within(rt, office, top, 1, WithinRefusal::Reached));
     let second = office.turn_within(rt, top, &[], 2)?;
-    assert!(rt; top.turns().last() == Some(&second));
-    assert!(rt; (second.index, second.rule, second.posted) == (1, Rule::Top, None));
-    is_denied_within_three(rt, office, top);
-    is_told(rt, office, top, 5, 2);
-    assert!(rt; office.find(rt, top, 9, 0, u64::MAX) == Ok(Found::Nowhere(0)));
+    let denied = WithinRefusal::Turn(TurnRefusal::NotPrivileged);
+    assert!(rt;
+        (second.index, second.rule, second.posted) == (1, Rule::Top, None)
+            && is_refused_within(rt, office, top, 3, denied)
+            && is_told(rt, office, top, 5, 2)
+            && office.find(rt, top, 9, 0, u64::MAX) == Ok(Found::Nowhere(0))
+    );
     Ok(second)
 }
 
-fn is_denied_within_three<L: Count + OpenedOn, R: Abort + Wait>(
+// An office of two stations over an empty ledger, closed behind its turns.
+fn closed<R: Abort + Wait>(
     rt: &R,
-    office: &Office<MemoryDevice, L>,
-    top: &mut Seat<L>,
-) {
-    let denied = office.turn_within(rt, top, &[], 3).err();
-    assert!(rt; denied == Some(WithinRefusal::Turn(TurnRefusal::NotPrivileged)));
-    assert!(rt; (top.denied(), top.reached()) == (Some(2), 1));
+    alloc: Global,
+) -> Result<(Closing<MemoryDevice>, [Turn; 2]), Fail> {
+    let work = OneTurnAfterTheOther { rt };
+    match with_office(alloc, formatted(alloc, 4)?, line([0, 0], [1, 0])?, work) {
+        Ok(closed) => Ok(closed),
+        Err((_, refusal)) => Err(Fail::from(refusal)),
+    }
 }
 
-// The clerk lists two turns, of which the first posted a deposit of 5.
-fn lists(rt: &impl Abort, clerk: &Clerk<MemoryDevice>, turns: &[Turn]) {
-    assert!(rt; clerk.history() == turns);
-    assert!(rt; clerk.ledger().balance(1) == Some(5));
+// The clerk lists these turns, of which the first posted a deposit of 5, and both stations moved.
+fn are_closed(closing: &Closing<MemoryDevice>, turns: &[Turn]) -> bool {
+    let Closing { clerk, audit } = closing;
+    clerk.history() == turns
+        && clerk.ledger().balance(1) == Some(5)
+        && line([1, 1], [1, 0]) == Ok(audit.last)
+        && audit.first_legitimate == Some(0)
 }
 
 #[test]
 fn turns_are_listed_and_refusals_noted(rt: HostRuntime) -> Result<(), Fail> {
-    let alloc = rt.alloc();
-    let work = OneTurnAfterTheOther { rt: &rt };
-    match with_office(alloc, formatted(alloc, 4)?, line([0, 0], [1, 0])?, work) {
-        Ok((Closing { clerk, audit }, (first, second))) => {
-            lists(&rt, &clerk, &[first, second]);
-            assert!(rt; audit.last == line([1, 1], [1, 0])?);
-            assert!(rt; audit.first_legitimate == Some(0));
-            Ok(())
-        }
-        Err((_, refusal)) => panic!(rt; "{refusal}"),
-    }
+    let (closing, turns) = closed(&rt, rt.alloc())?;
+    assert!(rt; are_closed(&closing, &turns));
+    Ok(())
 }

@@ -36,9 +36,18 @@ fn print_lines(
     for _ in 0..count {
         output.line(text)?;
     }
-    output.line(format_args!("account {} {}", 1, 500))?;
+    output.line("account 1 500")?;
     output.flush()?;
     output.flush()
+}
+
+// The first piece is full, and the second one has a line of text and the last line.
+fn are_two(pieces: &[Vec<u8>]) -> bool {
+    let [first, last] = pieces else {
+        return false;
+    };
+    (first.len(), last.len()) == (65_536, 1_024 + 14)
+        && last.as_slice().ends_with(b"\naccount 1 500\n")
 }
 
 // 64 lines of 1,024 bytes are 65,536.
@@ -54,11 +63,6 @@ fn lines_are_gathered_to_65536_bytes(rt: HostRuntime) -> Result<(), Fail> {
         pieces: Vec::new(alloc),
     };
     print_lines(alloc, &mut writer, text.as_str(), 65)?;
-    let [first, last] = writer.pieces.as_slice() else {
-        return Err(Fail::from(StreamFault::Write));
-    };
-    assert!(rt; first.len() == 65_536);
-    assert!(rt; last.len() == 1_024 + 14);
-    assert!(rt; last.as_slice().ends_with(b"\naccount 1 500\n"));
+    assert!(rt; are_two(writer.pieces.as_slice()));
     Ok(())
 }

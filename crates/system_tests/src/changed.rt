@@ -2,13 +2,12 @@
 use crate::devices::opened;
 use journal_recovery::{Cause, MigrateRefusal, OpenRefusal, migrate};
 use ledger_reading::{ReadRefusal, look};
-use sector_device::{Device, MemoryDevice, SECTOR, Sector};
+use sector_device::{MemoryDevice, Sector};
 use std::alloc::Global;
-use std::process::Abort;
 use std::test::Fail;
 use test_scenes::{
-    FIRST, Image, LAYOUT_1, LAYOUT_3, Layout, Live, Rewritten, ZERO, body_of, deposit, formatted,
-    line, second, sectors_needed, withdrawal,
+    FIRST, Image, LAYOUT_1, LAYOUT_3, Layout, Live, Rewritten, ZERO, body_of, deposit, second,
+    sectors_needed, withdrawal,
 };
 use turn_clerk::{Entry, FindRefusal, Found};
 
@@ -40,40 +39,43 @@ fn damaged(slot: u64, cause: Cause) -> MigrateRefusal {
     MigrateRefusal::Source(OpenRefusal::Damaged { slot, cause })
 }
 
-// A device isn't copied of which a sector has these bytes from its second reading on, for this reason, if any.
-fn is_refused_changed(
-    rt: &impl Abort,
+// Why a ledger isn't copied of which a sector has these bytes from its second reading on, if it isn't.
+fn refusal(
     alloc: Global,
-    old: MemoryDevice,
-    (at, bytes): (u64, Sector),
-    expected: Option<MigrateRefusal>,
-) -> Result<(), Fail> {
+    image: &Image,
+    at: u64,
+    bytes: &Sector,
+) -> Result<Option<MigrateRefusal>, Fail> {
     let mut new = MemoryDevice::new(alloc, sectors_needed(1))?;
-    let (_, answer) = migrate(alloc, Rewritten::new(old, at, bytes), &mut new, 1);
-    assert!(rt; answer.err() == expected, "{at}");
-    Ok(())
+    let old = Rewritten::new(image.device(alloc)?, at, bytes);
+    let (_, answer) = migrate(alloc, old, &mut new, 1);
+    Ok(answer.err())
 }
 
 // Opening an older journal reads each body once, and posting reads it a second time: which one is no record any more is
 // told then, by its slot. Slot k of the live bank of layout 2 has its body in sector 15 + 2k, and the sequence 7 + k: a
 // record with the sequence k isn't its own. The last gate is read once.
+fn are_refused(
+    alloc: Global,
+    slot: u64,
+    (first, second): (u64, u64),
+    wanted: Option<MigrateRefusal>,
+) -> Result<bool, Fail> {
+    let other = body_of(0, slot, &[deposit(1, 6)]);
+    Ok(
+        refusal(alloc, &OLDEST, first, &ZERO)? == wanted
+            && refusal(alloc, &OLDER, second, &ZERO)? == wanted
+            && refusal(alloc, &OLDER, second, &other)? == wanted,
+    )
+}
+
 #[test]
 fn a_record_that_changes_between_two_readings_is_no_record(rt: HostRuntime) -> Result<(), Fail> {
     let alloc = rt.alloc();
-    let table = [
-        (8, 22, None),
-        (1, 15, Some(damaged(0, Cause::Header))),
-        (3, 17, Some(damaged(1, Cause::Header))),
-        (5, 19, Some(damaged(2, Cause::Header))),
-    ];
-    for (first, second, expected) in table {
-        let old = OLDEST.device(alloc)?;
-        is_refused_changed(&rt, alloc, old, (first, ZERO), expected)?;
-        let other = body_of(0, first / 2, &[deposit(1, 6)]);
-        for bytes in [ZERO, other] {
-            let old = OLDER.device(alloc)?;
-            is_refused_changed(&rt, alloc, old, (second, bytes), expected)?;
-        }
+    assert!(rt; are_refused(alloc, 4, (8, 22), None)?);
+    for slot in 0..3 {
+        let sectors = (1 + 2 * slot, 15 + 2 * slot);
+        assert!(rt; are_refused(alloc, slot, sectors, Some(damaged(slot, Cause::Header)))?);
     }
     Ok(())
 }
@@ -104,7 +106,7 @@ fn what_was_changed_after_the_look_is_told(rt: HostRuntime) -> Result<(), Fail> 
         ..LAYOUT_3
     };
     for at in [FIRST.body(0), FIRST.balances()] {
-        let device = Rewritten::new(image.device(alloc)?, at, [0; SECTOR]);
+        let device = Rewritten::new(image.device(alloc)?, at, &ZERO);
         assert!(rt; all_of_it(alloc, device) == Err(ReadRefusal::Changed));
     }
     Ok(())
@@ -119,51 +121,28 @@ fn with_reference(reference: u64) -> Entry {
     }
 }
 
-// A clerk on the device takes so many turns, the bottom station those with an even number and the top one the others;
-// each posts a deposit whose reference is the number.
-fn posted(
-    rt: &impl Abort,
-    alloc: Global,
-    device: MemoryDevice,
-    turns: u64,
-) -> Result<MemoryDevice, Fail> {
-    let mut clerk = opened(rt, alloc, device, line([0, 0], [1, 0])?);
-    for number in 0..turns {
-        let turn = clerk.turn(u8::from(number % 2 == 1), &[with_reference(number)])?;
-        assert!(rt; turn.posted == Some(number));
-    }
-    Ok(clerk.into_device())
-}
-
-// A device whose second bank is live, with one record of number 2, which has two deposits with references 7 and 8. The
+// A ledger whose second bank is live, with one record of number 2, which has two deposits with references 7 and 8. The
 // record's body has another byte at that place from the second read on.
-fn with_another_byte(
-    rt: &impl Abort,
-    alloc: Global,
-    place: usize,
-    byte: u8,
-) -> Result<Rewritten, Fail> {
-    let device = posted(rt, alloc, formatted(alloc, 2)?, 2)?;
-    let mut clerk = opened(rt, alloc, device, line([0, 0], [1, 0])?);
-    clerk.turn(0, &[with_reference(7), with_reference(8)])?;
-    let mut inner = clerk.into_device();
-    let at = second(2).body(0);
-    let mut bytes = [0; SECTOR];
-    assert!(rt; place < SECTOR && at < inner.sectors());
-    inner.read(at, &mut bytes)?;
-    bytes[place] = byte;
-    Ok(Rewritten::new(inner, at, bytes))
+fn with_another_byte(alloc: Global, place: usize, byte: u8) -> Result<Rewritten, Fail> {
+    let entries = [with_reference(7), with_reference(8)];
+    let image = Image {
+        slots: 2,
+        live: Live::Second,
+        epoch: 1,
+        base: 2,
+        records: &[(0, &entries)],
+        ..LAYOUT_3
+    };
+    let mut bytes = body_of(0, 2, &entries);
+    if let Some(there) = bytes.get_mut(place) {
+        *there = byte;
+    }
+    Ok(Rewritten::new(image.device(alloc)?, second(2).body(0), &bytes))
 }
 
 // What a clerk finds of the references 7 and 8.
-fn told(
-    rt: &impl Abort,
-    alloc: Global,
-    place: usize,
-    byte: u8,
-) -> Result<[Result<Found, FindRefusal>; 2], Fail> {
-    let device = with_another_byte(rt, alloc, place, byte)?;
-    let mut clerk = opened(rt, alloc, device, line([0, 0], [1, 0])?);
+fn told(alloc: Global, place: usize, byte: u8) -> Result<[Result<Found, FindRefusal>; 2], Fail> {
+    let mut clerk = opened(alloc, with_another_byte(alloc, place, byte)?)?;
     Ok([clerk.find(7, 0, u64::MAX), clerk.find(8, 0, u64::MAX)])
 }
 
@@ -184,7 +163,7 @@ fn a_record_that_was_changed_is_told(rt: HostRuntime) -> Result<(), Fail> {
         (64, 9, [posted, changed]),
         (0, 0x54, [posted, posted]),
     ] {
-        assert!(rt; told(&rt, rt.alloc(), place, byte)? == found);
+        assert!(rt; told(rt.alloc(), place, byte)? == found);
     }
     Ok(())
 }

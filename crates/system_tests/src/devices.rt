@@ -2,19 +2,21 @@
 use journal_recovery::{Recovered, recover};
 use sector_device::Device;
 use std::alloc::Global;
-use std::process::Abort;
-use turn_clerk::{Clerk, Line};
+use std::test::Fail;
+use test_scenes::line;
+use turn_clerk::Clerk;
 
-pub fn opened<D: Device>(rt: &impl Abort, alloc: Global, device: D, line: Line) -> Clerk<D> {
-    match Clerk::open(alloc, device, line) {
-        Ok(clerk) => clerk,
-        Err((_, refusal)) => panic!(rt; "{refusal}"),
+// A clerk on the device, with a line of two stations.
+pub fn opened<D: Device + Drop>(alloc: Global, device: D) -> Result<Clerk<D>, Fail> {
+    match Clerk::open(alloc, device, line([0, 0], [1, 0])?) {
+        Ok(clerk) => Ok(clerk),
+        Err((_, refusal)) => Err(Fail::from(refusal)),
     }
 }
 
-pub fn found_on<D: Device>(rt: &impl Abort, alloc: Global, device: D) -> Recovered<D> {
+pub fn found_on<D: Device + Drop>(alloc: Global, device: D) -> Result<Recovered<D>, Fail> {
     match recover(alloc, device) {
-        Ok(found) => found,
-        Err((_, refusal)) => panic!(rt; "{refusal}"),
+        Ok(found) => Ok(found),
+        Err((_, refusal)) => Err(Fail::from(refusal)),
     }
 }

@@ -13,31 +13,35 @@ use office_day::{CloseRefusal, DayRefusal, End, EndName};
 use sector_device::DeviceFault;
 use std::alloc::Global;
 use std::fmt::{Display, Write};
-use std::test::Fail;
 use sweep_auditor::AuditRefusal;
 use turn_clerk::{EntryRefusal, FindRefusal, TurnRefusal};
 
 // Whether the texts of these refusals are these lines.
-fn reads<T: Display>(alloc: Global, refusals: &[T], lines: &str) -> Result<bool, Fail> {
+fn reads<T: Display>(alloc: Global, refusals: &[T], lines: &str) -> bool {
     let mut told = String::new(alloc);
     for refusal in refusals {
-        writeln!(told, "{refusal}")?;
+        if writeln!(told, "{refusal}").is_err() {
+            return false;
+        }
     }
-    Ok(told.as_str() == lines)
+    told.as_str() == lines
+}
+
+fn damaged(cause: JournalCause) -> JournalRefusal {
+    JournalRefusal::Damaged { slot: 3, cause }
 }
 
 #[test]
-fn refusals_of_journals_have_texts(rt: HostRuntime) -> Result<(), Fail> {
+fn refusals_of_journals_have_texts(rt: HostRuntime) {
     let alloc = rt.alloc();
-    let damage = |cause| JournalRefusal::Damaged { slot: 3, cause };
     let refusals = [
         JournalRefusal::Unformatted,
         JournalRefusal::Version(9),
         JournalRefusal::Size,
-        damage(JournalCause::Header),
-        damage(JournalCause::Sequence),
-        damage(JournalCause::Tail),
-        damage(JournalCause::Bank),
+        damaged(JournalCause::Header),
+        damaged(JournalCause::Sequence),
+        damaged(JournalCause::Tail),
+        damaged(JournalCause::Bank),
         JournalRefusal::Device,
     ];
     let lines = "the device is not formatted\n\
@@ -48,20 +52,19 @@ fn refusals_of_journals_have_texts(rt: HostRuntime) -> Result<(), Fail> {
         damage at 3: the slot is open behind a closed one\n\
         damage at 3: no bank is live, or the one of this number isn't sound\n\
         the device failed\n";
-    assert!(rt; reads(alloc, &refusals, lines)?);
-    assert!(rt; reads(alloc, &[DeviceFault], "the device failed\n")?);
-    Ok(())
+    let told = reads(alloc, &refusals, lines);
+    assert!(rt; told && reads(alloc, &[DeviceFault], "the device failed\n"));
 }
 
 #[test]
-fn refusals_of_calls_of_a_journal_have_texts(rt: HostRuntime) -> Result<(), Fail> {
+fn refusals_of_calls_of_a_journal_have_texts(rt: HostRuntime) {
     use AppendRefusal::*;
     let alloc = rt.alloc();
     let lines = "the journal has met a device fault and must be opened again\n\
         there are no more sequence numbers\n\
         each slot of the live bank holds a record\n\
         the device failed\n";
-    assert!(rt; reads(alloc, &[Faulted, Exhausted, Full, Device], lines)?);
+    let told = reads(alloc, &[Faulted, Exhausted, Full, Device], lines);
     let refusals = [
         CheckpointRefusal::Faulted,
         CheckpointRefusal::Exhausted,
@@ -70,19 +73,21 @@ fn refusals_of_calls_of_a_journal_have_texts(rt: HostRuntime) -> Result<(), Fail
     let lines = "the journal has met a device fault and must be opened again\n\
         there are no more epochs\n\
         the device failed\n";
-    assert!(rt; reads(alloc, &refusals, lines)?);
+    let told = told && reads(alloc, &refusals, lines);
     let refusals = [SnapshotRefusal::Marks, SnapshotRefusal::Device];
     let lines = "the marks have a byte that isn't zero\n\
         the device failed\n";
-    assert!(rt; reads(alloc, &refusals, lines)?);
-    Ok(())
+    assert!(rt; told && reads(alloc, &refusals, lines));
+}
+
+fn day_damaged(cause: Cause) -> DayRefusal {
+    DayRefusal::Opening(OpenRefusal::Damaged { slot: 3, cause })
 }
 
 // A day's refusals tell those of recovery and of closing.
 #[test]
-fn refusals_of_recovery_and_of_a_day_have_texts(rt: HostRuntime) -> Result<(), Fail> {
+fn refusals_of_recovery_and_of_a_day_have_texts(rt: HostRuntime) {
     use DayRefusal::*;
-    let damage = |cause| Opening(OpenRefusal::Damaged { slot: 3, cause });
     let refusals = [
         Memory,
         Closing(CloseRefusal::SeatMissing),
@@ -91,12 +96,12 @@ fn refusals_of_recovery_and_of_a_day_have_texts(rt: HostRuntime) -> Result<(), F
         Opening(OpenRefusal::Unformatted),
         Opening(OpenRefusal::Version(9)),
         Opening(OpenRefusal::Size),
-        damage(Cause::Header),
-        damage(Cause::Sequence),
-        damage(Cause::Tail),
-        damage(Cause::Bank),
-        damage(Cause::Entry(14)),
-        damage(Cause::Verdict(0)),
+        day_damaged(Cause::Header),
+        day_damaged(Cause::Sequence),
+        day_damaged(Cause::Tail),
+        day_damaged(Cause::Bank),
+        day_damaged(Cause::Entry(14)),
+        day_damaged(Cause::Verdict(0)),
         Opening(OpenRefusal::Device),
     ];
     let lines = "out of memory\n\
@@ -113,15 +118,17 @@ fn refusals_of_recovery_and_of_a_day_have_texts(rt: HostRuntime) -> Result<(), F
         damage at 3: place 14 of a record is no entry\n\
         damage at 3: the entry at place 0 of a record breaks a rule of the ledger\n\
         it can't be read\n";
-    assert!(rt; reads(rt.alloc(), &refusals, lines)?);
-    Ok(())
+    assert!(rt; reads(rt.alloc(), &refusals, lines));
+}
+
+fn turn(refusal: TurnRefusal) -> OfficeRefusal<WithinRefusal> {
+    OfficeRefusal::Work(WithinRefusal::Turn(refusal))
 }
 
 // An office's refusals tell those of an opening, of a turn within a limit, and of closing.
 #[test]
-fn refusals_of_an_office_have_texts(rt: HostRuntime) -> Result<(), Fail> {
+fn refusals_of_an_office_have_texts(rt: HostRuntime) {
     use OfficeRefusal::*;
-    let turn = |refusal| Work(WithinRefusal::Turn(refusal));
     let refusals = [
         Opening(OpenRefusal::Size),
         Closing(CloseRefusal::SeatMissing),
@@ -144,29 +151,27 @@ fn refusals_of_an_office_have_texts(rt: HostRuntime) -> Result<(), Fail> {
         out of memory\n\
         there are no more sequence numbers or epochs\n\
         the device failed\n";
-    assert!(rt; reads(rt.alloc(), &refusals, lines)?);
-    Ok(())
+    assert!(rt; reads(rt.alloc(), &refusals, lines));
 }
 
 // What a script prints of a day's stations.
 #[test]
-fn ends_of_stations_have_names(rt: HostRuntime) -> Result<(), Fail> {
+fn ends_of_stations_have_names(rt: HostRuntime) {
     let ends = [
-        End::NotStarted,
-        End::Reached,
-        End::Stopped,
-        End::Tries,
-        End::Closed,
-        End::Refused(TurnRefusal::Exhausted),
-        End::Refused(TurnRefusal::Device),
+        EndName(End::NotStarted),
+        EndName(End::Reached),
+        EndName(End::Stopped),
+        EndName(End::Tries),
+        EndName(End::Closed),
+        EndName(End::Refused(TurnRefusal::Exhausted)),
+        EndName(End::Refused(TurnRefusal::Device)),
     ];
     let lines = "NotStarted\nReached\nStopped\nTries\nClosed\nExhausted\nDevice\n";
-    assert!(rt; reads(rt.alloc(), &ends.map(EndName), lines)?);
-    Ok(())
+    assert!(rt; reads(rt.alloc(), &ends, lines));
 }
 
 #[test]
-fn refusals_of_entries_and_questions_have_texts(rt: HostRuntime) -> Result<(), Fail> {
+fn refusals_of_entries_and_questions_have_texts(rt: HostRuntime) {
     use EntryRefusal::*;
     let alloc = rt.alloc();
     let refusals = [ZeroAmount, NoAccount, SameAccount, Short, OverLimit, Sealed];
@@ -176,7 +181,7 @@ fn refusals_of_entries_and_questions_have_texts(rt: HostRuntime) -> Result<(), F
         the account holds too little\n\
         the total of all accounts would pass its limit\n\
         the account is sealed\n";
-    assert!(rt; reads(alloc, &refusals, lines)?);
+    let told = reads(alloc, &refusals, lines);
     let refusals = [
         FindRefusal::Faulted,
         FindRefusal::Changed,
@@ -185,29 +190,27 @@ fn refusals_of_entries_and_questions_have_texts(rt: HostRuntime) -> Result<(), F
     let lines = "a device fault was met and the device must be opened again\n\
         the record is no longer there\n\
         the device failed\n";
-    assert!(rt; reads(alloc, &refusals, lines)?);
+    let told = told && reads(alloc, &refusals, lines);
     let refusals = [BalanceRefusal::Faulted, BalanceRefusal::NoAccount];
     let lines = "a device fault was met and the device must be opened again\n\
         there is no such account\n";
-    assert!(rt; reads(alloc, &refusals, lines)?);
-    Ok(())
+    assert!(rt; told && reads(alloc, &refusals, lines));
 }
 
 #[test]
-fn refusals_of_lines_have_texts(rt: HostRuntime) -> Result<(), Fail> {
+fn refusals_of_lines_have_texts(rt: HostRuntime) {
     let alloc = rt.alloc();
     let refusals = [LineRefusal::Stations, LineRefusal::Length];
     let lines = "a line has 2 to 64 stations\n\
         each list of bits has one bit for each station\n";
-    assert!(rt; reads(alloc, &refusals, lines)?);
+    let told = reads(alloc, &refusals, lines);
     let refusals = [AuditRefusal::NotEnabled { index: 7 }];
     let lines = "the station of move 7 may not move by its rule there\n";
-    assert!(rt; reads(alloc, &refusals, lines)?);
-    Ok(())
+    assert!(rt; told && reads(alloc, &refusals, lines));
 }
 
 #[test]
-fn refusals_of_archives_have_texts(rt: HostRuntime) -> Result<(), Fail> {
+fn refusals_of_archives_have_texts(rt: HostRuntime) {
     let alloc = rt.alloc();
     let refusals = [
         FollowRefusal::Gap,
@@ -221,7 +224,7 @@ fn refusals_of_archives_have_texts(rt: HostRuntime) -> Result<(), Fail> {
         the ledger wasn't read: the record is no longer there\n\
         the ledger wasn't read: the device failed\n\
         it held something else where the archive ends\n";
-    assert!(rt; reads(alloc, &refusals, lines)?);
+    let told = reads(alloc, &refusals, lines);
     let refusals = [
         AddRefusal::TooManySlots,
         AddRefusal::TooSmall,
@@ -232,16 +235,21 @@ fn refusals_of_archives_have_texts(rt: HostRuntime) -> Result<(), Fail> {
         the new device has too few sectors for the slots\n\
         the ledger wasn't read: the device failed\n\
         the new device failed\n";
-    assert!(rt; reads(alloc, &refusals, lines)?);
-    Ok(())
+    assert!(rt; told && reads(alloc, &refusals, lines));
+}
+
+fn file(fault: FileFault) -> LedgerRefusal {
+    LedgerRefusal::Device(DeviceRefusal::File(fault))
+}
+
+fn disk(fault: DiskFault) -> LedgerRefusal {
+    LedgerRefusal::Device(DeviceRefusal::Disk(fault))
 }
 
 #[test]
-fn refusals_of_files_have_texts(rt: HostRuntime) -> Result<(), Fail> {
+fn refusals_of_files_have_texts(rt: HostRuntime) {
     use FileFault::*;
     let alloc = rt.alloc();
-    let file = |fault| LedgerRefusal::Device(DeviceRefusal::File(fault));
-    let disk = |fault| LedgerRefusal::Device(DeviceRefusal::Disk(fault));
     let refusals = [
         file(Missing),
         file(NoFolder),
@@ -274,17 +282,16 @@ fn refusals_of_files_have_texts(rt: HostRuntime) -> Result<(), Fail> {
         it is a disk with too few sectors\n\
         it is a disk that holds no ledger; --overwrite takes it all the same\n\
         it is no disk, and --overwrite is for disks alone\n";
-    assert!(rt; reads(alloc, &refusals, lines)?);
+    let told = reads(alloc, &refusals, lines);
     let refusals = [FileRefusal::Memory, FileRefusal::File];
     let lines = "out of memory\n\
         the file can't be used as a device\n";
-    assert!(rt; reads(alloc, &refusals, lines)?);
-    Ok(())
+    assert!(rt; told && reads(alloc, &refusals, lines));
 }
 
 // A copy's refusals tell those of a ledger in a file, and of copying.
 #[test]
-fn refusals_of_ledgers_in_files_have_texts(rt: HostRuntime) -> Result<(), Fail> {
+fn refusals_of_ledgers_in_files_have_texts(rt: HostRuntime) {
     let (slots, found, needed) = (4, 54, 55);
     let part = PartFault::Short {
         slots,
@@ -327,6 +334,5 @@ fn refusals_of_ledgers_in_files_have_texts(rt: HostRuntime) -> Result<(), Fail> 
         the new device has too few sectors for the slots\n\
         the old device wasn't read: it holds no ledger\n\
         the new device failed\n";
-    assert!(rt; reads(rt.alloc(), &refusals, lines)?);
-    Ok(())
+    assert!(rt; reads(rt.alloc(), &refusals, lines));
 }

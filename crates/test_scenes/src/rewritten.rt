@@ -15,11 +15,11 @@ pub struct Rewritten {
 
 impl Rewritten {
     /// The device, of which nothing was read.
-    pub fn new(inner: MemoryDevice, at: u64, bytes: Sector) -> Rewritten {
+    pub fn new(inner: MemoryDevice, at: u64, bytes: &Sector) -> Rewritten {
         Rewritten {
             inner,
             at,
-            bytes,
+            bytes: *bytes,
             was_read: false,
         }
     }

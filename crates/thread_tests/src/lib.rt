@@ -13,8 +13,6 @@ mod closing;
 #[cfg(test)]
 mod moments;
 #[cfg(test)]
-mod paired;
-#[cfg(test)]
 mod runs;
 #[cfg(test)]
 mod waiting;

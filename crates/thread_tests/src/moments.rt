@@ -1,17 +1,17 @@
 //! What a station does when, as a gate sees it.
-use crate::runs::{PartRun, desks, played};
-use crate::waiting::wait_for;
-use station_desk::{End, Feed, Gate, Turn, desk};
+use crate::runs::{Remains, feeds_and_desks, played};
+use crate::waiting::{TRIES, wait_for};
+use station_desk::{End, Feed, Gate, Turn};
 use std::alloc::Global;
 use std::process::Abort;
 use std::sync::atomic::{AtomicU64, Ordering};
 use std::sync::{Mutex, Wait};
 use std::test::Fail;
 use std::thread::Threads;
-use test_scenes::{deposit, line};
+use test_scenes::{deposit, formatted};
 
-// Stands at the feed of a station: submits one more deposit each time that the station has gathered, and counts the
-// answers that it finds then and when it is told of a turn, or else when the station has answered.
+// Stands at the feed of the bottom station: submits one more deposit each time that this station has gathered, and
+// counts the answers that it finds then and when it is told of a turn, or else when the station has answered.
 #[derive(Drop)]
 struct AtTheFeed {
     feed: Mutex<Feed>,
@@ -21,7 +21,10 @@ struct AtTheFeed {
 }
 
 impl Gate for AtTheFeed {
-    fn gathered(&self, _station: u8) {
+    fn gathered(&self, station: u8) {
+        if station > 0 {
+            return;
+        }
         if let Some(mut feed) = self.feed.try_lock() {
             count_answers(&mut *feed, &self.before);
             let _ = feed.submit(deposit(1, 7));
@@ -57,54 +60,56 @@ fn count_answers(feed: &mut Feed, count: &AtomicU64) {
     }
 }
 
-// One turn of the bottom station with two deposits, beside such a gate.
-fn one_turn<R: Abort + Threads + Wait + Sync>(
+// Whether one turn of the bottom station, beside such a gate, posts the two deposits that were there before, and tells
+// of both in time.
+fn is_in_time<R: Abort + Threads + Wait + Sync>(
     rt: &R,
     alloc: Global,
     looks_at_the_turn: bool,
-) -> Result<(), Fail> {
-    let (mut feed, desk) = desk(alloc, 4)?;
-    assert!(rt; feed.submit(deposit(1, 5)) == Ok(0));
-    assert!(rt; feed.submit(deposit(1, 6)) == Ok(1));
+) -> Result<bool, Fail> {
+    let (mut feed, _, desks) = feeds_and_desks(alloc)?;
+    let _ = feed.submit(deposit(1, 5));
+    let _ = feed.submit(deposit(1, 6));
     let gate = AtTheFeed {
         feed: Mutex::new(feed),
         looks_at_the_turn,
         before: AtomicU64::new(0),
         after: AtomicU64::new(0),
     };
-    let mut desks = Vec::new(alloc);
-    desks.push(desk)?;
-    let run = PartRun {
-        first: 0,
-        desks,
-        gate: &gate,
-        moves: 1,
-        tries: 0,
+    let left = played(rt, alloc, formatted(alloc, 4)?, desks, &gate, 1, TRIES)?;
+    let wanted = Remains {
+        ends: [End::Reached; 2],
+        turns: [1, 0],
+        balance: Some(11),
     };
-    let left = played(rt, alloc, line([0, 0], [1, 0])?, run)?;
-
-    let bottom = left.get(0).ok_or("the bottom station")?;
-    assert!(rt; (bottom.end, bottom.turns.len()) == (End::Reached, 1));
-    let both = [deposit(1, 5), deposit(1, 6)];
-    assert!(rt; bottom.turns[0].entries.as_slice() == both.as_slice());
-    assert!(rt; gate.before.load(Ordering::SeqCst) == 0);
-    assert!(rt; gate.after.load(Ordering::SeqCst) == 2);
-    Ok(())
+    let before = gate.before.load(Ordering::SeqCst);
+    Ok(left == wanted && before == 0 && gate.after.load(Ordering::SeqCst) == 2)
 }
 
 #[test]
 fn answers_are_there_when_a_gate_hears_of_them_and_what_comes_after_gathering_waits(
     rt: HostRuntime,
 ) -> Result<(), Fail> {
-    one_turn(&rt, rt.alloc(), true)?;
-    one_turn(&rt, rt.alloc(), false)
+    assert!(rt; is_in_time(&rt, rt.alloc(), true)? && is_in_time(&rt, rt.alloc(), false)?);
+    Ok(())
 }
 
-// How often station 1 of three has gathered when station 0 takes its first turn, its second one, and asks for a third.
-const GATHERED: [u64; 3] = [3, 7, 10];
+// How the top station of two ends behind refusals, and the bottom one behind it: it was privileged again.
+fn gave_up(turns: [u64; 2]) -> Remains {
+    Remains {
+        ends: [End::Stopped, End::Tries],
+        turns,
+        balance: Some(0),
+    }
+}
+
+// How often station 1 has gathered when station 0 takes its first turn and its second one, and that it has ended.
+const GATHERED: [u64; 2] = [3, 6];
+
+const ENDED: u64 = 100;
 
 // Counts how often station 1 has gathered and station 0 has answered, and has the one wait for the other: station 0
-// takes a turn only after two refusals of station 1.
+// takes a turn only after two refusals of station 1, and its last one once station 1 has ended.
 #[derive(Drop)]
 struct AfterRefusals {
     gathered: AtomicU64,
@@ -115,14 +120,14 @@ impl Gate for AfterRefusals {
     fn gathered(&self, station: u8) {
         if station == 0 {
             let answered = self.answered.load(Ordering::SeqCst);
-            let gathered = GATHERED.get(answered as usize).unwrap_or(&0);
+            let gathered = GATHERED.get(answered as usize).unwrap_or(&ENDED);
             wait_for(&self.gathered, *gathered);
             return;
         }
         let before = self.gathered.fetch_add(1, Ordering::SeqCst);
         match before {
             2 => wait_for(&self.answered, 1),
-            6 => wait_for(&self.answered, 2),
+            5 => wait_for(&self.answered, 2),
             _ => {}
         }
     }
@@ -132,10 +137,15 @@ impl Gate for AfterRefusals {
             self.answered.fetch_add(1, Ordering::SeqCst);
         }
     }
+
+    fn ended(&self, station: u8) {
+        if station == 1 {
+            self.gathered.fetch_add(ENDED, Ordering::SeqCst);
+        }
+    }
 }
 
-// Station 1 is refused twice, moves up and down again, is refused twice, moves up, and is refused three times. Station
-// 0 isn't privileged then.
+// Station 1 is refused twice, takes a turn, is refused twice, takes a turn, and is refused three times.
 #[test]
 fn tries_begin_anew_with_a_turn(rt: HostRuntime) -> Result<(), Fail> {
     let alloc = rt.alloc();
@@ -143,25 +153,14 @@ fn tries_begin_anew_with_a_turn(rt: HostRuntime) -> Result<(), Fail> {
         gathered: AtomicU64::new(0),
         answered: AtomicU64::new(0),
     };
-    let line = line([0, 0, 1], [1, 0, 0])?;
-    let run = PartRun {
-        first: 0,
-        desks: desks(alloc, 2)?,
-        gate: &gate,
-        moves: 100,
-        tries: 2,
-    };
-    let left = played(&rt, alloc, line, run)?;
-
-    let station = left.get(1).ok_or("station 1")?;
-    assert!(rt; (station.end, station.turns.len()) == (End::Tries, 3));
-    assert!(rt; gate.gathered.load(Ordering::SeqCst) == 10);
-    assert!(rt; gate.answered.load(Ordering::SeqCst) == 2);
+    let (_, _, desks) = feeds_and_desks(alloc)?;
+    let left = played(&rt, alloc, formatted(alloc, 4)?, desks, &gate, 100, 2)?;
+    assert!(rt; left == gave_up([3, 2]) && gate.gathered.load(Ordering::SeqCst) == 9 + ENDED);
     Ok(())
 }
 
-// After a turn of station 0 of three station 1 moves up and down again, which gives station 0 the privilege anew, and
-// asks in vain. Station 0 waits until it has ended.
+// After a turn of station 0 station 1 takes one, which gives station 0 the privilege anew, and asks in vain. Station 0
+// waits until it has ended.
 #[derive(Drop)]
 struct PrivilegedAnew {
     answers: AtomicU64,
@@ -196,18 +195,8 @@ fn a_station_that_gives_up_stops_one_that_is_privileged(rt: HostRuntime) -> Resu
         answers: AtomicU64::new(0),
         ends: AtomicU64::new(0),
     };
-    let line = line([0, 0, 1], [1, 0, 0])?;
-    let run = PartRun {
-        first: 0,
-        desks: desks(alloc, 2)?,
-        gate: &gate,
-        moves: 100,
-        tries: 0,
-    };
-    let left = played(&rt, alloc, line, run)?;
-
-    assert!(rt; left.len() == 2);
-    assert!(rt; (left[0].end, left[1].end) == (End::Stopped, End::Tries));
-    assert!(rt; (left[0].turns.len(), left[1].turns.len()) == (1, 2));
+    let (_, _, desks) = feeds_and_desks(alloc)?;
+    let left = played(&rt, alloc, formatted(alloc, 4)?, desks, &gate, 100, 0)?;
+    assert!(rt; left == gave_up([1, 1]));
     Ok(())
 }

@@ -1,95 +1,73 @@
-//! A run of some stations of a line, with a gate that a test gives.
-ghost use Rattle.sector_device.specs.MemoryDevice.{memory_device_state};
-ghost use Rattle.line_lock.specs.OpenedOn.{Names};
-
-use line_lock::{Blank, Count, Line, Office, OpenedOn, Turn};
-use sector_device::MemoryDevice;
-use station_desk::{Desk, End, Gate, Station, desk, run_stations};
-use std::alloc::{AllocError, Global};
-use std::marker::Brand;
+//! A run of the two stations of an office, with a gate that a test gives.
+use line_lock::Turn;
+use office_day::{Closing, Left, run_office};
+use sector_device::Device;
+use station_desk::{Desk, End, Feed, Gate, desk};
+use std::alloc::Global;
 use std::process::Abort;
 use std::sync::Wait;
 use std::test::Fail;
 use std::thread::Threads;
-use test_scenes::formatted;
+use test_scenes::line;
 
-// What a run leaves of a station: how it ended, the turns that it took, and when it was last denied one.
-#[derive(Drop)]
-pub struct Left {
-    pub end: End,
-    pub turns: Vec<Turn>,
-    pub denied: Option<u64>,
+// How many requests a feed has room for.
+pub const PLACES: u64 = 4;
+
+// What a run leaves: how each station ended, how many turns it took, and what account 1 holds.
+#[derive(Clone, Copy, PartialEq, Eq)]
+pub struct Remains {
+    pub ends: [End; 2],
+    pub turns: [u64; 2],
+    pub balance: Option<u64>,
 }
 
-// A run: as many stations as there are desks, from this one on.
-#[derive(Drop)]
-pub struct PartRun<'a, G> {
-    pub first: usize,
-    pub desks: Vec<Desk>,
-    pub gate: &'a G,
-    pub moves: u64,
-    pub tries: u64,
-}
-
-// The run, over an empty journal.
-pub fn played<'a, G: Gate + Sync, R: Abort + Wait + Threads + Sync>(
+// The run, until so many turns are taken. The bottom station is privileged at its start.
+pub fn played<D: Device + Send + Drop, G: Gate + Sync, R: Abort + Threads + Wait + Sync>(
     rt: &R,
     alloc: Global,
-    line: Line,
-    run: PartRun<'a, G>,
-) -> Result<Vec<Left>, Fail> {
-    let blank = Blank::new(line.stations() as u64);
-    let device = formatted(alloc, 4)?;
-    play_in::<G, Brand, R>(rt, alloc, device, line, blank, run)
+    device: D,
+    desks: Vec<Desk>,
+    gate: &G,
+    moves: u64,
+    tries: u64,
+) -> Result<Remains, Fail> {
+    let line = line([0, 0], [1, 0])?;
+    assert!(rt; desks.len() == line.stations() as usize);
+    match run_office(rt, alloc, device, line, desks, gate, moves, tries) {
+        Ok((closing, left)) => Ok(of_run(&closing, left.as_slice())),
+        Err((_, refusal)) => Err(Fail::from(refusal)),
+    }
 }
 
-fn play_in<'a, G: Gate + Sync, L: Count + OpenedOn + Send + Sync, R: Abort + Wait + Threads + Sync>(
-    rt: &R,
-    alloc: Global,
-    device: MemoryDevice,
-    line: Line,
-    blank: Blank,
-    run: PartRun<'a, G>,
-) -> Result<Vec<Left>, Fail>
-    requires { Names L.name L.parts L.device L.line blank (memory_device_state device) line }
-{
-    let (office, seats) = match Office::<MemoryDevice, L>::open(alloc, device, line, blank) {
-        Ok(opened) => opened,
-        Err((_, refusal)) => panic!(rt; "{refusal}"),
-    };
-    let PartRun {
-        first,
-        desks,
-        gate,
-        moves,
-        tries,
-    } = run;
-    let mut stations = Vec::new(alloc);
-    for (seat, desk) in seats.into_iter().skip(first).zip(desks) {
-        let end = End::NotStarted;
-        stations.push(Station { seat, desk, end })?;
+fn of_run<D: Device>(closing: &Closing<D>, left: &[Left]) -> Remains {
+    let history = closing.clerk.history();
+    Remains {
+        ends: [end_of(left, 0), end_of(left, 1)],
+        turns: [turns_of(history, 0), turns_of(history, 1)],
+        balance: closing.clerk.ledger().balance(1),
     }
-    run_stations(rt, &office, stations.as_mut_slice(), gate, moves, tries);
-    left_by(alloc, stations)
 }
 
-fn left_by<L: Count>(alloc: Global, stations: Vec<Station<L>>) -> Result<Vec<Left>, Fail> {
-    let mut left = Vec::new(alloc);
-    for Station { seat, end, .. } in stations {
-        let mut turns = Vec::new(alloc);
-        turns.extend_from_slice(seat.turns())?;
-        let denied = seat.denied();
-        left.push(Left { end, turns, denied })?;
+fn end_of(left: &[Left], station: usize) -> End {
+    match left.get(station) {
+        Some(station) => station.end,
+        None => End::NotStarted,
     }
-    Ok(left)
 }
 
-// Desks that nobody stands at.
-pub fn desks(alloc: Global, count: usize) -> Result<Vec<Desk>, AllocError> {
-    let mut desks = Vec::new(alloc);
-    for _ in 0..count {
-        let (_, desk) = desk(alloc, 4)?;
-        desks.push(desk)?;
+fn turns_of(history: &[Turn], station: u8) -> u64 {
+    let mut count: u64 = 0;
+    for turn in history {
+        if turn.station == station {
+            count = count.saturating_add(1);
+        }
     }
-    Ok(desks)
+    count
+}
+
+// The feed of the bottom station, that of the top one, and both desks.
+pub fn feeds_and_desks(alloc: Global) -> Result<(Feed, Feed, Vec<Desk>), Fail> {
+    let (bottom_feed, bottom) = desk(alloc, PLACES as usize)?;
+    let (top_feed, top) = desk(alloc, PLACES as usize)?;
+    Ok((bottom_feed, top_feed, vec![in alloc; bottom, top]?))
 }
