@@ -103,6 +103,7 @@ fn gather_runs_beside_sync(rt: HostRuntime) -> Result<(), Fail> {
     let alloc = rt.alloc();
     let line = line([0, 0], [1, 0])?;
     let flags = Arc::new(alloc, HeldFlags::new())?;
+    let are_down = !flags.begun.load(Ordering::SeqCst) && !flags.go.load(Ordering::SeqCst);
     let device = Held::new(formatted(alloc, 4)?, 1, Arc::try_clone(&flags)?);
     let gate = BesideSync {
         flags,
@@ -112,7 +113,7 @@ fn gather_runs_beside_sync(rt: HostRuntime) -> Result<(), Fail> {
     };
     let (mut feed, desks) = two_desks(&rt, alloc)?;
     let balance = one_turn(&rt, alloc, device, line, desks, &gate);
-    assert!(rt; balance == Some(5) && gate.seen.load(Ordering::SeqCst));
+    assert!(rt; are_down && balance == Some(5) && gate.seen.load(Ordering::SeqCst));
     let outcome = feed.answer().map(|answer| answer.outcome);
     assert!(rt; outcome == Some(Outcome::Posted(0)));
     Ok(())
