@@ -1,14 +1,12 @@
 #!/usr/bin/env bash
-# Refuses the requests for memory of the tests of `refused_memory` and of the program, one in each run, the first
-# request, then the second, until a run makes no more; and so the requests for a thread. A test passes, and tells of one
-# call at most; each call that may tell of want of memory does so in some run. The program ends with `out of memory` and
-# a prefix of its output, or tells of it in a line. Requests that nobody told of are listed.
+# Refuses the requests for memory of the program, one in each run, the first request, then the second, until a run makes
+# no more; and so the requests for a thread. The program ends with `out of memory` and a prefix of its output, or tells of
+# it in a line. A file is as before, or has all its sectors, and the same command does it once nothing is refused.
 #
-# Words: the program that was built, and the tests that were. Needed beside the toolchain: Python, and `cc` and `nm`
-# (package gcc). The file devices are made below the folder BENCH_FOLDER, /var/tmp without it.
+# Word: the program that was built. Needed beside the toolchain: Python, and `cc` and `nm` (package gcc). The file devices
+# are made below the folder BENCH_FOLDER, /var/tmp without it.
 set -euo pipefail
-program=$(realpath "${1:?the first word is the program that was built}")
-tests=$(realpath "${2:?the second word is the tests of refused_memory that were built}")
+program=$(realpath "${1:?the word is the program that was built}")
 for tool in cc nm; do
     command -v "$tool" > /dev/null || { echo "$tool is missing (package gcc)"; exit 1; }
 done
@@ -18,4 +16,4 @@ trap 'rm -rf "$work"' EXIT
 
 cc -O1 -Wall -shared -fPIC -o "$work/refuse.so" checks/refused_memory/refuse.c
 export PYTHONDONTWRITEBYTECODE=1
-python3 checks/refused_memory/check.py "$program" "$tests" "$work"
+python3 checks/refused_memory/check.py "$program" "$work"

@@ -22,12 +22,13 @@ CALLS = (5 + SNAPSHOT + 1) + (2 * 2 + 3 + SNAPSHOT) + (1 + 2 * 2 + 2)
 OUTCOMES = 119 + 16 * 256 + 15
 
 ANSWER = re.compile(r"amount: (\d+), reference: 0 \}, outcome: (Posted\((\d+)\)|Undecided)")
-ENDS = ("Reached", "Stopped", "Refused(Faulted)", "Refused(Device)")
 
 
 class Told:
     """What clients were told: the sums of the deposits that are posted, and that nobody knows of, and how many batches stand
     at least."""
+
+    ENDS = ("Reached", "Stopped", "Refused(Faulted)", "Refused(Device)")
 
     def __init__(self, answers):
         self.posted = self.undecided = self.batches = 0
@@ -39,7 +40,7 @@ class Told:
     def hear(self, end, given, unanswered):
         """How a station ended, its answers, and its requests without one: one of both, and if the device failed in its turn an
         answer."""
-        require(end.removeprefix("end ") in ENDS, end)
+        require(end.removeprefix("end ") in self.ENDS, end)
         answers = ANSWER.findall(given)
         require_same(len(answers) + unanswered.count("Ask {"), 1, f"answers and requests: {given} {unanswered}")
         require(not (end == "end Refused(Device)" and not answers), f"no answer of a station whose device failed: {unanswered}")

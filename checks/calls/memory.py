@@ -10,6 +10,7 @@ import subprocess
 import sys
 import tempfile
 
+import day_memory
 import office_memory
 from console import Console, Mismatch, require, require_same
 
@@ -43,9 +44,10 @@ class Refusing(Console):
         os.close(TELLS)
         self.said = []
 
-    def refuse(self, number, line):
-        """The answer to a line while the request of that number is refused, and whether so many were made."""
-        answer = self.hear(f"refuse {number}\n{line}\nmark answered\n", 1)[0]
+    def refuse(self, number, line, kind=""):
+        """The answer to a line while the request of that number is refused, and whether so many were made. The kind `thread `
+        is for threads."""
+        answer = self.hear(f"refuse {kind}{number}\n{line}\nmark answered\n", 1)[0]
         try:
             return answer, bool(os.read(self.tells, 1 << 10))
         except BlockingIOError:
@@ -170,6 +172,9 @@ def main():
             for row in ROWS:
                 print(f"{row.name}: {refuse_each(console, row)} requests were refused in turn", flush=True)
             print(f"an office works: {office_memory.refuse_each(console)} requests were refused in turn", flush=True)
+            print(f"what a station holds is kept: {day_memory.refuse_kept(console)} requests were refused in turn", flush=True)
+            memory, threads = day_memory.refuse_each(console)
+            print(f"a day is had: {memory} requests and {threads} threads were refused in turn", flush=True)
         except Mismatch as told:
             sys.exit(str(told))
         finally:

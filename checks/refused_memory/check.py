@@ -1,23 +1,13 @@
-"""Refuses each request for memory, and for a thread, of the tests of `refused_memory` and of the program.
+"""Refuses each request for memory, and for a thread, of the program.
 
-Words: the program, the tests, and a folder with the library that refuses.
+Words: the program, and a folder with the library that refuses.
 """
 import re
 import sys
-from collections import Counter
 from itertools import zip_longest
 from pathlib import Path
 
 from refusing import Refuser, requests_beside
-
-# The calls that may tell of want of memory. A call's own device is a request of the memory device within it.
-CALLS = {
-    "FileDevice::open", "HeldEntries::new", "HeldFlags in an Arc", "run_day", "run_stations",
-}
-# Openings make one call of the device that takes memory, their sync, and it has none left only where its record is
-# full.
-BY_THE_DEVICE = {f"{call}, by its device" for call in ("run_day", "run_stations")}
-THREADS = "days::a_day_is_had"
 
 DEPOSIT = b"format 4\nopen 3 000 100\npost 0 deposit 1 500\nturn 0\nbalances\ncrash\nopen 3 111 110\nbalances\n"
 DAY = Path("examples/three_stations")
@@ -26,6 +16,9 @@ OLDER = b"".join(bytes.fromhex(sector).ljust(512, b"\0") for sector in (
     "544c4447 0001 0000 0000000000000004",
     "544c4231 0000 0001" + 24 * "00" + "01000000 00000000 00000001 00000000 00000000000001f4 0000000000000003",
     "a5", "", "", "", "", "", ""))
+# A sector's bytes, and how many sectors a file gets.
+SECTOR = 512
+SECTORS = 600
 # How long a day is waited for. The stations of one whose thread was refused ask 100,000,000 times before they give up.
 SECONDS_OF_A_DAY = 5
 # All else ends at once, and is waited for longer than any machine needs.
@@ -35,38 +28,6 @@ IN_A_LINE = re.compile(rb"^(refused|station \d+) (Memory|Device)$")
 
 def fail(said):
     sys.exit(f"refused memory: {said}")
-
-
-def names_of(refuser, tests):
-    """The tests by name, as the program of the tests lists them."""
-    listed = refuser.run([tests, "--list"], "REQUEST", 0)
-    names = re.findall(r"^(\w+(?:::\w+)+)", listed.printed.decode(), re.MULTILINE)
-    if THREADS not in names:
-        fail(f"the tests aren't those of refused_memory:\n{listed.printed.decode()}{listed.told.decode()}")
-    return names
-
-
-def lines_told(name, number, run):
-    """The calls that a run of a test told of: one at most."""
-    lines = re.findall(r"^told (.*)$", run.printed.decode(), re.MULTILINE)
-    if run.status != 0 or len(lines) > (1 if number else 0):
-        fail(f"{name}, request {number}: status {run.status}\n{run.printed.decode()}{run.told.decode()}")
-    return lines
-
-
-def try_tests(refuser, tests, told):
-    """Each test passes in each run. What calls tell is counted."""
-    for name in names_of(refuser, tests):
-        lines_told(name, 0, refuser.run([tests, name], "REQUEST", 0))
-        runs = list(refuser.each([tests, name], "REQUEST"))
-        if name == THREADS:
-            runs += refuser.each([tests, name], "THREAD")
-        silent = []
-        for number, run in runs:
-            lines = lines_told(name, number, run)
-            told.update(lines)
-            silent += [] if lines else [str(number)]
-        print(f"{name}: {len(runs)} requests refused, of which nobody told of {', '.join(silent) or 'none'}", flush=True)
 
 
 def first_other_line(printed, whole):
@@ -110,20 +71,45 @@ def try_program(refuser, name, words, given):
     print(f"the program, {name}: {kinds['REQUEST']} requests and {kinds['THREAD']} threads refused, {in_vain} waited in vain")
 
 
-def main(program, tests, folder):
-    for made in (program, tests):
-        if others := requests_beside(made):
-            fail(f"{made} takes memory by {', '.join(others)} too")
-    refuser, told = Refuser(folder), Counter()
-    try_tests(refuser, tests, told)
-    if missing := CALLS - told.keys():
-        fail(f"nobody told of want of memory in {', '.join(sorted(missing))}")
-    if unknown := told.keys() - CALLS - BY_THE_DEVICE:
-        fail(f"not listed here: {', '.join(sorted(unknown))}")
-    for call, count in sorted(told.items()):
-        print(f"{call}: told of {count}")
+def try_file(refuser, name, program, before):
+    """A file is made, or grows to all its sectors. Nothing is made and nothing grows while a request up to its opening is
+    refused; behind that it has them all. Then the same command is as if none had been refused."""
+    ledger = refuser.folder / "ledger"
+    words, given, whole = [program, "--device", "ledger", "--sectors", str(SECTORS)], b"bits\n", bytes(SECTORS * SECTOR)
+
+    def fresh():
+        ledger.unlink(missing_ok=True)
+        if before is not None:
+            ledger.write_bytes(before)
+
+    def found():
+        return ledger.read_bytes() if ledger.exists() else None
+
+    held = []
+    for number, run in refuser.each(words, "REQUEST", given, before=fresh):
+        of = f"{name}, request {number}: status {run.status}\n{run.printed.decode()}{run.told.decode()}"
+        if run.status == 1 and run.told == b"out of memory\n":
+            held.append(found())
+            if held[-1] not in (before, whole) or held[-1] == before and whole in held:
+                fail(f"{of}the file has {len(held[-1] or b'')} bytes")
+        elif run.status != 0 or run.told:
+            fail(of)
+        again = refuser.run(words, "REQUEST", 0, given)
+        if (again.status, again.told, found()) != (0, b"", whole):
+            fail(f"{of}the same again: status {again.status}\n{again.told.decode()}")
+    if before not in held or whole not in held:
+        fail(f"{name}: nobody told of want of memory on both sides of the opening")
+    print(f"{name}: {len(held)} requests were refused in turn")
+
+
+def main(program, folder):
+    if others := requests_beside(program):
+        fail(f"{program} takes memory by {', '.join(others)} too")
+    refuser = Refuser(folder)
     try_program(refuser, "a deposit", [program], DEPOSIT)
     try_program(refuser, "a deposit in a file", [program, "--device", "ledger"], DEPOSIT)
+    try_file(refuser, "a file is made", program, None)
+    try_file(refuser, "a file is grown", program, bytes(3 * SECTOR))
     (refuser.folder / "older").write_bytes(OLDER)
     upgrade = [program, "--migrate", "older", "--device", "ledger", "--slots", "4"]
     try_program(refuser, "an upgrade", upgrade, b"open 2 00 10\nbalances\n")

@@ -67,27 +67,18 @@ fn call_in<L: Count + OpenedOn + Send + Sync, R: Threads + Wait + Sync>(
 {
     let (office, seats) = match Office::<Bench, L>::open(hand.alloc, device, line, blank) {
         Ok(opened) => opened,
-        Err((device, refusal)) => {
-            told.refused(&refusal);
-            return Scene::Device(device);
-        }
+        Err(refused) => return Scene::Device(told.handed_back(refused)),
     };
     let seats = match do_work(rt, &office, seats, hand, work, told) {
         Ok(seats) => seats,
-        Err(error) => {
-            told.refused(&error);
-            return Scene::Device(office.given_up());
-        }
+        Err(error) => return Scene::Device(told.handed_back((office.given_up(), error))),
     };
     match office.close(seats) {
         Ok(Closing { clerk, audit }) => {
             told.audit(&audit);
             Scene::Clerk(clerk)
         }
-        Err((office, _, refusal)) => {
-            told.refused(&refusal);
-            Scene::Device(office.given_up())
-        }
+        Err((office, _, refusal)) => Scene::Device(told.handed_back((office.given_up(), refusal))),
     }
 }
 

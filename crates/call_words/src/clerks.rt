@@ -19,10 +19,7 @@ pub fn open_clerk(device: Bench, hand: &mut Hand, said: &mut Said<'_>, told: &mu
             told.ledger(clerk.next(), clerk.ledger());
             Scene::Clerk(clerk)
         }
-        Err((device, refusal)) => {
-            told.refused(&refusal);
-            Scene::Device(device)
-        }
+        Err(refused) => Scene::Device(told.handed_back(refused)),
     }
 }
 
@@ -38,6 +35,18 @@ pub fn ask(
         "turn" => turn(clerk, hand, said, told),
         "event" => add_event(hand, said, told),
         "run" => run_events(clerk, hand, told),
+        "find" => find(clerk, said, told),
+        "latest" => latest(clerk, said, told),
+        "look" => begin_look(hand, said, told),
+        "step" => step(clerk, hand, told),
+        "fault" => set_fault(hand, said, told),
+        _ => tell(clerk, name, said, told),
+    }
+}
+
+// A word for what a clerk tells of itself.
+fn tell(clerk: &Clerk<Bench>, name: &str, said: &mut Said<'_>, told: &mut Told) {
+    match name {
         "ledger" => told.ledger(clerk.next(), clerk.ledger()),
         "line" => told.line_of(&clerk.line()),
         "history" => tell_history(clerk, told),
@@ -46,11 +55,6 @@ pub fn ask(
         "in_flight" => tell_in_flight(clerk, told),
         "faulted" => told.value(&clerk.is_faulted()),
         "shown" => told.value(clerk),
-        "find" => find(clerk, said, told),
-        "latest" => latest(clerk, said, told),
-        "look" => begin_look(hand, said, told),
-        "step" => step(clerk, hand, told),
-        "fault" => set_fault(hand, said, told),
         _ => told.line("no such word of a clerk"),
     }
 }
@@ -112,10 +116,7 @@ fn turn(clerk: &mut Clerk<Bench>, hand: &mut Hand, said: &mut Said<'_>, told: &m
     if !said.is_right(told) {
         return;
     }
-    match clerk.turn(station, hand.entries.as_slice()) {
-        Ok(turn) => told.turn(&turn),
-        Err(refusal) => told.refused(&refusal),
-    }
+    told.turned(&clerk.turn(station, hand.entries.as_slice()));
 }
 
 // `event STATION [ENTRY]..`: the next event of a run.
@@ -140,10 +141,7 @@ fn run_events(clerk: &mut Clerk<Bench>, hand: &mut Hand, told: &mut Told) {
     }
     hand.events.clear();
     for reply in replies.iter() {
-        match reply {
-            Ok(turn) => told.turn(turn),
-            Err(refusal) => told.refused(refusal),
-        }
+        told.turned(reply);
     }
 }
 

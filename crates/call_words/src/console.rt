@@ -109,36 +109,23 @@ impl Console {
     pub fn run<R: Threads + Wait + Sync>(&mut self, rt: &R, line: &str) -> bool {
         let line = line.trim_end();
         let mut said = Said::of(line);
-        let Some(name) = said.word() else {
-            return false;
-        };
-        if name.starts_with('#') {
-            return false;
-        }
+        let name = said.word().unwrap_or("#");
         if name == "mark" {
             self.told.line(line);
             return true;
         }
-        let scene = mem::replace(&mut self.scene, Scene::Nothing);
-        self.scene = match scene {
-            Scene::Office(planned) if name == "close" => {
-                play(rt, planned, &mut self.hand, &mut self.told)
-            }
-            Scene::Office(mut planned) => {
-                planned.add(line, &mut self.told);
-                Scene::Office(planned)
-            }
-            Scene::Device(device) if name == "day" => {
-                have_day(rt, device, &mut self.hand, &mut said, &mut self.told)
-            }
-            Scene::Device(device) if name == "callers" || name == "stations" => {
-                call_in_threads(rt, device, &mut self.hand, name, &mut said, &mut self.told)
-            }
-            Scene::Device(device) if name == "spans" => {
-                have_spans(rt, device, &mut self.hand, &mut said, &mut self.told)
-            }
-            scene => scene.run(&mut self.hand, name, &mut said, &mut self.told),
-        };
+        if !name.starts_with('#') {
+            let scene = mem::replace(&mut self.scene, Scene::Nothing);
+            self.scene = next(
+                rt,
+                scene,
+                line,
+                &mut self.hand,
+                name,
+                &mut said,
+                &mut self.told,
+            );
+        }
         false
     }
 
@@ -162,42 +149,104 @@ fn no_accounts(alloc: Global) -> Result<Box<Snapshot>, AllocError> {
     Ok(Box::new(alloc, snapshot)?)
 }
 
+// What is in hand behind a line.
+fn next<R: Threads + Wait + Sync>(
+    rt: &R,
+    scene: Scene,
+    line: &str,
+    hand: &mut Hand,
+    name: &str,
+    said: &mut Said<'_>,
+    told: &mut Told,
+) -> Scene {
+    match scene {
+        Scene::Office(planned) => plan_or_play(rt, planned, line, hand, name, told),
+        Scene::Device(device) => use_device(rt, device, hand, name, said, told),
+        scene => scene.run(hand, name, said, told),
+    }
+}
+
+// The next line of an office, or its end.
+fn plan_or_play<R: Wait>(
+    rt: &R,
+    mut planned: Planned,
+    line: &str,
+    hand: &mut Hand,
+    name: &str,
+    told: &mut Told,
+) -> Scene {
+    if name == "close" {
+        return play(rt, planned, hand, told);
+    }
+    planned.add(line, told);
+    Scene::Office(planned)
+}
+
+// A word of a device, in threads or not.
+fn use_device<R: Threads + Wait + Sync>(
+    rt: &R,
+    device: Bench,
+    hand: &mut Hand,
+    name: &str,
+    said: &mut Said<'_>,
+    told: &mut Told,
+) -> Scene {
+    match name {
+        "day" => have_day(rt, device, hand, said, told),
+        "callers" | "stations" => call_in_threads(rt, device, hand, name, said, told),
+        "spans" => have_spans(rt, device, hand, said, told),
+        _ => Scene::Device(device).run(hand, name, said, told),
+    }
+}
+
 impl Scene {
     // Does what the word asks for.
     fn run(self, hand: &mut Hand, name: &str, said: &mut Said<'_>, told: &mut Told) -> Scene {
         match name {
-            "nothing" => return Scene::Nothing,
-            "device" => return devices::new_device(hand, said, told),
-            "other" => return change(self, hand),
-            "close" => return self.closed(),
-            _ => {}
-        }
-        match self {
-            Scene::Nothing => begin(hand, name, said, told),
-            Scene::Device(device) if devices::begins(name) => {
-                devices::begin(device, hand, name, said, told)
-            }
-            Scene::Line(_) if name == "line" => lines::new_line(said, told),
-            Scene::Desk(pair) => desks::run(pair, hand, name, said, told),
-            Scene::Filling(filling) => fillings::run(filling, hand, name, said, told),
-            mut scene => {
-                scene.ask(hand, name, said, told);
-                scene
-            }
+            "nothing" => Scene::Nothing,
+            "device" => devices::new_device(hand, said, told),
+            "other" => change(self.device(), hand),
+            "close" => self.closed(),
+            _ => self.ask(hand, name, said, told),
         }
     }
 
-    // Asks what is in hand, which stays there.
-    fn ask(&mut self, hand: &mut Hand, name: &str, said: &mut Said<'_>, told: &mut Told) {
+    // Asks what is in hand.
+    fn ask(self, hand: &mut Hand, name: &str, said: &mut Said<'_>, told: &mut Told) -> Scene {
         match self {
-            Scene::Device(device) => devices::ask(device, hand, name, said, told),
-            Scene::Line(line) => lines::ask(line, hand, name, said, told),
-            Scene::Ledger(ledger) => ledgers::ask(ledger, hand, name, said, told),
-            Scene::Journal(journal) => journals::ask(journal, hand, name, said, told),
-            Scene::Listing(listing) => listings::ask(listing, hand, name, said, told),
-            Scene::Clerk(clerk) => clerks::ask(clerk, hand, name, said, told),
-            Scene::Stacked(stacked) => stacked::ask(stacked, hand, name, said, told),
-            Scene::Nothing | Scene::Desk(_) | Scene::Filling(_) | Scene::Office(_) => {}
+            Scene::Device(device) => devices::run(device, hand, name, said, told),
+            Scene::Desk(pair) => desks::run(pair, hand, name, said, told),
+            Scene::Filling(filling) => fillings::run(filling, hand, name, said, told),
+            Scene::Journal(mut journal) => {
+                journals::ask(&mut journal, hand, name, said, told);
+                Scene::Journal(journal)
+            }
+            Scene::Listing(mut listing) => {
+                listings::ask(&mut listing, hand, name, said, told);
+                Scene::Listing(listing)
+            }
+            Scene::Clerk(mut clerk) => {
+                clerks::ask(&mut clerk, hand, name, said, told);
+                Scene::Clerk(clerk)
+            }
+            Scene::Stacked(mut stacked) => {
+                stacked::ask(&mut stacked, hand, name, said, told);
+                Scene::Stacked(stacked)
+            }
+            Scene::Line(line) => lines::run(line, hand, name, said, told),
+            Scene::Ledger(mut ledger) => {
+                ledgers::ask(&mut ledger, hand, name, said, told);
+                Scene::Ledger(ledger)
+            }
+            Scene::Nothing | Scene::Office(_) => begin(hand, name, said, told),
+        }
+    }
+
+    // The device, if nothing stands on one.
+    fn device(self) -> Option<Bench> {
+        match self {
+            Scene::Device(device) => Some(device),
+            _ => None,
         }
     }
 
@@ -228,14 +277,9 @@ fn begin(hand: &mut Hand, name: &str, said: &mut Said<'_>, told: &mut Told) -> S
 }
 
 // `other`: the other device is in hand from now on, and the one in hand is the other.
-fn change(scene: Scene, hand: &mut Hand) -> Scene {
+fn change(device: Option<Bench>, hand: &mut Hand) -> Scene {
     mem::swap(&mut hand.switch, &mut hand.other_switch);
-    let other = hand.other.take();
-    hand.other = match scene {
-        Scene::Device(device) => Some(device),
-        _ => None,
-    };
-    match other {
+    match mem::replace(&mut hand.other, device) {
         Some(device) => Scene::Device(device),
         None => Scene::Nothing,
     }

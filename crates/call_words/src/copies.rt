@@ -7,7 +7,7 @@ use crate::told::Told;
 use device_drawing::locate;
 use gate_journal::OldJournal;
 use journal_recovery::{copy, may_hold_postings, migrate, recover};
-use ledger_reading::{Listing, look};
+use ledger_reading::{Listing, Sound, look};
 use office_day::MemoryArchive;
 
 /// `migrate SLOTS`, `copy SLOTS`: an older ledger, or one of the present layout, to the other device.
@@ -42,10 +42,7 @@ pub fn show_old(device: Bench, told: &mut Told) -> Scene {
             tell_old(&mut journal, told);
             Scene::Device(journal.into_device())
         }
-        Err((device, refusal)) => {
-            told.refused(&refusal);
-            Scene::Device(device)
-        }
+        Err(refused) => Scene::Device(told.handed_back(refused)),
     }
 }
 
@@ -61,22 +58,19 @@ fn tell_old(journal: &mut OldJournal<Bench>, told: &mut Told) {
         if number < journal.base() || number >= journal.next() {
             break;
         }
-        match journal.read_record(number) {
-            Ok(record) => told.record(&record),
-            Err(refusal) => told.refused(&refusal),
-        }
+        told.record_read(&journal.read_record(number));
     }
 }
 
 /// `list`: what a ledger of any layout holds, and each record that is in sight.
 pub fn list(device: Bench, hand: &mut Hand, told: &mut Told) -> Scene {
-    let sound = match look(hand.alloc, device) {
-        Ok(sound) => sound,
-        Err((device, refusal)) => {
-            told.refused(&refusal);
-            return Scene::Device(device);
-        }
-    };
+    match look(hand.alloc, device) {
+        Ok(sound) => list_all(sound, told),
+        Err(refused) => Scene::Device(told.handed_back(refused)),
+    }
+}
+
+fn list_all(sound: Sound<Bench>, told: &mut Told) -> Scene {
     let numbers = sound.journal.numbers();
     told.value(&numbers);
     told.ledger(numbers.next, &sound.ledger);
@@ -85,10 +79,7 @@ pub fn list(device: Bench, hand: &mut Hand, told: &mut Told) -> Scene {
             tell_all(&mut listing, told);
             Scene::Device(listing.into_device())
         }
-        Err((device, refusal)) => {
-            told.refused(&refusal);
-            Scene::Device(device)
-        }
+        Err(refused) => Scene::Device(told.handed_back(refused)),
     }
 }
 
@@ -106,10 +97,7 @@ pub fn recovered(device: Bench, hand: &mut Hand, told: &mut Told) -> Scene {
             told.ledger(found.journal.next(), &found.ledger);
             Scene::Device(found.journal.into_device())
         }
-        Err((device, refusal)) => {
-            told.refused(&refusal);
-            Scene::Device(device)
-        }
+        Err(refused) => Scene::Device(told.handed_back(refused)),
     }
 }
 

@@ -9,7 +9,8 @@ use std::mem;
 
 /// `pick AT HEX`: what the next power loss leaves in a sector, which the last byte fills.
 pub fn pick(hand: &mut Hand, said: &mut Said<'_>, told: &mut Told) {
-    let (at, sector) = (said.number(), read_sector(said));
+    let at = said.number();
+    let sector = read_sector(said);
     if said.is_right(told) && hand.picks.list.push((at, sector)).is_err() {
         told.line("no memory");
     }

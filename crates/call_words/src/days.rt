@@ -29,8 +29,8 @@ pub fn hold(hand: &mut Hand, said: &mut Said<'_>, told: &mut Told) {
     }
 }
 
-/// `day STATIONS XBITS UPBITS MOVES`: an office on the device is open until so many turns are taken. Its clerk is in
-/// hand then.
+/// `day STATIONS XBITS UPBITS MOVES [TRIES]`: an office on the device is open until so many turns are taken. Its clerk
+/// is in hand then.
 pub fn have_day<R: Threads + Wait + Sync>(
     rt: &R,
     device: Bench,
@@ -41,19 +41,24 @@ pub fn have_day<R: Threads + Wait + Sync>(
     let Some(line) = read_line(said, told) else {
         return Scene::Device(device);
     };
-    let (moves, held) = (said.number(), hand.held.as_slice());
+    let (moves, tries, held) = (said.number(), read_tries(said), hand.held.as_slice());
     if held.len() != line.stations() as usize {
         told.line("not asked: not as many stations hold something");
         return Scene::Device(device);
     }
-    let day = run_day(rt, hand.alloc, device, line, held, moves, TRIES);
+    let day = run_day(rt, hand.alloc, device, line, held, moves, tries);
     hand.held.clear();
     match day {
         Ok(day) => account_for(day, told),
-        Err((device, refusal)) => {
-            told.refused(&refusal);
-            Scene::Device(device)
-        }
+        Err(refused) => Scene::Device(told.handed_back(refused)),
+    }
+}
+
+// How often a station tries, if the line says so.
+fn read_tries(said: &mut Said<'_>) -> u64 {
+    match said.word() {
+        Some(word) => word.parse::<u64>().unwrap_or(TRIES),
+        None => TRIES,
     }
 }
 

@@ -13,7 +13,7 @@ use crate::listings::open_listing;
 use crate::offices::plan_office;
 use crate::said::Said;
 use crate::stacked::{call, stack};
-use crate::switch::{Kind, NEVER, Switch};
+use crate::switch::{ANY, NEVER, READS, RUNS, SYNCS, Switch, WRITES};
 use crate::told::Told;
 use gate_journal::{ACCOUNTS, FirstSector, format, format_with};
 use sector_device::{Device, SECTOR, Sector};
@@ -37,8 +37,8 @@ fn device(hand: &mut Hand, sectors: u64) -> Result<Bench, AllocError> {
     Bench::new(hand.alloc, sectors, Arc::try_clone(&hand.switch)?)
 }
 
-/// A word of a device that puts something else in its place, or takes it.
-pub fn begin(
+/// A word of a device, as what is in hand then.
+pub fn run(
     device: Bench,
     hand: &mut Hand,
     name: &str,
@@ -51,6 +51,21 @@ pub fn begin(
         "fill" => fillings::begin(device, hand, said, told),
         "listing" => open_listing(device, hand, told),
         "office" => plan_office(device, hand, said, told),
+        "crash" => crash(device, hand, said, told),
+        "ahead" | "stop" | "only" => stack(device, hand, name, told),
+        _ => look_at(device, hand, name, said, told),
+    }
+}
+
+// What takes the device, and hands it back.
+fn look_at(
+    device: Bench,
+    hand: &mut Hand,
+    name: &str,
+    said: &mut Said<'_>,
+    told: &mut Told,
+) -> Scene {
+    match name {
         "recover" => recovered(device, hand, told),
         "locate" => located(device, hand, told),
         "postings" => postings(device, hand, told),
@@ -58,53 +73,45 @@ pub fn begin(
         "migrate" | "copy" => to_other(device, hand, name, said, told),
         "old" => show_old(device, told),
         "list" => list(device, hand, told),
-        "crash" => crash(device, hand, said, told),
-        "ahead" | "stop" | "only" => stack(device, hand, name, told),
-        _ => Scene::Device(device),
+        _ => asked(device, hand, name, said, told),
     }
 }
 
-/// Whether that is such a word.
-pub fn begins(name: &str) -> bool {
-    matches!(
-        name,
-        "journal"
-            | "clerk"
-            | "fill"
-            | "listing"
-            | "office"
-            | "recover"
-            | "locate"
-            | "postings"
-            | "catch_up"
-            | "migrate"
-            | "copy"
-            | "old"
-            | "list"
-            | "crash"
-            | "ahead"
-            | "stop"
-            | "only"
-    )
+// What asks the device, which stays in hand.
+fn asked(
+    mut device: Bench,
+    hand: &mut Hand,
+    name: &str,
+    said: &mut Said<'_>,
+    told: &mut Told,
+) -> Scene {
+    ask(&mut device, hand, name, said, told);
+    Scene::Device(device)
 }
 
-/// Any other word of a device.
-pub fn ask(device: &mut Bench, hand: &mut Hand, name: &str, said: &mut Said<'_>, told: &mut Told) {
+fn ask(device: &mut Bench, hand: &mut Hand, name: &str, said: &mut Said<'_>, told: &mut Told) {
     match name {
         "read" | "write" | "sync" => call(device, name, said, told),
-        "pick" => pick(hand, said, told),
-        "hold" => hold(hand, said, told),
-        "archive" => new_archive(hand, said, told),
         "put" => put(device, said, told),
         "twin" => twin(device, hand, told),
         "sector" => show_sector(device, said, told),
         "first" => show_first(device, told),
         "pending" => show_pending(device, hand, told),
         "calls" => show_calls(device, told),
-        "fault" => set_fault(hand, said, told),
-        "account" => set_account(hand, said, told),
         "format" => format_device(device, said, told),
         "format_with" => format_device_with(device, hand, said, told),
+        _ => prepare(hand, name, said, told),
+    }
+}
+
+// What is put together for a later call.
+fn prepare(hand: &mut Hand, name: &str, said: &mut Said<'_>, told: &mut Told) {
+    match name {
+        "pick" => pick(hand, said, told),
+        "hold" => hold(hand, said, told),
+        "archive" => new_archive(hand, said, told),
+        "fault" => set_fault(hand, said, told),
+        "account" => set_account(hand, said, told),
         _ => told.line("no such word of a device"),
     }
 }
@@ -227,23 +234,27 @@ fn show_calls(device: &mut Bench, told: &mut Told) {
 /// `fault none`, or `fault stop|once|twice any|read|write|sync|run K [K]`.
 pub fn set_fault(hand: &mut Hand, said: &mut Said<'_>, told: &mut Told) {
     let kind = said.word().unwrap_or("");
-    let calls = match said.word() {
-        Some("read") => Kind::Read,
-        Some("write") => Kind::Write,
-        Some("sync") => Kind::Sync,
-        Some("run") => Kind::Run,
-        _ => Kind::Any,
+    let kinds = kinds_of(said.word().unwrap_or(""));
+    let left = if kind == "none" { NEVER } else { said.number() };
+    let then = if kind == "twice" {
+        said.number()
+    } else {
+        NEVER
     };
-    let (left, then) = match kind {
-        "none" => (NEVER, NEVER),
-        "stop" | "once" => (said.number(), NEVER),
-        "twice" => (said.number(), said.number()),
-        _ => {
-            said.note_wrong();
-            (NEVER, NEVER)
-        }
-    };
+    if !matches!(kind, "none" | "stop" | "once" | "twice") {
+        said.note_wrong();
+    }
     if said.is_right(told) {
-        hand.switch.set(calls, left, then, kind == "stop");
+        hand.switch.set(kinds, left, then, kind == "stop");
+    }
+}
+
+fn kinds_of(name: &str) -> u64 {
+    match name {
+        "read" => READS,
+        "write" => WRITES,
+        "sync" => SYNCS,
+        "run" => RUNS,
+        _ => ANY,
     }
 }

@@ -16,10 +16,7 @@ pub fn begin(device: Bench, hand: &mut Hand, said: &mut Said<'_>, told: &mut Tol
     }
     match Filling::begin(device, slots, base, &hand.snapshot) {
         Ok(filling) => Scene::Filling(filling),
-        Err((device, refusal)) => {
-            told.refused(&refusal);
-            Scene::Device(device)
-        }
+        Err(refused) => Scene::Device(told.handed_back(refused)),
     }
 }
 
@@ -32,26 +29,19 @@ pub fn run(
     told: &mut Told,
 ) -> Scene {
     match name {
-        "put" => put(filling, said, told),
-        "finish" => match filling.finish() {
-            Ok(device) => Scene::Device(device),
-            Err((device, fault)) => {
-                told.refused(&fault);
-                Scene::Device(device)
-            }
-        },
-        "numbers" => {
-            told.named("next, room", &(filling.next(), filling.room()));
-            Scene::Filling(filling)
-        }
-        "fault" => {
-            set_fault(hand, said, told);
-            Scene::Filling(filling)
-        }
-        _ => {
-            told.line("no such word of a filling");
-            Scene::Filling(filling)
-        }
+        "put" => return put(filling, said, told),
+        "finish" => return finish(filling, told),
+        "numbers" => told.named("next, room", &(filling.next(), filling.room())),
+        "fault" => set_fault(hand, said, told),
+        _ => told.line("no such word of a filling"),
+    }
+    Scene::Filling(filling)
+}
+
+fn finish(filling: Filling<Bench>, told: &mut Told) -> Scene {
+    match filling.finish() {
+        Ok(device) => Scene::Device(device),
+        Err(refused) => Scene::Device(told.handed_back(refused)),
     }
 }
 
@@ -66,9 +56,6 @@ fn put(filling: Filling<Bench>, said: &mut Said<'_>, told: &mut Told) -> Scene {
     }
     match filling.put(&record) {
         Ok(filling) => Scene::Filling(filling),
-        Err((device, fault)) => {
-            told.refused(&fault);
-            Scene::Device(device)
-        }
+        Err(refused) => Scene::Device(told.handed_back(refused)),
     }
 }

@@ -13,10 +13,7 @@ pub fn open_journal(device: Bench, told: &mut Told) -> Scene {
             tell_numbers(&journal, told);
             Scene::Journal(journal)
         }
-        Err((device, refusal)) => {
-            told.refused(&refusal);
-            Scene::Device(device)
-        }
+        Err(refused) => Scene::Device(told.handed_back(refused)),
     }
 }
 
@@ -88,8 +85,5 @@ fn read(journal: &mut Journal<Bench>, said: &mut Said<'_>, told: &mut Told) {
         told.line("not asked: no such record");
         return;
     }
-    match journal.read_record(number) {
-        Ok(record) => told.record(&record),
-        Err(refusal) => told.refused(&refusal),
-    }
+    told.record_read(&journal.read_record(number));
 }

@@ -23,30 +23,14 @@ pub fn ask(ledger: &mut Ledger, hand: &mut Hand, name: &str, said: &mut Said<'_>
         "show" => told.ledger(0, ledger),
         "balance" => told.value(&ledger.balance(said.small())),
         "sealed" => told.value(&ledger.is_sealed(said.small())),
-        "post" => post(ledger, hand, said, told),
+        "post" | "write" | "say" => take_each(ledger, hand, name, said, told),
         "screen" => screen(ledger, hand, said, told),
         "account" => set_account(hand, said, told),
         "restore" => {
             told.value(&ledger.restore(&hand.snapshot.balances, &hand.snapshot.sealed));
         }
-        "write" => write_entry(hand, said, told),
         "read" => read_place(said, told),
-        "say" => say_entries(hand, said, told),
         _ => told.line("no such word of a ledger"),
-    }
-}
-
-// `post [ENTRY]..`: one after another.
-fn post(ledger: &mut Ledger, hand: &mut Hand, said: &mut Said<'_>, told: &mut Told) {
-    read_entries(said, &mut hand.entries);
-    if !said.is_right(told) {
-        return;
-    }
-    for entry in hand.entries.iter() {
-        match ledger.post(entry) {
-            Ok(()) => told.line("ok"),
-            Err(refusal) => told.refused(&refusal),
-        }
     }
 }
 
@@ -64,25 +48,24 @@ fn screen(ledger: &Ledger, hand: &mut Hand, said: &mut Said<'_>, told: &mut Told
     }
 }
 
-// `write ENTRY..`: the bytes of each.
-fn write_entry(hand: &mut Hand, said: &mut Said<'_>, told: &mut Told) {
+// `post [ENTRY]..`: one after another. `write ENTRY..`: the bytes of each. `say ENTRY..`: each in words.
+fn take_each(
+    ledger: &mut Ledger,
+    hand: &mut Hand,
+    name: &str,
+    said: &mut Said<'_>,
+    told: &mut Told,
+) {
     read_entries(said, &mut hand.entries);
     if !said.is_right(told) {
         return;
     }
     for entry in hand.entries.iter() {
-        told.bytes(&entry.write());
-    }
-}
-
-// `say ENTRY..`: each in words.
-fn say_entries(hand: &mut Hand, said: &mut Said<'_>, told: &mut Told) {
-    read_entries(said, &mut hand.entries);
-    if !said.is_right(told) {
-        return;
-    }
-    for entry in hand.entries.iter() {
-        told.text_of(entry);
+        match name {
+            "post" => told.posted(&ledger.post(entry)),
+            "write" => told.bytes(&entry.write()),
+            _ => told.text_of(entry),
+        }
     }
 }
 

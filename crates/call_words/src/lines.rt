@@ -8,24 +8,29 @@ use sweep_auditor::{Move, audit};
 
 /// The line that three words spell: how many stations, their bits x and their bits up. What is wrong is told.
 pub fn read_line(said: &mut Said<'_>, told: &mut Told) -> Option<Line> {
-    match spelled(said) {
-        Some(Ok(line)) => Some(line),
-        Some(Err(refusal)) => {
+    let Some((stations, x, up)) = spelled(said) else {
+        told.line("wrong words");
+        return None;
+    };
+    match line_of(stations, x, up) {
+        Ok(line) => Some(line),
+        Err(refusal) => {
             told.refused(&refusal);
-            None
-        }
-        None => {
-            told.line("wrong words");
             None
         }
     }
 }
 
-fn spelled(said: &mut Said<'_>) -> Option<Result<Line, LineRefusal>> {
+fn spelled<'a>(said: &mut Said<'a>) -> Option<(u64, Bits<'a>, Bits<'a>)> {
     let stations = said.number();
-    let x = Bits::read(said.word()?.as_bytes())?.kept();
-    let up = Bits::read(said.word()?.as_bytes())?.kept();
-    Some(Line::from_bits(stations, x.as_slice(), up.as_slice()))
+    let x = Bits::read(said.word()?.as_bytes())?;
+    let up = Bits::read(said.word()?.as_bytes())?;
+    Some((stations, x, up))
+}
+
+fn line_of(stations: u64, x: Bits<'_>, up: Bits<'_>) -> Result<Line, LineRefusal> {
+    let (x, up) = (x.kept(), up.kept());
+    Line::from_bits(stations, x.as_slice(), up.as_slice())
 }
 
 /// `line STATIONS XBITS UPBITS`: a line in the place of what was in hand.
@@ -36,8 +41,22 @@ pub fn new_line(said: &mut Said<'_>, told: &mut Told) -> Scene {
     }
 }
 
-/// A word of a line.
-pub fn ask(line: &mut Line, hand: &mut Hand, name: &str, said: &mut Said<'_>, told: &mut Told) {
+/// A word of a line; `line ..` puts another one in its place.
+pub fn run(
+    mut line: Line,
+    hand: &mut Hand,
+    name: &str,
+    said: &mut Said<'_>,
+    told: &mut Told,
+) -> Scene {
+    if name == "line" {
+        return new_line(said, told);
+    }
+    ask(&mut line, hand, name, said, told);
+    Scene::Line(line)
+}
+
+fn ask(line: &mut Line, hand: &mut Hand, name: &str, said: &mut Said<'_>, told: &mut Told) {
     match name {
         "show" => told.line_of(line),
         "legitimate" => told.value(&line.is_legitimate()),
@@ -60,11 +79,11 @@ fn is_enabled(line: &Line, said: &mut Said<'_>, told: &mut Told) {
 }
 
 fn read_rule(said: &mut Said<'_>) -> Option<Rule> {
-    match said.word() {
-        Some("Bottom") => Some(Rule::Bottom),
-        Some("Top") => Some(Rule::Top),
-        Some("Raise") => Some(Rule::Raise),
-        Some("Lower") => Some(Rule::Lower),
+    match said.word().unwrap_or("") {
+        "Bottom" => Some(Rule::Bottom),
+        "Top" => Some(Rule::Top),
+        "Raise" => Some(Rule::Raise),
+        "Lower" => Some(Rule::Lower),
         _ => None,
     }
 }

@@ -22,19 +22,13 @@ pub fn open_listing(device: Bench, hand: &mut Hand, told: &mut Told) -> Scene {
 
 // What a device holds, or the device, if that can't be listed, which is told.
 fn listing_of(alloc: Global, device: Bench, told: &mut Told) -> Result<Listing<Bench>, Bench> {
-    let sound = match look(alloc, device) {
-        Ok(sound) => sound,
-        Err((device, refusal)) => {
-            told.refused(&refusal);
-            return Err(device);
-        }
+    let listed = match look(alloc, device) {
+        Ok(sound) => sound.list(),
+        Err(refused) => return Err(told.handed_back(refused)),
     };
-    match sound.list() {
+    match listed {
         Ok(listing) => Ok(listing),
-        Err((device, refusal)) => {
-            told.refused(&refusal);
-            Err(device)
-        }
+        Err(refused) => Err(told.handed_back(refused)),
     }
 }
 
@@ -93,6 +87,15 @@ fn skip(listing: &mut Listing<Bench>, said: &mut Said<'_>, told: &mut Told) {
     told.done(&skip_to(listing, end));
 }
 
+// The other device, which isn't in hand then. If there is none, that is told.
+fn taken(hand: &mut Hand, told: &mut Told) -> Option<Bench> {
+    let other = hand.other.take();
+    if other.is_none() {
+        told.line("not asked: no other device");
+    }
+    other
+}
+
 // `add COUNT`: a ledger of the next records, that many, on the other device.
 fn add_to_other(
     listing: &mut Listing<Bench>,
@@ -105,24 +108,19 @@ fn add_to_other(
         told.line("not asked: not as many records");
         return;
     }
-    let Some(new) = hand.other.take() else {
-        told.line("not asked: no other device");
+    let Some(new) = taken(hand, told) else {
         return;
     };
     let new = match add(listing, new, count) {
         Ok(new) => new,
-        Err((new, refusal)) => {
-            told.refused(&refusal);
-            new
-        }
+        Err(refused) => told.handed_back(refused),
     };
     hand.other = Some(new);
 }
 
 // `follow`: leads the listing on to the end of the ledger on the other device.
 fn follow_other(listing: &mut Listing<Bench>, hand: &mut Hand, told: &mut Told) {
-    let Some(other) = hand.other.take() else {
-        told.line("not asked: no other device");
+    let Some(other) = taken(hand, told) else {
         return;
     };
     hand.other = match look(hand.alloc, other) {
@@ -131,10 +129,7 @@ fn follow_other(listing: &mut Listing<Bench>, hand: &mut Hand, told: &mut Told) 
             told.done(&made);
             Some(device_of(sound))
         }
-        Err((other, refusal)) => {
-            told.refused(&refusal);
-            Some(other)
-        }
+        Err(refused) => Some(told.handed_back(refused)),
     };
 }
 
@@ -147,8 +142,7 @@ fn device_of(sound: Sound<Bench>) -> Bench {
 
 // `compare`: finds out whether the listing has the records of the ledger on the other device.
 fn compare_other(listing: &mut Listing<Bench>, hand: &mut Hand, told: &mut Told) {
-    let Some(other) = hand.other.take() else {
-        told.line("not asked: no other device");
+    let Some(other) = taken(hand, told) else {
         return;
     };
     hand.other = match listing_of(hand.alloc, other, told) {

@@ -59,10 +59,7 @@ pub fn play<R: Wait>(rt: &R, planned: Planned, hand: &mut Hand, told: &mut Told)
             told.audit(&audit);
             Scene::Clerk(clerk)
         }
-        Err((device, refusal)) => {
-            told.refused(&refusal);
-            Scene::Device(device)
-        }
+        Err(refused) => Scene::Device(told.handed_back(refused)),
     }
 }
 
@@ -93,23 +90,45 @@ impl<R: Wait> OfficeWork<Bench> for Playing<'_, R> {
         } = self;
         for line in lines.lines() {
             let mut said = Said::of(line);
-            match said.word() {
-                Some("give_up") => return Err(TurnRefusal::TooMany),
-                Some("leave") => {
-                    let _ = seats.pop();
-                }
-                Some("fault") => set_fault(hand, &mut said, told),
-                Some(name) => {
-                    let station = said.station();
-                    match seats.get_mut(station as usize) {
-                        Some(seat) => ask(rt, office, seat, hand, name, &mut said, told),
-                        None => told.line("not asked: no such seat"),
-                    }
-                }
-                None => {}
+            let name = said.word().unwrap_or("");
+            if name == "give_up" {
+                return Err(TurnRefusal::TooMany);
+            }
+            if name == "leave" {
+                let _ = seats.pop();
+            } else {
+                at_seat(
+                    rt,
+                    office,
+                    seats.as_mut_slice(),
+                    hand,
+                    name,
+                    &mut said,
+                    told,
+                );
             }
         }
         Ok((seats, ()))
+    }
+}
+
+// `fault ..`, or what the seat of a station is asked for.
+fn at_seat<L: Count + OpenedOn, R: Wait>(
+    rt: &R,
+    office: &Office<Bench, L>,
+    seats: &mut [Seat<L>],
+    hand: &mut Hand,
+    name: &str,
+    said: &mut Said<'_>,
+    told: &mut Told,
+) {
+    if name == "fault" {
+        set_fault(hand, said, told);
+        return;
+    }
+    match seats.get_mut(said.station() as usize) {
+        Some(seat) => ask(rt, office, seat, hand, name, said, told),
+        None => told.line("not asked: no such seat"),
     }
 }
 
@@ -147,10 +166,7 @@ fn turn<L: Count + OpenedOn, R: Wait>(
     told: &mut Told,
 ) {
     read_entries(said, &mut hand.entries);
-    match office.turn(rt, seat, hand.entries.as_slice()) {
-        Ok(turn) => told.turn(&turn),
-        Err(refusal) => told.refused(&refusal),
-    }
+    told.turned(&office.turn(rt, seat, hand.entries.as_slice()));
 }
 
 // `within STATION LIMIT [ENTRY]..`
@@ -164,10 +180,7 @@ fn turn_within<L: Count + OpenedOn, R: Wait>(
 ) {
     let limit = said.number();
     read_entries(said, &mut hand.entries);
-    match office.turn_within(rt, seat, hand.entries.as_slice(), limit) {
-        Ok(turn) => told.turn(&turn),
-        Err(refusal) => told.refused(&refusal),
-    }
+    told.turned(&office.turn_within(rt, seat, hand.entries.as_slice(), limit));
 }
 
 // `seat STATION`: how many turns it took, and what it noted.

@@ -47,17 +47,9 @@ impl<'a> Said<'a> {
     /// How many bytes the next word writes, as two hexadecimal digits each. They are the first of those handed in
     /// then.
     pub fn bytes(&mut self, into: &mut [u8]) -> usize {
-        let word = self.words.next().unwrap_or("");
-        let count = word.len() / 2;
-        if count > 0 {
-            if let Some(first) = into.get_mut(..count) {
-                if hex::decode_to_slice(word, first).is_ok() {
-                    return count;
-                }
-            }
-        }
-        self.is_wrong = true;
-        0
+        let count = decoded(self.words.next().unwrap_or(""), into);
+        self.is_wrong = self.is_wrong || count == 0;
+        count
     }
 
     /// Whether all words were there, and of their kind; if not, that is told.
@@ -72,4 +64,15 @@ impl<'a> Said<'a> {
     pub fn note_wrong(&mut self) {
         self.is_wrong = true;
     }
+}
+
+// How many bytes a word writes, which are the first of those handed in then.
+fn decoded(word: &str, into: &mut [u8]) -> usize {
+    let count = word.len() / 2;
+    if let Some(first) = into.get_mut(..count) {
+        if hex::decode_to_slice(word, first).is_ok() {
+            return count;
+        }
+    }
+    0
 }

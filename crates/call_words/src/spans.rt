@@ -121,10 +121,7 @@ fn live<R: Threads + Wait + Sync>(
             tell_batches(archive, told);
             Scene::Clerk(clerk)
         }
-        Err((device, refusal)) => {
-            told.refused(&refusal);
-            Scene::Device(device)
-        }
+        Err(refused) => Scene::Device(told.handed_back(refused)),
     }
 }
 

@@ -40,20 +40,14 @@ pub fn stack(device: Bench, hand: &mut Hand, name: &str, told: &mut Told) -> Sce
 fn ahead(device: Bench, hand: &mut Hand, told: &mut Told) -> Scene {
     match ReadBuffer::new(hand.alloc) {
         Ok(buffer) => Scene::Stacked(Stacked::Ahead(ReadAhead::new(device, buffer))),
-        Err(error) => {
-            told.refused(&error);
-            Scene::Device(device)
-        }
+        Err(error) => Scene::Device(told.handed_back((device, error))),
     }
 }
 
 fn only(mut device: Bench, told: &mut Told) -> Scene {
     match device.sync() {
         Ok(()) => Scene::Stacked(Stacked::Only(ReadOnly::new(device))),
-        Err(fault) => {
-            told.refused(&fault);
-            Scene::Device(device)
-        }
+        Err(fault) => Scene::Device(told.handed_back((device, fault))),
     }
 }
 
@@ -89,7 +83,6 @@ pub fn call<D: Device>(device: &mut D, name: &str, said: &mut Said<'_>, told: &m
 // `read AT`
 fn read<D: Device>(device: &mut D, said: &mut Said<'_>, told: &mut Told) {
     let at = said.number();
-    let mut sector = [0; SECTOR];
     if !said.is_right(told) {
         return;
     }
@@ -97,6 +90,7 @@ fn read<D: Device>(device: &mut D, said: &mut Said<'_>, told: &mut Told) {
         told.line("not asked: no such sector");
         return;
     }
+    let mut sector = [0; SECTOR];
     match device.read(at, &mut sector) {
         Ok(()) => told.bytes(&sector),
         Err(fault) => told.refused(&fault),
@@ -105,7 +99,8 @@ fn read<D: Device>(device: &mut D, said: &mut Said<'_>, told: &mut Told) {
 
 // `write AT HEX`: a sector that begins with these bytes, of which the last fills it.
 fn write<D: Device>(device: &mut D, said: &mut Said<'_>, told: &mut Told) {
-    let (at, sector) = (said.number(), read_sector(said));
+    let at = said.number();
+    let sector = read_sector(said);
     if !said.is_right(told) {
         return;
     }

@@ -11,23 +11,22 @@ pub enum Asked {
     Run(u64, usize),
 }
 
-/// A kind of calls.
-#[derive(Clone, Copy, Debug, PartialEq, Eq)]
-pub enum Kind {
-    Any,
-    Read,
-    Write,
-    Sync,
-    Run,
-}
+/// Kinds of calls, one or all: the sum of their numbers.
+pub const ANY: u64 = 15;
+
+pub const READS: u64 = 1;
+
+pub const WRITES: u64 = 2;
+
+pub const SYNCS: u64 = 4;
+
+pub const RUNS: u64 = 8;
 
 /// Which call of a device fails: it is set while a journal or an office has the device.
 #[derive(Drop)]
 pub struct Switch {
-    reads: AtomicBool,
-    writes: AtomicBool,
-    syncs: AtomicBool,
-    runs: AtomicBool,
+    // The kinds that are counted.
+    kinds: AtomicU64,
     // How many of these calls come before the one that fails, and then before the next one.
     left: AtomicU64,
     then: AtomicU64,
@@ -43,10 +42,7 @@ impl Switch {
     /// No call fails.
     pub fn new() -> Switch {
         Switch {
-            reads: AtomicBool::new(false),
-            writes: AtomicBool::new(false),
-            syncs: AtomicBool::new(false),
-            runs: AtomicBool::new(false),
+            kinds: AtomicU64::new(0),
             left: AtomicU64::new(NEVER),
             then: AtomicU64::new(NEVER),
             for_good: AtomicBool::new(false),
@@ -54,18 +50,10 @@ impl Switch {
         }
     }
 
-    /// From now on calls of this kind are counted. So many pass, then one fails; of the calls that then come so many
+    /// From now on calls of these kinds are counted. So many pass, then one fails; of the calls that then come so many
     /// pass, and one fails. Behind the first all of any kind fail if it is for good.
-    pub fn set(&self, kind: Kind, left: u64, then: u64, for_good: bool) {
-        let is_any = kind == Kind::Any;
-        self.reads
-            .store(is_any || kind == Kind::Read, Ordering::SeqCst);
-        self.writes
-            .store(is_any || kind == Kind::Write, Ordering::SeqCst);
-        self.syncs
-            .store(is_any || kind == Kind::Sync, Ordering::SeqCst);
-        self.runs
-            .store(is_any || kind == Kind::Run, Ordering::SeqCst);
+    pub fn set(&self, kinds: u64, left: u64, then: u64, for_good: bool) {
+        self.kinds.store(kinds, Ordering::SeqCst);
         self.left.store(left, Ordering::SeqCst);
         self.then.store(then, Ordering::SeqCst);
         self.for_good.store(for_good, Ordering::SeqCst);
@@ -82,14 +70,14 @@ impl Switch {
         if self.for_good.load(Ordering::SeqCst) && self.has_failed() {
             return true;
         }
-        let counts = match call {
-            Asked::Read(_) => self.reads.load(Ordering::SeqCst),
-            Asked::Write(_) => self.writes.load(Ordering::SeqCst),
-            Asked::Sync => self.syncs.load(Ordering::SeqCst),
-            Asked::Run(_, _) => self.runs.load(Ordering::SeqCst),
+        let kind = match call {
+            Asked::Read(_) => READS,
+            Asked::Write(_) => WRITES,
+            Asked::Sync => SYNCS,
+            Asked::Run(_, _) => RUNS,
         };
         let left = self.left.load(Ordering::SeqCst);
-        if !counts || left == NEVER {
+        if self.kinds.load(Ordering::SeqCst) & kind == 0 || left == NEVER {
             return false;
         }
         if left > 0 {

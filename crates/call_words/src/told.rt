@@ -1,11 +1,12 @@
 //! What is answered, a line for each call.
+use crate::bench::Bench;
 use four_state::Line;
-use gate_journal::{Record, Snapshot};
+use gate_journal::{ReadRefusal, Record, Snapshot};
 use std::alloc::{AllocError, Global};
 use std::fmt::{Debug, Display};
 use sweep_auditor::Audit;
 use turn_clerk::Turn;
-use turn_ledger::{Ledger, Verdicts};
+use turn_ledger::{EntryRefusal, Ledger, Verdicts};
 
 // More than a driver may let gather before it reads: no answer takes memory of its own.
 const ROOM: usize = 1 << 20;
@@ -67,6 +68,37 @@ impl Told {
         }
     }
 
+    /// Adds a line with the turn that a call took, or with its refusal.
+    pub fn turned<E: Debug + Display>(&mut self, taken: &Result<Turn, E>) {
+        match taken {
+            Ok(turn) => self.turn(turn),
+            Err(refusal) => self.refused(refusal),
+        }
+    }
+
+    /// Adds a line with the record that a call read, or with its refusal.
+    pub fn record_read(&mut self, read: &Result<Record, ReadRefusal>) {
+        match read {
+            Ok(record) => self.record(record),
+            Err(refusal) => self.refused(refusal),
+        }
+    }
+
+    /// Adds a line with what became of an entry.
+    pub fn posted(&mut self, made: &Result<(), EntryRefusal>) {
+        match made {
+            Ok(()) => self.line("ok"),
+            Err(refusal) => self.refused(refusal),
+        }
+    }
+
+    /// Adds a line with the refusal of a call, and hands the call's device back.
+    pub fn handed_back<E: Debug + Display + Drop>(&mut self, refused: (Bench, E)) -> Bench {
+        let (device, refusal) = refused;
+        self.refused(&refusal);
+        device
+    }
+
     /// Adds a line if a call was refused.
     pub fn done<E: Debug + Display>(&mut self, made: &Result<(), E>) {
         if let Err(refusal) = made {
@@ -123,8 +155,8 @@ impl Told {
         let _ = writeln!(self.text, "");
     }
 
-    /// Adds a line with a record: its station, how many places it has, and their bytes.
-    pub fn record(&mut self, record: &Record) {
+    // Adds a line with a record: its station, how many places it has, and their bytes.
+    fn record(&mut self, record: &Record) {
         let (station, count) = (record.station(), record.count());
         let _ = write!(self.text, "station {station} count {count} ");
         self.bytes(record.payload());
