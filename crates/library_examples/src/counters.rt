@@ -1,5 +1,7 @@
 //! An office in memory that stays open for one counter, whose lines are written out and whose answers come by a pipe.
-use live_office::{Closed, CounterCopyRefusal, Counter, Identity, Keeper, Kept, Kind, Seen, keep_open};
+use live_office::{
+    Closed, Counter, CounterCopyRefusal, Identity, Keeper, Kept, Kind, Seen, keep_open,
+};
 use office_day::{End, Line};
 use sector_device::{Device, MemoryDevice};
 use std::alloc::Global;
