@@ -1,6 +1,6 @@
-"""Refuses each request for memory, and for a thread, of the program.
+"""Refuses each request for memory, and for a thread, of the program, and those of a test that makes flags.
 
-Words: the program, and a folder with the library that refuses.
+Words: the program, the tests of `thread_tests`, and a folder with the library that refuses.
 """
 import re
 import sys
@@ -23,6 +23,8 @@ SECTORS = 600
 SECONDS_OF_A_DAY = 5
 # All else ends at once, and is waited for longer than any machine needs.
 SECONDS = 300
+# The test of flags, and what it prints where it had no memory for them.
+FLAGS, TOLD_OF_FLAGS = "flags::flags_are_made", b"told HeldFlags in an Arc"
 IN_A_LINE = re.compile(rb"^(refused|station \d+) (Memory|Device)$")
 
 
@@ -102,10 +104,25 @@ def try_file(refuser, name, program, before):
     print(f"{name}: {len(held)} requests were refused in turn")
 
 
-def main(program, folder):
-    if others := requests_beside(program):
-        fail(f"{program} takes memory by {', '.join(others)} too")
+def try_flags(refuser, tests):
+    """The test that makes the flags of a held call passes whichever request is refused. In one run it tells that it had no
+    memory for them, and made them again."""
+    told = []
+    for number, run in refuser.each([tests, FLAGS], "REQUEST"):
+        if run.status != 0:
+            fail(f"{FLAGS}, request {number}: status {run.status}\n{run.printed.decode()}{run.told.decode()}")
+        told += [number] * run.printed.splitlines().count(TOLD_OF_FLAGS)
+    if len(told) != 1:
+        fail(f"{FLAGS}: want of memory was told {len(told)} times")
+    print(f"flags are made: request {told[0]} of the test was refused, and told")
+
+
+def main(program, tests, folder):
+    for made in (program, tests):
+        if others := requests_beside(made):
+            fail(f"{made} takes memory by {', '.join(others)} too")
     refuser = Refuser(folder)
+    try_flags(refuser, tests)
     try_program(refuser, "a deposit", [program], DEPOSIT)
     try_program(refuser, "a deposit in a file", [program, "--device", "ledger"], DEPOSIT)
     try_file(refuser, "a file is made", program, None)

@@ -11,6 +11,8 @@ mod clients;
 #[cfg(test)]
 mod closing;
 #[cfg(test)]
+mod flags;
+#[cfg(test)]
 mod moments;
 #[cfg(test)]
 mod runs;
