@@ -4,5 +4,6 @@ mod LeftDevice
 mod Legal
 mod Listing
 mod OneEach
+mod Openings
 mod Runs
 pub mod Sharing

@@ -1,5 +1,5 @@
 -- What an office is asked of its ledger while it is open.
-use Rattle.std.specs.Prelude.{◌≢◌, ◌≡◌, ◌≤◌, ◌↔◌, ℕ, true, false, length, IsTrue, Result, Ok, Err, IfOk, Some, None}
+use Rattle.std.specs.Prelude.{◌≢◌, ◌≡◌, ◌+◌, ◌≤◌, ◌↔◌, ℕ, true, false, length, IsTrue, Result, Ok, Err, IfOk, Some, None}
 use Rattle.sector_device.specs.Device.{DeviceState, AreCalls}
 use Rattle.sector_device.specs.Crash.{LooksOnly}
 use Rattle.four_state.specs.Configuration.{Configuration}
@@ -15,6 +15,7 @@ use Rattle.turn_clerk.specs.declared.refusals.FindRefusal.{FindRefusal}
 use Rattle.turn_clerk.specs.declared.refusals.FindRefusal.TheVariants as find
 use Rattle.line_lock.specs.OpenedOn.{WasOpenedOn}
 use Rattle.line_lock.specs.Seat.{SeatState}
+use Rattle.line_lock.specs.declared.told.Room.{Room}
 use Rattle.line_lock.specs.declared.refusals.BalanceRefusal.{BalanceRefusal}
 use Rattle.line_lock.specs.declared.refusals.BalanceRefusal.TheVariants.{Faulted, NoAccount}
 
@@ -45,6 +46,19 @@ pub record WasToldBalance {D : Type 0} (state : D → DeviceState) (device : Dev
   pub turns : clerk.journal.faulted ≡ false → length old.turns ≤ length clerk.history
   pub is : IsBalance clerk account answer
   pub note : new ≡ noted old account (length clerk.history) answer
+
+-- What a clerk answers of its room: the number of its next batch, and how many slots of its live bank are free.
+pub record IsRoom {D : Type 0} (clerk : ClerkState D) (room : Room) : Type 0 where
+  pub next : room.next ≡ clerk.journal.next
+  pub free : room.next + room.free ≡ clerk.journal.live.base + clerk.journal.slots
+
+-- An office that was opened on that device with that line was asked how much room there is, and a clerk of it answered,
+-- whose turns are a legal history.
+pub record WasToldRoom {D : Type 0} (state : D → DeviceState) (device : DeviceState) (from : Configuration) (room : Room) : Type 0 where
+  pub clerk : ClerkState D
+  pub opened : WasOpenedOn state device from clerk
+  pub legal : KeepsHistory clerk
+  pub is : IsRoom clerk room
 
 -- a seat that was told this of a search: of a fault of the device alone something is noted
 abbrev pub searched : {Told : Type 0} → SeatState → Result Told FindRefusal → SeatState

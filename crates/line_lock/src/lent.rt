@@ -2,6 +2,7 @@
 ghost use Rattle.std.specs.Prelude.{◌≡◌, ℕ, List, IfOk, IfErr};
 ghost use Rattle.sector_device.specs.Device.{DeviceState};
 ghost use Rattle.four_state.specs.Configuration.{Configuration, stations};
+ghost use Rattle.journal_recovery.specs.State.{State};
 ghost use Rattle.line_lock.specs.OpenedOn.{Names, WasLeftByClerk};
 ghost use Rattle.line_lock.specs.Seat.{SeatState};
 ghost use Rattle.line_lock.specs.Lent.{new_seats, AccountFor, IsClosed, IsRefused, IfOpening, UnlessOpening};
@@ -102,6 +103,7 @@ fn lent<D: Device, L: Count + OpenedOn + Send + Sync, W: OfficeWork<D>>(
     work: W,
 ) -> Result<(Closing<D>, W::Answer), (D, OfficeRefusal<W::Failure>)>
     requires named { Names L.name L.parts L.device L.line blank (D.state device) line }
+    requires begins { (found : State) → L.begins found }
     requires ready { W.ready work (stations line) }
     ensures worked { IfOk result (λ done. (seats : List SeatState)
         × W.makes work L.device L.line (new_seats (stations line)) seats done.1

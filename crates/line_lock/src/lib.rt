@@ -23,7 +23,7 @@ pub use seat::Seat;
 pub use sector_device::Device;
 pub use std::sync::ledger::{Blank, Ledger as Count};
 pub use sweep_auditor::Audit;
-pub use told::ToldBalance;
+pub use told::{Room, ToldBalance};
 pub use turn_clerk::{
     Clerk, FindRefusal, Found, Latest, OpenRefusal, Posting, Reached, SEARCH_STEP, Taken, Turn,
     TurnRefusal, later_posting,

@@ -1,21 +1,22 @@
 //! The office.
-ghost use Rattle.std.specs.Prelude.{◌≡◌, ◌≢◌, ◌⊎◌, ℕ, ◌+◌, ◌-◌, ◌*◌, ◌<◌, ◌≤◌, ◌↔◌, [], length, map, All, sum_by, IfOk, IfErr, OnOk, IsErrAnd, Err};
+ghost use Rattle.std.specs.Prelude.{◌≡◌, ◌≢◌, ◌⊎◌, ℕ, ◌+◌, ◌-◌, ◌*◌, ◌<◌, ◌≤◌, ◌↔◌, [], length, map, All, sum_by, vec_capacity, false, IsTrue, IfOk, IfErr, OnOk, IsErrAnd, Err};
 ghost use Rattle.std.specs.List.{range_with_len};
 ghost use Rattle.sector_device.specs.Device.{AreCalls};
 ghost use Rattle.sector_device.specs.Crash.{OnlyLooks, IsDurable};
 ghost use Rattle.four_state.specs.Configuration.{stations};
 ghost use Rattle.sweep_auditor.specs.Run.{IsRun};
 ghost use Rattle.sweep_auditor.specs.Audited.{IsAuditOf};
-ghost use Rattle.turn_clerk.specs.Clerk.{KeepsHistory, LeavesAcknowledged, LeftPrefixEver};
+ghost use Rattle.turn_clerk.specs.Clerk.{KeepsHistory, LeavesAcknowledged, LeftPrefixEver, opening_state, present_state};
 ghost use Rattle.turn_clerk.specs.FarBack.{LeftRecordsEver};
 ghost use Rattle.turn_clerk.specs.History.{moves_of};
 ghost use Rattle.turn_clerk.specs.Reply.{turn_of};
 ghost use Rattle.line_lock.specs.Account.{IsBorneOut, failed_turns, seats_of, IsSeatMissing};
+ghost use Rattle.journal_recovery.specs.State.{State};
 ghost use Rattle.journal_recovery.specs.Refused.{RecoveryRefuses};
 ghost use Rattle.line_lock.specs.OpenedOn.{Names, WasOpenedOn, WasLeftByClerk};
 ghost use Rattle.line_lock.specs.Seat.{new_seat};
 ghost use Rattle.line_lock.specs.Told.{WasTold};
-ghost use Rattle.line_lock.specs.Asked.{WasToldBalance, WasSearched, WasToldLatest};
+ghost use Rattle.line_lock.specs.Asked.{WasToldBalance, WasToldRoom, WasSearched, WasToldLatest};
 ghost use Rattle.turn_ledger.specs.State.{IsAccount};
 
 use crate::closing::{CloseRefusal, Closing, audited, gathered, look_at};
@@ -23,6 +24,7 @@ use crate::locked::{Locked, LockedTurn};
 use crate::opened_on::OpenedOn;
 use crate::refusals::{BalanceRefusal, WithinRefusal};
 use crate::seat::Seat;
+use crate::told::Room;
 use four_state::Line;
 use sector_device::Device;
 use std::alloc::Global;
@@ -52,6 +54,7 @@ impl<D: Device, L: Count + OpenedOn> Office<D, L> {
         blank: Blank,
     ) -> Result<(Office<D, L>, Vec<Seat<L>>), (D, OpenRefusal)>
         requires named { Names L.name L.parts L.device L.line blank (D.state device) line }
+        requires begins { (found : State) → L.begins found }
         ensures seats { IfOk result (λ opened.
             opened.1.items ≡ map new_seat (range_with_len 0 (stations line))) }
         ensures call { IfErr result (λ e.
@@ -72,12 +75,60 @@ impl<D: Device, L: Count + OpenedOn> Office<D, L> {
             return Err((device, OpenRefusal::Memory));
         }
         let clerk = Clerk::open(alloc, device, line)?;
+        Ok(Office::seated(alloc, clerk, blank, seats))
+    }
+
+    /// The same over a clerk, which begins anew with its ledger and its line: nothing is read of the device.
+    ///
+    /// # Errors
+    /// The clerk comes back as it was. `Memory`: there is none for the seats. `Device`: the clerk has met a fault of
+    /// its device. The blank is dropped.
+    pub fn open_over(
+        alloc: Global,
+        clerk: Clerk<D>,
+        blank: Blank,
+    ) -> Result<(Office<D, L>, Vec<Seat<L>>), (Clerk<D>, OpenRefusal)>
+        requires named { Names L.name L.parts L.device L.line blank
+            (D.state clerk.journal.device) clerk.line }
+        requires begins { L.begins (present_state clerk) }
+        ensures seats { IfOk result (λ opened.
+            opened.1.items ≡ map new_seat (range_with_len 0 (stations clerk.line))) }
+        ensures back { IfErr result (λ e. e.0 ≡ clerk) }
+        ensures refused { IfErr result (λ e. e.1 ≢ OpenRefusal.Memory
+            → (e.1 ≡ OpenRefusal.Device) × IsTrue clerk.journal.faulted) }
+        ensures works { OnOk result (clerk.journal.faulted ≡ false) }
+    {
+        let (mut seats, line) = (Vec::new(alloc), clerk.line());
+        if seats.reserve(line.stations() as usize).is_err() {
+            return Err((clerk, OpenRefusal::Memory));
+        }
+        match clerk.begin_anew(line) {
+            Ok(clerk) => Ok(Office::seated(alloc, clerk, blank, seats)),
+            Err(clerk) => Err((clerk, OpenRefusal::Device)),
+        }
+    }
+
+    // The office of a clerk that was just opened, and the seats of its stations, for which there are places.
+    fn seated(
+        alloc: Global,
+        clerk: Clerk<D>,
+        blank: Blank,
+        mut seats: Vec<Seat<L>>,
+    ) -> (Office<D, L>, Vec<Seat<L>>)
+        requires name { blank.name ≡ L.name }
+        requires parts { (blank.parts ≡ L.parts) × (L.parts ≡ stations clerk.line) }
+        requires new { (clerk.history ≡ []) × (clerk.journal.faulted ≡ false) }
+        requires opened { WasOpenedOn D.state L.device L.line clerk }
+        requires begins { L.begins (opening_state clerk) }
+        requires places { (seats.items ≡ []) × (stations clerk.line ≤ vec_capacity seats) }
+        ensures { result.1.items ≡ map new_seat (range_with_len 0 (stations clerk.line)) }
+    {
         let (book, mut rest) = blank.open::<L>();
-        for station in 0..line.stations() {
+        for station in 0..clerk.line().stations() {
             seats.push_reserved(Seat::new(alloc, station, rest.split_off(1, 0)));
         }
         let locked = Mutex::new(Locked { clerk, book, rest });
-        Ok((Office { locked }, seats))
+        (Office { locked }, seats)
     }
 
     /// Takes a turn of the seat's station with these entries; it may wait for the lock. A place for the turn in the
@@ -171,6 +222,14 @@ impl<D: Device, L: Count + OpenedOn> Office<D, L> {
             return Err(WithinRefusal::Turn(TurnRefusal::Memory));
         }
         self.locked.lock(rt).turn_within(seat, entries, limit)
+    }
+
+    /// How far the ledger is, and how much room its live bank has; it may wait for the lock. Nothing is read of the
+    /// device.
+    pub fn room<R: Wait>(&self, rt: &R) -> Room
+        ensures { WasToldRoom D.state L.device L.line result }
+    {
+        self.locked.lock(rt).room()
     }
 
     /// What an account holds; it may wait for the lock. The history that the balance comes from has at least as many
@@ -272,6 +331,8 @@ impl<D: Device, L: Count + OpenedOn> Office<D, L> {
             (D.state closing.clerk.journal.device).honest → LeftPrefixEver D.state closing.clerk) }
         ensures in_sight { IfOk result (λ closing.
             (D.state closing.clerk.journal.device).honest → LeftRecordsEver D.state closing.clerk) }
+
+        ensures began { IfOk result (λ closing. L.begins (opening_state closing.clerk)) }
 
         // The audit of its opening line and all its moves.
         ensures last { IfOk result (λ closing. closing.audit.last ≡ closing.clerk.line) }

@@ -20,6 +20,15 @@ pub struct ToldBalance {
     pub turns: u64,
 }
 
+/// How far a ledger is, and how much room there is for more.
+#[derive(Clone, Copy, Debug, PartialEq, Eq)]
+pub struct Room {
+    /// The number of the next batch.
+    pub next: u64,
+    /// How many slots of the live bank are free: so many batches more, and a checkpoint is made.
+    pub free: u64,
+}
+
 // An amount of the account that it names, and nothing of another.
 fn amount_of(account: u32, named: u32, amount: u64) -> u64
     ensures { result ≡ if named == account then amount else 0 }

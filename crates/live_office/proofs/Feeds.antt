@@ -4,8 +4,7 @@ use Rattle.std.specs.List.{slice_index_or, slice_set}
 use Rattle.std.proofs.Common.{inl, inr, sym, ◌∙◌, ap, subst}
 use Rattle.std.proofs.lemmas.Bool.{cases_eq}
 use Rattle.std.proofs.lemmas.List.{length-map, length-set, map-set, get_or-map, get_or-set_same, get_or-set_other}
-use Rattle.station_desk.specs.Rings.{FeedState, StandsAt}
-use Rattle.station_desk.specs.PairLaws.{AllStandAt}
+use Rattle.station_desk.specs.Rings.{FeedState, StandsAt, AllStandAt}
 
 -- One of the feeds is replaced by another that stands at the same rings.
 stand-set : (old new : List FeedState) (i : ℕ) (feed : FeedState) → i < length new

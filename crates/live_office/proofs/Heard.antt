@@ -5,7 +5,7 @@ use Rattle.std.proofs.Common.{sym, ◌∙◌, subst, arith}
 use Rattle.std.proofs.lemmas.List.{get_or-map}
 use Rattle.std.proofs.lemmas.Slice.Zip.{AllZip-long}
 use Rattle.sector_device.specs.Device.{DeviceState}
-use Rattle.four_state.specs.Configuration.{Configuration, stations}
+use Rattle.four_state.specs.Configuration.{stations}
 use Rattle.station_desk.specs.declared.messages.Ask.{Ask}
 use Rattle.station_desk.specs.declared.messages.Answer.{Answer}
 use Rattle.station_desk.specs.declared.end.End.TheVariants.{NotStarted}
@@ -15,7 +15,7 @@ use Rattle.office_day.specs.declared.seated.Left.{Left}
 use Rattle.office_day.specs.declared.reconciled.StationDay.{StationDay}
 use Rattle.office_day.specs.Day.{IsReconciled, AreReconciled}
 use Rattle.office_day.specs.Archive.{Archive}
-use Rattle.office_day.specs.Spans.{Span, adjourned_to, HasLived, WasKeptOpen}
+use Rattle.office_day.specs.Spans.{Span, Rest, HasLived, WasKeptOpen}
 use Rattle.office_day.proofs.Lists.{first, AllZip-at}
 use Rattle.live_office.specs.Conversation.{ConversationState, IsOver, IsHeard, WereTakenUp}
 use Rattle.live_office.specs.Kept.{WasKeptFor, WasLeftOpen}
@@ -30,12 +30,11 @@ heard feed conversation part day over done = record {
 }
 
 -- all of them
-pub kept_for : {D : Type 0} (state : D
-    → DeviceState) (moves : ℕ) (device : D) (line : Configuration) (last : Span D) (desks : List DeskState) (left : List Left) (feeds : List FeedState) (days : List StationDay)
-    (conversations : List ConversationState) (old new : Archive)
-    → WasKeptOpen state moves device line last (map (λ (feed : FeedState). feed.collected) feeds) days old new → length desks ≡ stations line → length feeds ≡ stations line
-    → AllZip IsOver feeds conversations → AreReconciled feeds left days → WasKeptFor state moves device line last days conversations old new
-kept_for state moves device line last desks left feeds days conversations old new kept many fed over done = record {
+pub kept_for : {D : Type 0} (state : D → DeviceState) (moves : ℕ) (from : Rest D) (last : Span D) (desks : List DeskState) (left : List Left) (feeds : List FeedState)
+    (days : List StationDay) (conversations : List ConversationState) (old new : Archive)
+    → WasKeptOpen state moves from last (map (λ (feed : FeedState). feed.collected) feeds) days old new → length desks ≡ stations from.line → length feeds ≡ stations from.line
+    → AllZip IsOver feeds conversations → AreReconciled feeds left days → WasKeptFor state moves from last days conversations old new
+kept_for state moves from last desks left feeds days conversations old new kept many fed over done = record {
   collected = map (λ (feed : FeedState). feed.collected) feeds;
   kept = kept;
   as_many = AllZip-long IsOver feeds conversations over ∙ fed;
@@ -51,12 +50,11 @@ kept_for state moves device line last desks left feeds days conversations old ne
 }
 
 -- an office that has lived, and isn't told of
-pub left_open : {D : Type 0} (state : D → DeviceState) (moves : ℕ) (closes : Type 0) (device : D) (line : Configuration) (desks : List DeskState) (last : Span D) (left : List Left) (after : D)
-    (old new : Archive) → HasLived state moves closes (adjourned_to device line desks) last left old new → last.clerk.journal.device ≡ after → WasLeftOpen state moves device line after
-left_open state moves closes device line desks last left after old new lived has = record {
+pub left_open : {D : Type 0} (state : D → DeviceState) (moves : ℕ) (closes : Type 0) (from : Rest D) (desks : List DeskState) (last : Span D) (left : List Left) (after : D)
+    (old new : Archive) → HasLived state moves closes (record { rest = from; desks = desks }) last left old new → last.clerk.journal.device ≡ after → WasLeftOpen state moves from after
+left_open state moves closes from desks last left after old new lived has = record {
   earlier = lived.earlier.spans;
-  between = lived.before.device;
-  stood = lived.before.line;
+  between = lived.before.rest;
   joined = lived.earlier.joined;
   left = record {
     clerk = last.clerk;

@@ -1,8 +1,7 @@
 -- A device that is looked at again and again.
 use Rattle.std.proofs.Common.{◌∙◌}
 use Rattle.sector_device.specs.Device.{DeviceState}
-use Rattle.sector_device.specs.Crash.{looks_joined}
-use Rattle.office_day.specs.Spans.{WasLookedAt}
+use Rattle.sector_device.specs.Crash.{WasLookedAt, looks_joined}
 
 pub looked_again : (old mid new : DeviceState) → WasLookedAt old mid → WasLookedAt mid new → WasLookedAt old new
 looked_again old mid new first second = record {

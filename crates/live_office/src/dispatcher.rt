@@ -1,6 +1,6 @@
 //! The thread that holds every feed.
 ghost use Rattle.std.specs.Prelude.{◌≡◌, map};
-ghost use Rattle.station_desk.specs.PairLaws.{AllStandAt};
+ghost use Rattle.station_desk.specs.Rings.{AllStandAt};
 
 use crate::scheduler::Scheduler;
 use crate::session::Session;
@@ -14,7 +14,7 @@ pub(crate) struct SameFeeds(pub Snapshot<Vec<Session>>);
 
 impl Promise<Vec<Session>> for SameFeeds {
     ghost use Rattle.std.specs.Prelude.{map};
-    ghost use Rattle.station_desk.specs.PairLaws.{AllStandAt};
+    ghost use Rattle.station_desk.specs.Rings.{AllStandAt};
 
     ghost kept_by = { λ promise sessions. AllStandAt (map (λ session. session.postings.feed) promise.0.value.items) (map (λ session. session.postings.feed) sessions.items) };
 }

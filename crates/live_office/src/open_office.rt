@@ -2,7 +2,7 @@
 ghost use Rattle.std.specs.Prelude.{◌≡◌, map, IfOk, IfErr};
 ghost use Rattle.std.specs.List.{AllZip};
 ghost use Rattle.office_day.specs.Day.{AreReconciled};
-ghost use Rattle.office_day.specs.Spans.{span_of};
+ghost use Rattle.office_day.specs.Spans.{rest_of, span_of};
 ghost use Rattle.live_office.specs.Conversation.{IsOver};
 ghost use Rattle.live_office.specs.Kept.{WasKeptFor, HandsBack, stands_with};
 
@@ -14,8 +14,8 @@ use crate::scheduler::Scheduler;
 use crate::session::Session;
 use crate::wakers::Wakers;
 use office_day::{
-    Adjourned, Audit, Clerk, Device, Feed, Left, Life, Line, OfficeRefusal, StationDay,
-    all_reconciled, run_spans,
+    Adjourned, Audit, Clerk, Device, Feed, Left, Life, OfficeRefusal, StationDay, all_reconciled,
+    run_spans,
 };
 use std::alloc::{AllocError, Global};
 use std::io::{Read, Write};
@@ -77,14 +77,14 @@ impl From<Unserved> for LiveRefusal {
     }
 }
 
-/// Keeps an office open on the device, with this line, for these counters, each at its station: each may come and
-/// go, say its requests, and is told the answers. Stations without a counter take turns that are empty. After `moves`
-/// turns the office is closed and opened again, which no counter notices. It ends once a counter asks for that, and all
-/// that was submitted is answered; where the input of a terminal ends; and where a station is refused its turns, as by
-/// a failed device. Then it is closed. Whenever it is closed for a while, the keeper adds to the archive and makes the
-/// copies that were asked for; counters can have it closed for that. If the archive can't be kept, the office ends. The
-/// keeper comes back with an office that is closed: its archive has all batches of the spans before the last one. The
-/// call waits for all of that; the counters' threads are left behind.
+/// Keeps an office open over the clerk, with its line, for these counters, each at its station: each may come and go,
+/// say its requests, and is told the answers. Stations without a counter take turns that are empty. After `moves` turns
+/// the office is closed, the clerk begins anew, and it is opened again, which no counter notices. It ends once a
+/// counter asks for that, and all that was submitted is answered; where the input of a terminal ends; and where a
+/// station is refused its turns, as by a failed device. Then it is closed. Whenever it is closed for a while, the
+/// keeper adds to the archive and makes the copies that were asked for; counters can have it closed for that. If the
+/// archive can't be kept, the office ends. The keeper comes back with an office that is closed: its archive has all
+/// batches of the spans before the last one. The call waits for all of that; the counters' threads are left behind.
 ///
 /// # Errors
 /// The device comes back with a [`LiveRefusal`].
@@ -97,20 +97,19 @@ pub fn keep_open<
 >(
     rt: &R,
     alloc: Global,
-    device: D,
-    line: Line,
+    clerk: Clerk<D>,
     counters: Vec<Counter<I, O>>,
     moves: u64,
     keeper: K,
 ) -> Result<(Closed<D>, K), (D, LiveRefusal)>
-    ensures kept { IfOk result (λ both. WasKeptFor D.state moves device line
+    ensures kept { IfOk result (λ both. WasKeptFor D.state moves (rest_of clerk)
         (span_of both.0.clerk both.0.audit) both.0.stations.items both.0.conversations.items
         (K.archive keeper) (K.archive both.1)) }
-    ensures left { IfErr result (λ e. HandsBack D.state moves device line e.0 e.1) }
+    ensures left { IfErr result (λ e. HandsBack D.state moves (rest_of clerk) e.0 e.1) }
 {
-    let begun = match begin(rt, alloc, line.stations(), counters) {
+    let begun = match begin(rt, alloc, clerk.line().stations(), counters) {
         Ok(begun) => begun,
-        Err(unserved) => return Err((device, LiveRefusal::from(unserved))),
+        Err(unserved) => return Err((clerk.into_device(), LiveRefusal::from(unserved))),
     };
     let Begun {
         scheduler,
@@ -118,17 +117,13 @@ pub fn keep_open<
         desks,
         wakers,
     } = begun;
-    let office = Adjourned {
-        device,
-        line,
-        desks,
-    };
     let mut recess = Granting {
         rt,
         alloc,
         scheduler: &*scheduler,
         keeper,
     };
+    let office = Adjourned { clerk, desks };
     let life = run_spans(rt, alloc, office, &*scheduler, &mut recess, moves);
     scheduler.note_over();
     let ended = all_ended(rt, alloc, dispatcher.join(rt));

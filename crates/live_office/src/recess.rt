@@ -1,7 +1,7 @@
 //! What a live office does between two spans.
 ghost use Rattle.std.specs.Prelude.{◌≡◌, ◌⊎◌, ◌↔◌, ℕ, true, false, Ok, Err};
+ghost use Rattle.sector_device.specs.Crash.{WasLookedAt};
 ghost use Rattle.office_day.specs.Archive.{Archive, WasKept, next_of};
-ghost use Rattle.office_day.specs.Spans.{WasLookedAt};
 ghost use Rattle.live_office.specs.declared.standing.Standing.{Standing};
 ghost use Rattle.live_office.specs.Standing.{HasRoom, CantBeRead, archived_of};
 
@@ -9,6 +9,7 @@ use crate::look::Seen;
 use crate::scheduler::Scheduler;
 use crate::standing::{Standing, StandingRefusal, measure};
 use office_day::{Device, Recess};
+use sector_device::Look;
 use std::alloc::Global;
 use std::sync::Wait;
 
@@ -181,14 +182,10 @@ impl<R: Wait, K> Granting<'_, R, K> {
     }
 }
 
-impl<D: Device, R: Wait, K: Keeper<D>> Recess<D> for Granting<'_, R, K> {
-    ghost archive = { λ granting. K.archive granting.keeper };
+impl<D: Device, R: Wait, K: Keeper<D>> Look<D> for Granting<'_, R, K> {
+    ghost makes = { λ device old new. WasKept device (K.archive old.keeper) (K.archive new.keeper) };
 
-    fn is_called(&self) -> bool {
-        self.scheduler.is_recess_called()
-    }
-
-    fn spend(&mut self, device: D) -> D {
+    fn look(&mut self, device: D) -> D {
         let (mut device, kept) = self.keep_archive(device);
         self.scheduler.begin_recess();
         for station in 0..self.scheduler.stations() {
@@ -196,5 +193,15 @@ impl<D: Device, R: Wait, K: Keeper<D>> Recess<D> for Granting<'_, R, K> {
         }
         self.scheduler.wake_dispatcher();
         device
+    }
+}
+
+impl<D: Device, R: Wait, K: Keeper<D>> Recess<D> for Granting<'_, R, K> {
+    ghost archive = { λ granting. K.archive granting.keeper };
+
+    ghost keeps = { λ device old new kept. kept };
+
+    fn is_called(&self) -> bool {
+        self.scheduler.is_recess_called()
     }
 }

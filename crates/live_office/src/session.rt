@@ -298,7 +298,7 @@ impl Session {
     {
         match self.report(rt, scheduler, Question::Balance(account)) {
             Some(Report::Balance(answer)) => self.respond(Response::of_balance(account, answer)),
-            Some(Report::Found(_) | Report::Latest(_)) | None => false,
+            Some(Report::Found(_) | Report::Latest(_) | Report::Room(_)) | None => false,
         }
     }
 

@@ -1,6 +1,6 @@
 //! How a live office stands.
 ghost use Rattle.std.specs.Prelude.{◌≡◌, IfOk, Err};
-ghost use Rattle.office_day.specs.Spans.{WasLookedAt};
+ghost use Rattle.sector_device.specs.Crash.{WasLookedAt};
 ghost use Rattle.live_office.specs.Standing.{HasRoom, CantBeRead};
 
 use journal_recovery::{OpenRefusal, Recovered, recover};

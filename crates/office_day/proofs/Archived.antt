@@ -6,11 +6,11 @@ use Rattle.std.proofs.Math.Seq.{take-append_seam}
 use Rattle.std.proofs.lemmas.Bool.{cases_lt}
 use Rattle.std.proofs.lemmas.List.{append-nil, append_assoc, ext_get_or, get_or-take, get_or_append_left, get_or-append_right, length-append, length-take-le, take_all}
 use Rattle.sector_device.specs.Device.{DeviceState, IsSound}
+use Rattle.sector_device.specs.Crash.{WasLookedAt}
 use Rattle.gate_journal.specs.Record.{RecordData}
 use Rattle.turn_ledger.specs.declared.entry.Entry.{Entry}
 use Rattle.turn_ledger.specs.declared.entry.Entry.TheVariants.{Deposit}
 use Rattle.turn_ledger.specs.PlaceLaws.{place_bytes-injective}
-use Rattle.four_state.specs.Configuration.{Configuration}
 use Rattle.journal_recovery.specs.Places.{Spells, IsEntryAt, entry_at}
 use Rattle.journal_recovery.specs.Recovery.{batch_at}
 use Rattle.journal_recovery.specs.Sight.{numbered}
@@ -18,7 +18,7 @@ use Rattle.journal_recovery.specs.State.{state_after}
 use Rattle.turn_clerk.specs.Clerk.{ClerkState, Extends, opening_state, accepted_batches, in_flight_batch}
 use Rattle.turn_clerk.specs.History.{batches_of}
 use Rattle.office_day.specs.Archive.{Archive, WasKept, HasCaughtUp, EndsWith, next_of}
-use Rattle.office_day.specs.Spans.{Span, IsSpan, WasLookedAt, FitsBank, AreOf, AreOfSpans, WereArchived}
+use Rattle.office_day.specs.Spans.{Span, Rest, IsSpan, FitsBank, AreOf, AreOfSpans, WereArchived}
 
 -- a place holds one entry
 one_entry : (r : RecordData) (place : ℕ) (d e : Entry) → IsEntryAt r place d → IsEntryAt r place e → d ≡ e
@@ -83,10 +83,11 @@ module _ {D : Type 0} (state : D → DeviceState) where
   }
 
   -- what an archive lacked behind a span is what the span accepted
-  own_batches : (moves : ℕ) (mid : D) (line : Configuration) (span : Span D) (now new : Archive) → IsSpan state moves (state mid) line span
-      → ((state span.clerk.journal.device).honest → IsSound (state span.clerk.journal.device)) → (state mid).honest → FitsBank span.clerk → EndsWith now (state mid).reads → new.first ≡ now.first
+  own_batches : (moves : ℕ) (mid : Rest D) (span : Span D) (now new : Archive) → IsSpan state moves mid span
+      → ((state span.clerk.journal.device).honest → IsSound (state span.clerk.journal.device)) → (state mid.device).honest → FitsBank span.clerk
+      → EndsWith now (state mid.device).reads → new.first ≡ now.first
       → (caught : HasCaughtUp (state span.clerk.journal.device).reads now new) → AreOf span.clerk caught.more
-  own_batches moves mid line span now new is sound sane fits stood begins caught =
+  own_batches moves mid span now new is sound sane fits stood begins caught =
       let clerk = span.clerk in
       let left = state clerk.journal.device in
       let image = left.reads in
@@ -117,12 +118,12 @@ module _ {D : Type 0} (state : D → DeviceState) where
       subst (AreOf clerk) (sym same) (with_or_without clerk count prefix.at_least prefix.at_most)
 
   -- one span more
-  pub archived-more : (moves : ℕ) (from : D) (spans : List (Span D)) (mid : D) (line : Configuration) (span : Span D) (next : D) (old now new : Archive)
-      → WereArchived state from spans mid old now → IsSpan state moves (state mid) line span
+  pub archived-more : (moves : ℕ) (from : D) (spans : List (Span D)) (mid : Rest D) (span : Span D) (next : D) (old now new : Archive)
+      → WereArchived state from spans mid.device old now → IsSpan state moves mid span
       → ((state span.clerk.journal.device).honest → IsSound (state span.clerk.journal.device))
       → WasLookedAt (state span.clerk.journal.device) (state next) → WasKept (state span.clerk.journal.device) now new
       → WereArchived state from (spans ++ span ∷ []) next old new
-  archived-more moves from spans mid line span next old now new earlier is sound looked kept = record {
+  archived-more moves from spans mid span next old now new earlier is sound looked kept = record {
     first = kept.first ∙ earlier.first;
     honest = kept.honest ∙ earlier.honest;
     keeps = extends_joined old.batches now.batches new.batches earlier.keeps kept.keeps;
@@ -133,7 +134,7 @@ module _ {D : Type 0} (state : D → DeviceState) where
         let after = is.closed.opened.stays_honest before.0 in
         let caught = kept.caught_up (earlier.honest ∙ honest) not after in
         let looks = looked.looks after in
-        let own = own_batches moves mid line span now new is sound before.0 (all_last fits spans span fit) before.2 kept.first caught in
+        let own = own_batches moves mid span now new is sound before.0 (all_last fits spans span fit) before.2 kept.first caught in
         let went = before.1 in (
           looked.stays_honest after,
           record {

@@ -18,8 +18,7 @@ use Rattle.station_desk.specs.declared.messages.Ask.{Ask}
 use Rattle.station_desk.specs.declared.end.End.TheVariants.{NotStarted, Refused}
 use Rattle.station_desk.specs.declared.messages.Answer.{Answer}
 use Rattle.station_desk.specs.Messages.{entries_of, asks_of, outcomes_in, AreNumberedFrom}
-use Rattle.station_desk.specs.PairLaws.{AllStandAt}
-use Rattle.station_desk.specs.Rings.{FeedState, DeskState, AreTogether}
+use Rattle.station_desk.specs.Rings.{FeedState, DeskState, AreTogether, AllStandAt}
 use Rattle.station_desk.specs.Served.{HasServed}
 use Rattle.station_desk.specs.ServedLaws.{served-nothing}
 use Rattle.station_desk.specs.WorkedLaws.{served-joined}
@@ -32,7 +31,7 @@ use Rattle.office_day.specs.Day.{HaveServed, IsReconciled, AreReconciled}
 use Rattle.station_desk.specs.declared.end.End.{End}
 use Rattle.office_day.specs.Ended.{HasEnded}
 use Rattle.office_day.proofs.Ended.{has_ended, ended_anyhow}
-use Rattle.office_day.specs.Spans.{Span, span_of, turns_in, IsSpan, AreSpans, WasLookedAt, IsGoodEnd, LeftAfter, HaveLeft, Adjournment, adjourned_to, HasComeTo}
+use Rattle.office_day.specs.Spans.{Span, Rest, span_of, turns_in, IsSpan, IsLeftBy, AreSpans, IsGoodEnd, LeftAfter, HaveLeft, Adjournment, HasComeTo}
 use Rattle.office_day.specs.Archive.{Archive}
 use Rattle.office_day.specs.Spans.{WereArchived, HasLived, WasBrokenOff, WasServed, WasKeptOpen, WasAbandoned}
 use Rattle.office_day.proofs.Days.{length-new_seats, new_seat_at}
@@ -102,23 +101,17 @@ not_refused end (inr closed) failed = absurd (cc)
 
 module _ {D : Type 0} (state : D → DeviceState) (moves : ℕ) where
   -- one more span in a row
-  pub spans-more : (device : D) (from : Configuration) (spans : List (Span D)) (mid : D) (between : Configuration) (span : Span D) (next : D)
-      → AreSpans state moves device from spans mid between → IsSpan state moves (state mid) between span
-      → WasLookedAt (state span.clerk.journal.device) (state next)
-      → AreSpans state moves device from (spans ++ span ∷ []) next span.clerk.line
-  spans-more device from [] mid between span next row is looked = (
-    subst (λ (d : D). IsSpan state moves (state d) from span) row.0
-        (subst (λ (l : Configuration). IsSpan state moves (state mid) l span) row.1 is),
-    (next, looked, (refl, refl)),
-  )
-  spans-more device from (before ∷ spans) mid between span next row is looked =
+  pub spans-more : (at : Rest D) (spans : List (Span D)) (mid : Rest D) (span : Span D) (next : Rest D)
+      → AreSpans state moves at spans mid → IsSpan state moves mid span → IsLeftBy state span next → AreSpans state moves at (spans ++ span ∷ []) next
+  spans-more at [] mid span next row is left = (subst (λ (r : Rest D). IsSpan state moves r span) row is, (next, left, refl))
+  spans-more at (before ∷ spans) mid span next row is left =
       let (then, was, more) = row.1 in
-      (row.0, (then, was, spans-more then before.clerk.line spans mid between span next more is looked))
+      (row.0, (then, was, spans-more then spans mid span next more is left))
 
   unfoldable pub nothing_lived : (from : Adjournment D) → HasComeTo state moves from from
   nothing_lived from = record {
     spans = [];
-    joined = (refl, refl);
+    joined = refl;
     given = record { as_many = refl; each = λ i desk low. served-nothing (slice_index_or from.desks i desk) };
   }
 
@@ -140,8 +133,8 @@ module _ {D : Type 0} (state : D → DeviceState) (moves : ℕ) where
   }
 
   pub lived : (closes : Type 0) (from before : Adjournment D) → (earlier : HasComeTo state moves from before) → (clerk : Span D) (parts : List Left) (old new : Archive)
-      → IsSpan state moves (state before.device) before.line clerk → HaveLeft moves closes [] clerk before.desks parts
-      → WereArchived state from.device earlier.spans before.device old new → HasLived state moves closes from clerk parts old new
+      → IsSpan state moves before.rest clerk → HaveLeft moves closes [] clerk before.desks parts
+      → WereArchived state from.rest.device earlier.spans before.rest.device old new → HasLived state moves closes from clerk parts old new
   lived closes from before earlier span parts old new closed left archived = record {
     before = before;
     earlier = earlier;
@@ -152,17 +145,14 @@ module _ {D : Type 0} (state : D → DeviceState) (moves : ℕ) where
 
   -- where all turns were taken, or the stations were sent home, the office comes to the next span
   unfoldable pub come-further : (closes : Type 0) (from before after : Adjournment D) (earlier : HasComeTo state moves from before) (span : Span D) (parts : List Left)
-      → IsSpan state moves (state before.device) before.line span → HaveLeft moves closes [] span before.desks parts → All (λ (part : Left). IsGoodEnd part.end) parts
-      → WasLookedAt (state span.clerk.journal.device) (state after.device) → after.line ≡ span.audit.last → after.desks ≡ map (λ (part : Left). part.desk) parts
-      → HasComeTo state moves from after
-  come-further closes from before after earlier span parts closed left well looked line desks =
+      → IsSpan state moves before.rest span → HaveLeft moves closes [] span before.desks parts → All (λ (part : Left). IsGoodEnd part.end) parts
+      → IsLeftBy state span after.rest → after.desks ≡ map (λ (part : Left). part.desk) parts → HasComeTo state moves from after
+  come-further closes from before after earlier span parts closed left well rests desks =
       let far = left-more closes from before earlier span parts left in
       let desk_of : Left → DeskState = λ part. part.desk in
-      let line_is : span.clerk.line ≡ after.line = sym (line ∙ closed.closed.last) in
       record {
         spans = earlier.spans ++ span ∷ [];
-        joined = subst (λ (l : Configuration). AreSpans state moves from.device from.line (earlier.spans ++ span ∷ []) after.device l) line_is
-            (spans-more from.device from.line earlier.spans before.device before.line span after.device earlier.joined closed looked);
+        joined = spans-more from.rest earlier.spans before.rest span after.rest earlier.joined closed rests;
         given = record {
           as_many = ap length desks ∙ length-map parts desk_of ∙ far.as_many;
           each = λ i desk low.
@@ -179,11 +169,11 @@ module _ {D : Type 0} (state : D → DeviceState) (moves : ℕ) where
       }
 
   -- there is a desk for each station of the line
-  pub desks_enough : (closes : Type 0) (before after : Adjournment D) (span : Span D) (parts : List Left) → length before.desks ≡ stations before.line
-      → IsSpan state moves (state before.device) before.line span → HaveLeft moves closes [] span before.desks parts
-      → after.line ≡ span.audit.last → after.desks ≡ map (λ (part : Left). part.desk) parts → length after.desks ≡ stations after.line
+  pub desks_enough : (closes : Type 0) (before after : Adjournment D) (span : Span D) (parts : List Left) → length before.desks ≡ stations before.rest.line
+      → IsSpan state moves before.rest span → HaveLeft moves closes [] span before.desks parts
+      → after.rest.line ≡ span.clerk.line → after.desks ≡ map (λ (part : Left). part.desk) parts → length after.desks ≡ stations after.rest.line
   desks_enough closes before after span parts many closed left line desks =
-      ap length desks ∙ length-map parts (λ (part : Left). part.desk) ∙ left.as_many ∙ many ∙ sym closed.closed.stations ∙ ap stations (sym (line ∙ closed.closed.last))
+      ap length desks ∙ length-map parts (λ (part : Left). part.desk) ∙ left.as_many ∙ many ∙ sym closed.closed.stations ∙ ap stations (sym line)
 
 -- what a station's client was told, from what its feed and its desk have in the end
 was_served : {D : Type 0} (moves : ℕ) (closes : Type 0) (station : ℕ) (earlier : List (Span D)) (last : Span D) (before : DeskState) (feed : FeedState) (part : Left) (day : StationDay)
@@ -202,13 +192,12 @@ was_served moves closes station earlier last before feed part day fresh left don
     }
 
 module _ {D : Type 0} (state : D → DeviceState) (moves : ℕ) where
-  pub kept_open : (closes : Type 0) (device : D) (line : Configuration) (desks : List DeskState) (last : Span D) (left : List Left) (feeds : List FeedState) (days : List StationDay)
-      → (old new : Archive) → HasLived state moves closes (adjourned_to device line desks) last left old new → All IsFresh desks → length desks ≡ stations line → length feeds ≡ stations line
-      → AreReconciled feeds left days → WasKeptOpen state moves device line last (map (λ (feed : FeedState). feed.collected) feeds) days old new
-  kept_open closes device line desks last left feeds days old new lived fresh many fed done = record {
+  pub kept_open : (closes : Type 0) (from : Rest D) (desks : List DeskState) (last : Span D) (left : List Left) (feeds : List FeedState) (days : List StationDay)
+      → (old new : Archive) → HasLived state moves closes (record { rest = from; desks = desks }) last left old new → All IsFresh desks → length desks ≡ stations from.line
+      → length feeds ≡ stations from.line → AreReconciled feeds left days → WasKeptOpen state moves from last (map (λ (feed : FeedState). feed.collected) feeds) days old new
+  kept_open closes from desks last left feeds days old new lived fresh many fed done = record {
     earlier = lived.earlier.spans;
-    between = lived.before.device;
-    stood = lived.before.line;
+    between = lived.before.rest;
     joined = lived.earlier.joined;
     closed = lived.closed;
     archived = lived.archived;
@@ -228,12 +217,11 @@ module _ {D : Type 0} (state : D → DeviceState) (moves : ℕ) where
     };
   }
 
-  pub abandoned : {F : Type 0} (device : D) (line : Configuration) (desks : List DeskState) (after : D) (refusal : OfficeRefusal F)
-      → WasBrokenOff state moves (adjourned_to device line desks) after refusal → WasAbandoned state moves device line after refusal
-  abandoned device line desks after refusal broken = record {
+  pub abandoned : {F : Type 0} (from : Rest D) (desks : List DeskState) (after : D) (refusal : OfficeRefusal F)
+      → WasBrokenOff state moves (record { rest = from; desks = desks }) after refusal → WasAbandoned state moves from after refusal
+  abandoned from desks after refusal broken = record {
     earlier = broken.earlier.spans;
-    between = broken.before.device;
-    stood = broken.before.line;
+    between = broken.before.rest;
     joined = broken.earlier.joined;
     opening = broken.opening;
     left = broken.left;

@@ -3,22 +3,22 @@ use Rattle.std.specs.Prelude.{◌≡◌, ◌⊎◌, ◌+◌, ◌<◌, ◌≤◌,
 use Rattle.std.specs.List.{flat_map, slice_index_or}
 use Rattle.sector_device.specs.Device.{DeviceState}
 use Rattle.sector_device.specs.Image.{Image}
-use Rattle.sector_device.specs.Crash.{LooksOnly, LeavesOnly}
+use Rattle.sector_device.specs.Crash.{LeavesOnly, WasLookedAt}
 use Rattle.four_state.specs.Configuration.{Configuration, stations}
 use Rattle.sweep_auditor.specs.declared.moves.Audit.{Audit}
 use Rattle.turn_clerk.specs.declared.turns.Turn.{Turn}
-use Rattle.turn_clerk.specs.Clerk.{ClerkState, accepted_batches}
-use Rattle.turn_clerk.specs.Clerk.{Extends}
+use Rattle.turn_clerk.specs.Clerk.{ClerkState, Extends, accepted_batches, opening_state, present_state}
 use Rattle.turn_clerk.specs.FarBack.{HasInSight, end_of}
 use Rattle.turn_clerk.specs.History.{batches_of}
 use Rattle.turn_ledger.specs.declared.entry.Entry.{Entry}
 use Rattle.journal_recovery.specs.Places.{Spells}
 use Rattle.journal_recovery.specs.Recovery.{batch_at}
 use Rattle.journal_recovery.specs.Sight.{Sight, numbered}
+use Rattle.journal_recovery.specs.State.{State}
 use Rattle.office_day.specs.Archive.{Archive, EndsWith}
 use Rattle.line_lock.specs.Account.{turns_of}
 use Rattle.line_lock.specs.declared.lent.OfficeRefusal.{OfficeRefusal}
-use Rattle.line_lock.specs.Lent.{IsClosed, IsRefused, IfOpening, UnlessOpening}
+use Rattle.line_lock.specs.Lent.{IsClosed, IfOpening, UnlessOpening}
 use Rattle.line_lock.specs.OpenedOn.{WasLeftByClerk}
 use Rattle.station_desk.specs.declared.end.End.{End}
 use Rattle.station_desk.specs.declared.end.End.TheVariants.{Reached, Closed}
@@ -41,6 +41,16 @@ pub record Span (D : Type 0) : Type 0 where
 abbrev pub span_of : {D : Type 0} → ClerkState D → Audit → Span D
 span_of clerk audit = record { clerk = clerk; audit = audit }
 
+-- What an office stands on while it is closed: its device and its line, and the ledger with the number of its next batch.
+pub record Rest (D : Type 0) : Type 0 where
+  pub device : D
+  pub line : Configuration
+  pub held : State
+
+-- what a clerk leaves for the next span
+abbrev pub rest_of : {D : Type 0} → ClerkState D → Rest D
+rest_of clerk = record { device = clerk.journal.device; line = clerk.line; held = present_state clerk }
+
 -- the turns of a station in these spans, in order
 abbrev pub turns_in : {D : Type 0} → ℕ → List (Span D) → List Turn
 turns_in station spans = flat_map (λ span. turns_of station span.clerk.history) spans
@@ -54,32 +64,28 @@ pub record SeesFrom (number : ℕ) (batches : List (List Entry)) (image : Image)
 abbrev pub FitsBank : {D : Type 0} → ClerkState D → Type 0
 FitsBank clerk = length (accepted_batches clerk) ≤ clerk.opening.journal.slots
 
--- The span was opened on that device with that line, and closed: what is promised of a closed office holds of it, and
--- it has at most so many turns. If it accepted no more batches than a bank has slots, each image that a crash left has
--- all of them in sight, as they were accepted, so that none of them is lost to an archive that had all before.
-pub record IsSpan {D : Type 0} (state : D → DeviceState) (moves : ℕ) (device : DeviceState) (from : Configuration) (span : Span D) : Type 0 where
-  pub closed : IsClosed state device from span.clerk span.audit
+-- The span was opened on what an office rested on, and closed: what is promised of a closed office holds of it, it began
+-- with the ledger that was held, on any device, and it has at most so many turns. If it accepted no more batches than a
+-- bank has slots, each image that a crash left has all of them in sight, as they were accepted, so that none of them is
+-- lost to an archive that had all before.
+pub record IsSpan {D : Type 0} (state : D → DeviceState) (moves : ℕ) (at : Rest D) (span : Span D) : Type 0 where
+  pub closed : IsClosed state (state at.device) at.line span.clerk span.audit
+  pub begins : opening_state span.clerk ≡ at.held
   pub within : length span.clerk.history ≤ moves
   pub in_sight : FitsBank span.clerk → (state span.clerk.journal.device).honest
       → LeavesOnly (state span.clerk.opening.journal.device) (state span.clerk.journal.device) (SeesFrom span.clerk.opening.journal.next (accepted_batches span.clerk))
 
--- The device was looked at: it has as many sectors, is honest where it was and only there, and an honest one was read
--- and synced, and not written.
-pub record WasLookedAt (old new : DeviceState) : Type 0 where
-  pub sectors : length new.reads ≡ length old.reads
-  pub stays_honest : old.honest → new.honest
-  pub was_honest : new.honest → old.honest
-  pub looks : LooksOnly old new
+-- What the next span is opened on is what this one left, but that its device was looked at.
+pub record IsLeftBy {D : Type 0} (state : D → DeviceState) (span : Span D) (next : Rest D) : Type 0 where
+  pub looked : WasLookedAt (state span.clerk.journal.device) (state next.device)
+  pub line : next.line ≡ span.clerk.line
+  pub held : next.held ≡ present_state span.clerk
 
--- Spans in a row, from that device and that line on: each was opened on the line that the one before it left, and on
--- the device that it left, which was only looked at between them. So was `after`, behind the last one; it left the line
--- `to`.
+-- Spans in a row, from there on: each was opened on what the one before it left, and so is `after`, behind the last.
 module _ {D : Type 0} (state : D → DeviceState) (moves : ℕ) where
-  abbrev pub AreSpans : D → Configuration → List (Span D) → D → Configuration → Type 0
-  AreSpans device from [] after to = (after ≡ device) × (to ≡ from)
-  AreSpans device from (span ∷ spans) after to =
-      IsSpan state moves (state device) from span × ((next : D) × WasLookedAt (state span.clerk.journal.device) (state next)
-      × AreSpans next span.clerk.line spans after to)
+  abbrev pub AreSpans : Rest D → List (Span D) → Rest D → Type 0
+  AreSpans at [] after = after ≡ at
+  AreSpans at (span ∷ spans) after = IsSpan state moves at span × ((next : Rest D) × IsLeftBy state span next × AreSpans next spans after)
 
 -- These batches are the clerk's: all that it acknowledged, with the one in flight or without it.
 abbrev pub AreOf : {D : Type 0} → ClerkState D → List (List Entry) → Type 0
@@ -132,20 +138,19 @@ pub record HaveLeft {D : Type 0} (moves : ℕ) (closes : Type 0) (earlier : List
 abbrev pub IsGoodEnd : End → Type 0
 IsGoodEnd end = (end ≡ Reached) ⊎ (end ≡ Closed)
 
--- an office that is to be opened: its device and line, and the desks of its stations
+-- an office that is to be opened: what it rests on, and the desks of its stations
 pub record Adjournment (D : Type 0) : Type 0 where
-  pub device : D
-  pub line : Configuration
+  pub rest : Rest D
   pub desks : List DeskState
 
-abbrev pub adjourned_to : {D : Type 0} → D → Configuration → List DeskState → Adjournment D
-adjourned_to device line desks = record { device = device; line = line; desks = desks }
+abbrev pub adjourned_to : {D : Type 0} → ClerkState D → List DeskState → Adjournment D
+adjourned_to clerk desks = record { rest = rest_of clerk; desks = desks }
 
--- From there on an office was open for these spans, each of which left the next one its device, line and desks, and
--- came to this.
+-- From there on an office was open for these spans, each of which left the next one its device, line, ledger and desks,
+-- and came to this.
 pub record HasComeTo {D : Type 0} (state : D → DeviceState) (moves : ℕ) (from to : Adjournment D) : Type 0 where
   pub spans : List (Span D)
-  pub joined : AreSpans state moves from.device from.line spans to.device to.line
+  pub joined : AreSpans state moves from.rest spans to.rest
   pub given : HaveGiven spans from.desks to.desks
 
 -- From there on an office was open for some spans and this last one, and each station left what it gave in them all.
@@ -153,17 +158,17 @@ pub record HasComeTo {D : Type 0} (state : D → DeviceState) (moves : ℕ) (fro
 pub record HasLived {D : Type 0} (state : D → DeviceState) (moves : ℕ) (closes : Type 0) (from : Adjournment D) (last : Span D) (parts : List Left) (old new : Archive) : Type 0 where
   pub before : Adjournment D
   pub earlier : HasComeTo state moves from before
-  pub closed : IsSpan state moves (state before.device) before.line last
+  pub closed : IsSpan state moves before.rest last
   pub left : HaveLeft moves closes earlier.spans last from.desks parts
-  pub archived : WereArchived state from.device earlier.spans before.device old new
+  pub archived : WereArchived state from.rest.device earlier.spans before.rest.device old new
 
--- From there on an office was open for some spans, and the next one wasn't opened, or wasn't closed: the device is as
--- the refused opening left it, or comes from a clerk that took turns on it.
+-- From there on an office was open for some spans, and the next one wasn't opened, or wasn't closed: the device is what
+-- the last one left, or comes from a clerk that took turns on it.
 pub record WasBrokenOff {D F : Type 0} (state : D → DeviceState) (moves : ℕ) (from : Adjournment D) (after : D) (refusal : OfficeRefusal F) : Type 0 where
   pub before : Adjournment D
   pub earlier : HasComeTo state moves from before
-  pub opening : IfOpening refusal (IsRefused state before.device after)
-  pub left : UnlessOpening refusal (WasLeftByClerk state (state before.device) before.line after)
+  pub opening : IfOpening refusal (λ _. after ≡ before.rest.device)
+  pub left : UnlessOpening refusal (WasLeftByClerk state (state before.rest.device) before.rest.line after)
 
 -- What became of all that a station's client asked of an office that was open for these spans and a last one: each
 -- request stands, in order and under its ticket, in one of the answers that it collected, in one that it didn't, or is
@@ -183,24 +188,22 @@ pub record HaveBeenServed {D : Type 0} (count moves : ℕ) (earlier : List (Span
   pub each : (i : ℕ) (answers : List Answer) (day : StationDay) → i < count
       → WasServed moves i earlier last (slice_index_or collected i answers) (slice_index_or days i day)
 
--- An office was kept open on that device and that line for some spans in a row, of which this is the last one, and its
--- clients, who collected these answers, were served so. Its archive was kept behind each of the earlier spans.
-pub record WasKeptOpen {D : Type 0} (state : D → DeviceState) (moves : ℕ) (device : D) (line : Configuration) (last : Span D) (collected : List (List Answer)) (days : List StationDay)
+-- An office was kept open from there on for some spans in a row, of which this is the last one, and its clients, who
+-- collected these answers, were served so. Its archive was kept behind each of the earlier spans.
+pub record WasKeptOpen {D : Type 0} (state : D → DeviceState) (moves : ℕ) (from : Rest D) (last : Span D) (collected : List (List Answer)) (days : List StationDay)
     (old new : Archive) : Type 0 where
   pub earlier : List (Span D)
-  pub between : D
-  pub stood : Configuration
-  pub joined : AreSpans state moves device line earlier between stood
-  pub closed : IsSpan state moves (state between) stood last
-  pub served : HaveBeenServed (stations line) moves earlier last collected days
-  pub archived : WereArchived state device earlier between old new
+  pub between : Rest D
+  pub joined : AreSpans state moves from earlier between
+  pub closed : IsSpan state moves between last
+  pub served : HaveBeenServed (stations from.line) moves earlier last collected days
+  pub archived : WereArchived state from.device earlier between.device old new
 
--- The device comes from an office that was kept open on that one with that line, and isn't told of: behind some spans
--- the next wasn't opened, and the device is as that left it, or a clerk took turns on it.
-pub record WasAbandoned {D F : Type 0} (state : D → DeviceState) (moves : ℕ) (device : D) (line : Configuration) (after : D) (refusal : OfficeRefusal F) : Type 0 where
+-- The device comes from an office that was kept open from there on, and isn't told of: behind some spans the next wasn't
+-- opened, and the device is what the last one left, or a clerk took turns on it.
+pub record WasAbandoned {D F : Type 0} (state : D → DeviceState) (moves : ℕ) (from : Rest D) (after : D) (refusal : OfficeRefusal F) : Type 0 where
   pub earlier : List (Span D)
-  pub between : D
-  pub stood : Configuration
-  pub joined : AreSpans state moves device line earlier between stood
-  pub opening : IfOpening refusal (IsRefused state between after)
-  pub left : UnlessOpening refusal (WasLeftByClerk state (state between) stood after)
+  pub between : Rest D
+  pub joined : AreSpans state moves from earlier between
+  pub opening : IfOpening refusal (λ _. after ≡ between.device)
+  pub left : UnlessOpening refusal (WasLeftByClerk state (state between.device) between.line after)

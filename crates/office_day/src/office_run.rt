@@ -1,13 +1,17 @@
 //! An office that is opened for its stations, runs, and is closed.
 ghost use Rattle.std.specs.Prelude.{◌≡◌, ◌-◌, List, length, IfOk, IfErr};
 ghost use Rattle.four_state.specs.Configuration.{stations};
+ghost use Rattle.journal_recovery.specs.State.{State};
+ghost use Rattle.turn_clerk.specs.Clerk.{opening_state, present_state};
 ghost use Rattle.line_lock.specs.OpenedOn.{Names, WasLeftByClerk};
 ghost use Rattle.line_lock.specs.Seat.{SeatState};
 ghost use Rattle.line_lock.specs.Lent.{new_seats, AccountFor, IsClosed, IsRefused, IfOpening, UnlessOpening};
 ghost use Rattle.office_day.specs.Day.{HaveServed};
 
 use crate::seated::{Left, risen, seated};
-use line_lock::{Blank, Closing, Count, Device, Line, Office, OfficeRefusal, OpenedOn, Seat};
+use line_lock::{
+    Blank, Clerk, Closing, Count, Device, Line, Office, OfficeRefusal, OpenedOn, Seat,
+};
 use station_desk::{Desk, Gate, run_stations};
 use std::alloc::{AllocError, Global};
 use std::marker::Brand;
@@ -56,7 +60,38 @@ pub fn run_office<D: Device + Send, G: Gate + Sync, R: Threads + Wait + Sync>(
     named_run::<D, Brand, G, R>(rt, alloc, device, line, blank, desks, gate, moves, tries)
 }
 
-// The same in an office that has a name, which says what it is opened on.
+/// The same over a clerk, which begins anew with its ledger and its line, so that nothing is read.
+///
+/// # Errors
+/// The device comes back. [`OfficeRefusal::Opening`]: nothing was done; else as a clerk that took turns on it left it.
+/// The desks are lost.
+pub(crate) fn run_over<D: Device + Send, G: Gate + Sync, R: Threads + Wait + Sync>(
+    rt: &R,
+    alloc: Global,
+    clerk: Clerk<D>,
+    desks: Vec<Desk>,
+    gate: &G,
+    moves: u64,
+    tries: u64,
+) -> Result<OfficeRun<D>, (D, OfficeRefusal<AllocError>)>
+    requires as_many { length desks.items ≡ stations clerk.line }
+    ensures ran { IfOk result (λ run. (seats : List SeatState)
+        × HaveServed D.state (D.state clerk.journal.device) clerk.line (new_seats (stations clerk.line))
+        desks.items seats run.1.items moves (G.closes gate.now)
+        × AccountFor (stations clerk.line) seats run.0.clerk) }
+    ensures closed { IfOk result (λ run.
+        IsClosed D.state (D.state clerk.journal.device) clerk.line run.0.clerk run.0.audit) }
+    ensures begins { IfOk result (λ run. opening_state run.0.clerk ≡ present_state clerk) }
+    ensures left { IfErr result (λ e. UnlessOpening e.1
+        (WasLeftByClerk D.state (D.state clerk.journal.device) clerk.line e.0)) }
+    ensures opening { IfErr result (λ e. IfOpening e.1 (λ _. e.0 ≡ clerk.journal.device)) }
+{
+    let blank = Blank::new(clerk.line().stations() as u64);
+    // the name is this call's own: the device, the line and the ledger as they were handed in
+    named_over::<D, Brand, G, R>(rt, alloc, clerk, blank, desks, gate, moves, tries)
+}
+
+// The day of an office that has a name, which says what it is opened on.
 fn named_run<
     D: Device + Send,
     L: Count + OpenedOn + Send + Sync,
@@ -74,6 +109,7 @@ fn named_run<
     tries: u64,
 ) -> Result<OfficeRun<D>, (D, OfficeRefusal<AllocError>)>
     requires named { Names L.name L.parts L.device L.line blank (D.state device) line }
+    requires begins { (found : State) → L.begins found }
     requires as_many { length desks.items ≡ stations line }
     ensures ran { IfOk result (λ run. (seats : List SeatState)
         × HaveServed D.state L.device L.line (new_seats (stations line))
@@ -84,10 +120,76 @@ fn named_run<
         UnlessOpening e.1 (WasLeftByClerk D.state L.device L.line e.0)) }
     ensures opening { IfErr result (λ e. IfOpening e.1 (IsRefused D.state device e.0)) }
 {
-    let (office, seats) = match Office::<D, L>::open(alloc, device, line, blank) {
-        Ok(opened) => opened,
-        Err((device, refusal)) => return Err((device, OfficeRefusal::Opening(refusal))),
-    };
+    match Office::<D, L>::open(alloc, device, line, blank) {
+        Ok((office, seats)) => run_in(rt, alloc, office, seats, desks, gate, moves, tries),
+        Err((device, refusal)) => Err((device, OfficeRefusal::Opening(refusal))),
+    }
+}
+
+// The same over a clerk.
+fn named_over<
+    D: Device + Send,
+    L: Count + OpenedOn + Send + Sync,
+    G: Gate + Sync,
+    R: Threads + Wait + Sync,
+>(
+    rt: &R,
+    alloc: Global,
+    clerk: Clerk<D>,
+    blank: Blank,
+    desks: Vec<Desk>,
+    gate: &G,
+    moves: u64,
+    tries: u64,
+) -> Result<OfficeRun<D>, (D, OfficeRefusal<AllocError>)>
+    requires named { Names L.name L.parts L.device L.line blank
+        (D.state clerk.journal.device) clerk.line }
+    requires begins { L.begins (present_state clerk) }
+    requires as_many { length desks.items ≡ stations clerk.line }
+    ensures ran { IfOk result (λ run. (seats : List SeatState)
+        × HaveServed D.state L.device L.line (new_seats (stations clerk.line))
+        desks.items seats run.1.items moves (G.closes gate.now)
+        × AccountFor (stations clerk.line) seats run.0.clerk) }
+    ensures closed { IfOk result (λ run. IsClosed D.state L.device L.line run.0.clerk run.0.audit) }
+    ensures begins { IfOk result (λ run. L.begins (opening_state run.0.clerk)) }
+    ensures left { IfErr result (λ e.
+        UnlessOpening e.1 (WasLeftByClerk D.state L.device L.line e.0)) }
+    ensures opening { IfErr result (λ e. IfOpening e.1 (λ _. e.0 ≡ clerk.journal.device)) }
+{
+    match Office::<D, L>::open_over(alloc, clerk, blank) {
+        Ok((office, seats)) => run_in(rt, alloc, office, seats, desks, gate, moves, tries),
+        Err((clerk, refusal)) => Err((clerk.into_device(), OfficeRefusal::Opening(refusal))),
+    }
+}
+
+// The day of an office that was just opened, until it is closed.
+fn run_in<
+    D: Device + Send,
+    L: Count + OpenedOn + Send + Sync,
+    G: Gate + Sync,
+    R: Threads + Wait + Sync,
+>(
+    rt: &R,
+    alloc: Global,
+    office: Office<D, L>,
+    seats: Vec<Seat<L>>,
+    desks: Vec<Desk>,
+    gate: &G,
+    moves: u64,
+    tries: u64,
+) -> Result<OfficeRun<D>, (D, OfficeRefusal<AllocError>)>
+    requires one_each { L.parts ≡ stations L.line }
+    requires seats { seats.items ≡ new_seats L.parts }
+    requires as_many { length desks.items ≡ L.parts }
+    ensures ran { IfOk result (λ run. (after : List SeatState)
+        × HaveServed D.state L.device L.line (new_seats L.parts)
+        desks.items after run.1.items moves (G.closes gate.now)
+        × AccountFor L.parts after run.0.clerk) }
+    ensures closed { IfOk result (λ run. IsClosed D.state L.device L.line run.0.clerk run.0.audit) }
+    ensures begins { IfOk result (λ run. L.begins (opening_state run.0.clerk)) }
+    ensures left { IfErr result (λ e. WasLeftByClerk D.state L.device L.line e.0) }
+    ensures opened { IfErr result (λ e. IfOpening e.1 (λ _. ⊥)) }
+{
     let (seats, left) = match served(rt, alloc, &office, seats, desks, gate, moves, tries) {
         Ok(both) => both,
         Err(refused) => return Err((office.given_up(), OfficeRefusal::Work(refused))),

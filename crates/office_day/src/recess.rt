@@ -1,11 +1,11 @@
 //! What an office does between two spans.
 ghost use Rattle.office_day.specs.Archive.{Archive, WasKept};
-ghost use Rattle.office_day.specs.Spans.{WasLookedAt};
 
-use sector_device::Device;
+use sector_device::{Device, Look};
 
-/// Who is called between two spans of an office, while no station takes a turn.
-pub trait Recess<D: Device> {
+/// Who is lent the device between two spans of an office, while no station takes a turn: a look adds to the archive
+/// what that lacks of the ledger.
+pub trait Recess<D: Device>: Look<D> {
     ghost use Rattle.office_day.specs.Archive.{no_archive};
 
     /// The archive that is kept meanwhile.
@@ -14,8 +14,7 @@ pub trait Recess<D: Device> {
     /// Whether the stations of a span were sent home for it, so that the office is opened again behind it.
     fn is_called(&self) -> bool;
 
-    /// Looks at the device, adds to the archive what that lacks of its ledger, and hands it back. The call may wait.
-    fn spend(&mut self, device: D) -> D
-        ensures looked { WasLookedAt (D.state device) (D.state result) }
-        ensures archived { WasKept (D.state device) (archive self.old) (archive self.new) };
+    /// A look keeps it.
+    ghost keeps: { (device : D) → (old : Self) → (new : Self) → Self.Look.makes (D.state device) old new
+        → WasKept (D.state device) (archive old) (archive new) };
 }

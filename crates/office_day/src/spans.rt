@@ -2,16 +2,18 @@
 ghost use Rattle.std.specs.Prelude.{◌≡◌, ◌↔◌, [], length, map, All, IsTrue, IfOk, IfErr, OnOk};
 ghost use Rattle.four_state.specs.Configuration.{stations};
 ghost use Rattle.sector_device.specs.Device.{IsSound};
+ghost use Rattle.sector_device.specs.Crash.{WasLookedAt};
+ghost use Rattle.turn_clerk.specs.Found.{after_looks};
 ghost use Rattle.line_lock.specs.OpenedOn.{WasLeftByClerk};
-ghost use Rattle.line_lock.specs.Lent.{IsRefused, IfOpening, UnlessOpening};
+ghost use Rattle.line_lock.specs.Lent.{IfOpening, UnlessOpening};
 ghost use Rattle.station_desk.specs.declared.end.End.TheVariants.{Reached};
 ghost use Rattle.office_day.specs.Archive.{WasKept};
-ghost use Rattle.office_day.specs.Spans.{adjourned_to, span_of, IsSpan, HaveLeft, HasLived, WasBrokenOff, WasLookedAt, IsGoodEnd};
+ghost use Rattle.office_day.specs.Spans.{adjourned_to, rest_of, span_of, IsSpan, HaveLeft, HasLived, WasBrokenOff, IsGoodEnd};
 
-use crate::office_run::run_office;
+use crate::office_run::run_over;
 use crate::recess::Recess;
 use crate::seated::Left;
-use line_lock::{Audit, Clerk, Closing, Device, Line, OfficeRefusal};
+use line_lock::{Audit, Clerk, Closing, Device, OfficeRefusal};
 use station_desk::{Desk, End, Gate};
 use std::alloc::{AllocError, Global};
 use std::sync::Wait;
@@ -20,10 +22,8 @@ use std::thread::Threads;
 /// An office that is closed, and is to be opened.
 #[derive(Drop)]
 pub struct Adjourned<D: Device> {
-    /// The device, as it is.
-    pub device: D,
-    /// The line, as it stands.
-    pub line: Line,
+    /// The clerk, with its ledger, its line and its device.
+    pub clerk: Clerk<D>,
     /// The desks of its stations, that of station 0 first.
     pub desks: Vec<Desk>,
 }
@@ -39,16 +39,16 @@ pub struct Life<D: Device> {
     pub left: Vec<Left>,
 }
 
-/// Opens an office on the device, with this line and these desks, lets its stations take turns, each in a thread of its
-/// own, and closes it. Where all `moves` turns were taken, it is opened again on the same device, line and desks, and
-/// so on, until a station ends otherwise: it was sent home, though no recess was called, or refused. Between two spans
-/// the recess is spent. So the office's history takes the memory of one span, however long it is open. The gate tells
-/// the stations what to do. An archive that the recess keeps then has all batches of the spans before the last one, in
-/// order and each once, behind those that it had. The call may wait.
+/// Opens an office over the clerk, with its line and these desks, lets its stations take turns, each in a thread of its
+/// own, and closes it. Where all `moves` turns were taken, the clerk begins anew and the office is opened again, and so
+/// on, until a station ends otherwise: it was sent home, though no recess was called, or refused. Between two spans the
+/// device is lent to the recess; else nothing is read of it. So the office's history takes the memory of one span,
+/// however long it is open. The gate tells the stations what to do. An archive that the recess keeps then has all
+/// batches of the spans before the last one, in order and each once, behind those that it had. The call may wait.
 ///
 /// # Errors
-/// The device comes back, and the desks are lost. [`OfficeRefusal::Opening`]: a span can't be opened; else the device
-/// is as a clerk that took turns on it left it.
+/// The device comes back, and the desks are lost. [`OfficeRefusal::Opening`]: a span can't be opened, and the device is
+/// as it was left; else it is as a clerk that took turns on it left it.
 pub fn run_spans<D: Device + Send, G: Gate + Sync, P: Recess<D>, R: Threads + Wait + Sync>(
     rt: &R,
     alloc: Global,
@@ -57,14 +57,14 @@ pub fn run_spans<D: Device + Send, G: Gate + Sync, P: Recess<D>, R: Threads + Wa
     recess: &mut P,
     moves: u64,
 ) -> Result<Life<D>, (D, OfficeRefusal<AllocError>)>
-    requires as_many { length office.desks.items ≡ stations office.line }
+    requires as_many { length office.desks.items ≡ stations office.clerk.line }
     ensures lived { IfOk result (λ life. HasLived D.state moves (G.closes gate.now)
-        (adjourned_to office.device office.line office.desks.items)
+        (adjourned_to office.clerk office.desks.items)
         (span_of life.clerk life.audit) life.left.items
         (P.archive recess.old) (P.archive recess.new)) }
     ensures ended { IfOk result (λ life. All (λ part. part.end ≡ Reached) life.left.items → ⊥) }
     ensures broken_off { IfErr result (λ e. WasBrokenOff D.state moves
-        (adjourned_to office.device office.line office.desks.items) e.0 e.1) }
+        (adjourned_to office.clerk office.desks.items) e.0 e.1) }
 {
     let mut office = office;
     for _ in rt.forever() {
@@ -91,22 +91,18 @@ fn run_span<D: Device + Send, G: Gate + Sync, R: Threads + Wait + Sync>(
     gate: &G,
     moves: u64,
 ) -> Result<Life<D>, (D, OfficeRefusal<AllocError>)>
-    requires as_many { length office.desks.items ≡ stations office.line }
-    ensures closed { IfOk result (λ life. IsSpan D.state moves (D.state office.device) office.line
+    requires as_many { length office.desks.items ≡ stations office.clerk.line }
+    ensures closed { IfOk result (λ life. IsSpan D.state moves (rest_of office.clerk)
         (span_of life.clerk life.audit)) }
     ensures left { IfOk result (λ life.
         HaveLeft moves (G.closes gate.now) [] (span_of life.clerk life.audit)
         office.desks.items life.left.items) }
-    ensures given_up { IfErr result (λ e.
-        UnlessOpening e.1 (WasLeftByClerk D.state (D.state office.device) office.line e.0)) }
-    ensures opening { IfErr result (λ e. IfOpening e.1 (IsRefused D.state office.device e.0)) }
+    ensures given_up { IfErr result (λ e. UnlessOpening e.1
+        (WasLeftByClerk D.state (D.state office.clerk.journal.device) office.clerk.line e.0)) }
+    ensures opening { IfErr result (λ e. IfOpening e.1 (λ _. e.0 ≡ office.clerk.journal.device)) }
 {
-    let Adjourned {
-        device,
-        line,
-        desks,
-    } = office;
-    let run = run_office(rt, alloc, device, line, desks, gate, moves, u64::MAX)?;
+    let Adjourned { clerk, desks } = office;
+    let run = run_over(rt, alloc, clerk, desks, gate, moves, u64::MAX)?;
     let (Closing { clerk, audit }, left) = run;
     // for the contract alone: where the records in sight of an image end
     clerk.how_far_back();
@@ -136,15 +132,16 @@ fn all_ended_well(left: &[Left]) -> bool
         .all(|part| part.end == End::Reached || part.end == End::Closed)
 }
 
-// The office after a span, to be opened again behind a recess.
+// The office after a span, to be opened again behind a recess, which its device is lent to.
 fn between_spans<D: Device, P: Recess<D>>(
     alloc: Global,
     life: Life<D>,
     recess: &mut P,
 ) -> Result<Adjourned<D>, (D, AllocError)>
-    ensures device { IfOk result (λ office.
-        WasLookedAt (D.state life.clerk.journal.device) (D.state office.device)) }
-    ensures line { IfOk result (λ office. office.line ≡ life.audit.last) }
+    ensures clerk { IfOk result (λ office.
+        office.clerk ≡ after_looks life.clerk office.clerk.journal.device) }
+    ensures looked { IfOk result (λ office.
+        WasLookedAt (D.state life.clerk.journal.device) (D.state office.clerk.journal.device)) }
     ensures desks { IfOk result (λ office.
         office.desks.items ≡ map (λ part. part.desk) life.left.items) }
     ensures back { IfErr result (λ e. e.0 ≡ life.clerk.journal.device) }
@@ -152,14 +149,12 @@ fn between_spans<D: Device, P: Recess<D>>(
         (P.archive recess.old) (P.archive recess.new)) }
     ensures sound { let left = D.state life.clerk.journal.device in left.honest → IsSound left }
 {
-    let Life { clerk, audit, left } = life;
-    let device = clerk.into_device();
+    let Life { clerk, left, .. } = life;
     match left.into_iter().map(|part| part.desk).collect(alloc) {
         Ok(desks) => Ok(Adjourned {
-            device: recess.spend(device),
-            line: audit.last,
+            clerk: clerk.lend(recess),
             desks,
         }),
-        Err(refused) => Err((device, refused)),
+        Err(refused) => Err((clerk.into_device(), refused)),
     }
 }

@@ -79,6 +79,14 @@ pub record OnlyLooks (old new : DeviceState) : Type 0 where
 abbrev pub LooksOnly : DeviceState → DeviceState → Type 0
 LooksOnly old new = old.honest → OnlyLooks old new
 
+-- The device was looked at: it has as many sectors, is honest where it was and only there, and an honest one was read
+-- and synced, and not written.
+pub record WasLookedAt (old new : DeviceState) : Type 0 where
+  pub sectors : length new.reads ≡ length old.reads
+  pub stays_honest : old.honest → new.honest
+  pub was_honest : new.honest → old.honest
+  pub looks : LooksOnly old new
+
 pub looked_nowhere : (state : DeviceState) → IsSound state → OnlyLooks state state
 looked_nowhere state sound = record {
   reads = refl;

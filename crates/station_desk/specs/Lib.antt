@@ -9,6 +9,4 @@ pub mod ServedLaws
 pub mod Worked
 pub mod WorkedLaws
 pub mod Run
-pub mod Pairs
-pub mod PairLaws
 pub mod Asked

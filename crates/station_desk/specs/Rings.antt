@@ -1,5 +1,6 @@
 -- What contracts see of a feed and of a desk.
-use Rattle.std.specs.Prelude.{◌≡◌, ◌⊎◌, ◌+◌, ◌≤◌, ℕ, List, [], ◌++◌, length}
+use Rattle.std.specs.Prelude.{◌≡◌, ◌⊎◌, ◌+◌, ◌<◌, ◌≤◌, ℕ, List, [], ◌++◌, length}
+use Rattle.std.specs.List.{slice_index_or}
 use Rattle.std.specs.declared.alloc.Global.{Global}
 use denote.RawPtr.{Ptr}
 use Rattle.rtrb.specs.Shared.{Names}
@@ -92,3 +93,8 @@ pub record HasGathered (old new : DeskState) : Type 0 where
   pub took_all : (length new.held ≡ BATCH_LIMIT) ⊎ (length new.held ≡ new.free) ⊎ (new.waiting ≡ [])
   -- all else stays
   pub same : new ≡ record old { taken = new.taken; held = new.held; free = new.free; waiting = new.waiting }
+
+-- There are as many feeds as before, in the same order, and each stands at the same rings.
+pub record AllStandAt (old new : List FeedState) : Type 0 where
+  pub as_many : length new ≡ length old
+  pub each : (i : ℕ) (f : FeedState) → i < length old → StandsAt (slice_index_or old i f) (slice_index_or new i f)

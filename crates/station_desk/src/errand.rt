@@ -2,7 +2,7 @@
 ghost use Rattle.line_lock.specs.Asked.{NotesAlone};
 ghost use Rattle.station_desk.specs.Asked.{IsReportOn};
 
-use line_lock::{BalanceRefusal, Count, FindRefusal, Found, Latest, Office, OpenedOn, Seat};
+use line_lock::{BalanceRefusal, Count, FindRefusal, Found, Latest, Office, OpenedOn, Room, Seat};
 use sector_device::Device;
 use std::sync::Wait;
 
@@ -39,6 +39,8 @@ pub enum Question {
         /// The number of the first record that is looked at.
         from: u64,
     },
+    /// How far the ledger is, and how much room its live bank has.
+    Room,
 }
 
 /// What the office answered.
@@ -50,6 +52,8 @@ pub enum Report {
     Found(Result<Found, FindRefusal>),
     /// What one step of the search for the station's latest posting tells, or why it wasn't made.
     Latest(Result<Latest, FindRefusal>),
+    /// How far the ledger is, and how much room its live bank has.
+    Room(Room),
 }
 
 // What the office answers to a question of the station at this seat.
@@ -70,5 +74,6 @@ pub(crate) fn put_question<D: Device, L: Count + OpenedOn, R: Wait>(
             end,
         } => Report::Found(office.find(rt, seat, reference, from, end)),
         Question::Latest { limit, from } => Report::Latest(office.latest(rt, seat, limit, from)),
+        Question::Room => Report::Room(office.room(rt)),
     }
 }

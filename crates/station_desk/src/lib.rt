@@ -26,7 +26,8 @@ pub use errand::{Errand, Question, Report};
 pub use feed::Feed;
 pub use gate::Gate;
 pub use line_lock::{
-    BalanceRefusal, Count, FindRefusal, Found, Latest, Office, OpenedOn, Posting, Reached, Seat,
+    BalanceRefusal, Count, FindRefusal, Found, Latest, Office, OpenedOn, Posting, Reached, Room,
+    Seat,
 };
 pub use messages::{Answer, Ask, Outcome};
 pub use reconciling::{Reconciled, reconcile};

@@ -7,6 +7,7 @@ mod AfterTurn
 mod AfterAnswer
 mod AfterOpening
 mod AfterLooks
+mod KeptFields
 mod Searches
 mod Standing
 mod Running

@@ -4,7 +4,7 @@ ghost use Rattle.turn_clerk.specs.Past.{values_of};
 
 use std::snapshot::Snapshot as Ghost;
 
-/// What a value was at some moments, in order. Contracts see it here; the program finds no byte of it.
+/// What a value was at some moments, in order. Contracts see them; the program finds its mark alone.
 #[derive(Drop)]
 pub(crate) enum Past<T> {
     /// At none.
@@ -15,7 +15,7 @@ pub(crate) enum Past<T> {
 
 /// Notes what the value is now.
 pub(crate) fn note<T>(past: &mut Past<T>, value: &T)
-    ensures { values_of past.new ≡ values_of past.old ++ value.now ∷ [] }
+    ensures noted { values_of past.new ≡ values_of past.old ++ value.now ∷ [] }
 {
     *past = Past::Then(Ghost::of(past), Ghost::of(value));
 }

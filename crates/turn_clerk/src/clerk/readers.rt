@@ -1,5 +1,5 @@
 //! What a clerk tells of itself.
-ghost use Rattle.std.specs.Prelude.{◌≡◌, false, SomeIff};
+ghost use Rattle.std.specs.Prelude.{◌≡◌, ◌+◌, false, SomeIff};
 ghost use Rattle.sweep_auditor.specs.Run.{IsRun};
 ghost use Rattle.turn_ledger.specs.State.{IsAccount, balance_of, mark_of};
 ghost use Rattle.turn_clerk.specs.History.{moves_of};
@@ -92,6 +92,20 @@ impl<D: Device> Clerk<D> {
         ensures { result ≡ self.now.journal.next }
     {
         self.journal.next()
+    }
+
+    /// How many slots each bank has.
+    pub fn slots(&self) -> u64
+        ensures { result ≡ self.now.journal.slots }
+    {
+        self.journal.slots()
+    }
+
+    /// How many slots of the live bank are free.
+    pub fn room(&self) -> u64
+        ensures { self.now.journal.next + result ≡ self.now.journal.live.base + self.now.journal.slots }
+    {
+        self.journal.room()
     }
 
     /// Whether a device fault was met, so that every turn is refused until the device is opened again.

@@ -1,5 +1,5 @@
 use Rattle.std.proofs.Common.{map}
-use Rattle.station_desk.specs.PairLaws.{AllStandAt}
+use Rattle.station_desk.specs.Rings.{AllStandAt}
 use Rattle.live_office.proofs.dispatcher.dispatch.Given as goal
 
 -- each feed stands where it stood

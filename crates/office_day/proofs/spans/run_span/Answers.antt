@@ -10,7 +10,8 @@ returns-clause-closed g c =
     let ran = c.in_ok-run.ensures.ran in
     record {
       closed = c.in_ok-run.ensures.closed;
-      within = is-span (stations c.args.office.line) c.in_ok-run.run'.0.clerk ran.1 ran.2.borne_out ran.2.there c.in_ok-run.ensures.closed.legal;
+      begins = c.in_ok-run.ensures.begins;
+      within = is-span (stations c.args.office.clerk.line) c.in_ok-run.run'.0.clerk ran.1 ran.2.borne_out ran.2.there c.in_ok-run.ensures.closed.legal;
       in_sight = λ few honest.
           all_in_sight g.D.Device.state c.in_ok-run.run'.0.clerk c.how_far_back.ensures.ends c.how_far_back.ensures.has few (c.in_ok-run.ensures.closed.at_any_moment honest)
           (c.in_ok-run.ensures.closed.in_sight honest);
@@ -19,7 +20,7 @@ returns-clause-closed g c =
 pub returns-clause-left : goal.returns-clause-left
 returns-clause-left g c =
     let ran = c.in_ok-run.ensures.ran in
-    let count = stations c.args.office.line in
+    let count = stations c.args.office.clerk.line in
     let many = length-new_seats count in
     record {
       as_many = ran.1.left_as_many ∙ many ∙ sym c.requires.as_many;

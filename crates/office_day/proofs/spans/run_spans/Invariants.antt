@@ -7,7 +7,8 @@ use Rattle.office_day.proofs.spans.run_spans.Given as goal
 abbrev pub invariant-loop : goal.invariant-loop
 invariant-loop g l =
     (earlier : HasComeTo g.D.Device.state l.moves
-    (adjourned_to l.initial.office.device l.initial.office.line l.initial.office.desks.items)
-    (adjourned_to l.office.device l.office.line l.office.desks.items))
-    × (length l.office.desks.items ≡ stations l.office.line)
-    × WereArchived g.D.Device.state l.initial.office.device earlier.spans l.office.device (g.P.Recess.archive l.initial.recess) (g.P.Recess.archive l.recess)
+    (adjourned_to l.initial.office.clerk l.initial.office.desks.items)
+    (adjourned_to l.office.clerk l.office.desks.items))
+    × (length l.office.desks.items ≡ stations l.office.clerk.line)
+    × WereArchived g.D.Device.state l.initial.office.clerk.journal.device earlier.spans l.office.clerk.journal.device
+    (g.P.Recess.archive l.initial.recess) (g.P.Recess.archive l.recess)

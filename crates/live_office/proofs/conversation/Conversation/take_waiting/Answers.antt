@@ -1,4 +1,4 @@
-use Rattle.std.specs.Prelude.{◌≡◌, ◌≤◌, List, length}
+use Rattle.std.specs.Prelude.{◌≤◌, List, length}
 use Rattle.std.proofs.Common.{sym, ◌∙◌, ap, subst}
 use Rattle.turn_ledger.specs.declared.entry.Entry.{Entry}
 use Rattle.live_office.specs.Conversation.{ConversationState, IsOver}

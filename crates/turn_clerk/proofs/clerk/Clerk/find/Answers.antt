@@ -1,43 +1,27 @@
 use Rattle.std.proofs.Common.{◌≡◌, ◌≢◌, ◌∙◌, Err, ap, sym, subst, rules}
 use Rattle.turn_clerk.specs.View.{view_of}
-use Rattle.turn_clerk.specs.Clerk.{ClerkState, accepted_batches, accepted_stations}
+use Rattle.turn_clerk.specs.Clerk.{ClerkState}
 use Rattle.turn_clerk.specs.Found.{HasFound, TellsOfBatches}
 use Rattle.turn_clerk.specs.Searched.{find_refusal_of}
 use Rattle.turn_clerk.specs.declared.refusals.FindRefusal.TheVariants.{Changed}
 use Rattle.turn_clerk.specs.declared.searching.Found.TheVariants.{LookingBack}
-use Rattle.turn_clerk.proofs.AfterLooks.{looked}
-use Rattle.turn_clerk.proofs.FarBack.{far_behind_looks, kept_now}
+use Rattle.turn_clerk.proofs.KeptFields.{keeps_looking}
+use Rattle.turn_clerk.proofs.FarBack.{kept_now}
 use Rattle.turn_clerk.proofs.Told.{tells}
 use Rattle.turn_clerk.proofs.Searches.{has_found, is_changed, never_changed}
 use Rattle.turn_clerk.proofs.clerk.Clerk.find.Goals as goal
 
 pub invariant_of-self : goal.invariant_of-self
 invariant_of-self g c =
-    let search = c.find_in_sight in record {
-      is_clerk =
-          looked g.D.Device.state (view_of c.self.inside) c.self.invariant.is_clerk search.new.journal search.ensures.kept search.ensures.call.was_honest
-          search.ensures.looks search.ensures.stays;
-      moves = c.self.invariant.moves;
-      opening_next = c.self.invariant.opening_next;
-      looks_back = search.ensures.back c.self.invariant.looks_back;
-      sees_as_far =
-          far_behind_looks g.D.Device.state g.met.D.Device.sound c.self.inside.opening_journal.value c.self.inside.journal search.new.journal
-          (accepted_batches (view_of c.self.inside)) (accepted_stations (view_of c.self.inside)) search.ensures.call.was_honest search.ensures.kept search.ensures.looks c.self.invariant.sees_as_far;
-    }
+    let search = c.find_in_sight in
+    keeps_looking g.D.Device.state g.met.D.Device.sound c.self.inside c.self.invariant search.new.journal search.new.back search.new.ledger search.ensures.kept
+    search.ensures.call.was_honest search.ensures.looks search.ensures.stays (search.ensures.back c.self.invariant.looks_back)
 
 pub invariant_of-self-2 : goal.invariant_of-self-2
 invariant_of-self-2 g c =
-    let search = c.find_in_sight in record {
-      is_clerk =
-          looked g.D.Device.state (view_of c.self.inside) c.self.invariant.is_clerk search.new.journal search.ensures.kept search.ensures.call.was_honest
-          search.ensures.looks search.ensures.stays;
-      moves = c.self.invariant.moves;
-      opening_next = c.self.invariant.opening_next;
-      looks_back = search.ensures.back c.self.invariant.looks_back;
-      sees_as_far =
-          far_behind_looks g.D.Device.state g.met.D.Device.sound c.self.inside.opening_journal.value c.self.inside.journal search.new.journal
-          (accepted_batches (view_of c.self.inside)) (accepted_stations (view_of c.self.inside)) search.ensures.call.was_honest search.ensures.kept search.ensures.looks c.self.invariant.sees_as_far;
-    }
+    let search = c.find_in_sight in
+    keeps_looking g.D.Device.state g.met.D.Device.sound c.self.inside c.self.invariant search.new.journal search.new.back search.new.ledger search.ensures.kept
+    search.ensures.call.was_honest search.ensures.looks search.ensures.stays (search.ensures.back c.self.invariant.looks_back)
 
 pub returns-in_err-found-clause-never_changed : goal.returns-in_err-found-clause-never_changed
 returns-in_err-found-clause-never_changed g c honest changed =

@@ -1,6 +1,6 @@
-use Rattle.office_day.specs.Spans.{WasLookedAt}
+use Rattle.sector_device.specs.Crash.{WasLookedAt}
 use Rattle.office_day.specs.Archive.{WasKept}
-use Rattle.live_office.proofs.recess.GrantingRecess.spend.Given as goal
+use Rattle.live_office.proofs.recess.GrantingLook.look.Given as goal
 
 -- the device was only looked at, and its archive was kept
 abbrev pub invariant-loop-station : goal.invariant-loop-station

@@ -1,7 +1,7 @@
-use Rattle.std.proofs.Common.{◌≡◌, sym, subst}
+use Rattle.std.proofs.Common.{sym, subst}
 use Rattle.office_day.specs.Archive.{Archive, WasKept}
 use Rattle.live_office.proofs.Looks.{looked_again}
-use Rattle.live_office.proofs.recess.GrantingRecess.spend.Goals as goal
+use Rattle.live_office.proofs.recess.GrantingLook.look.Goals as goal
 
 pub loop-station-preserved : goal.loop-station-preserved
 loop-station-preserved g c =
