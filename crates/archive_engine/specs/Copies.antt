@@ -10,10 +10,6 @@ use Rattle.journal_recovery.specs.declared.migration.MigrateRefusal.TheVariants 
 use Rattle.ledger_file.specs.declared.refusal.LedgerRefusal.TheVariants as ledger
 use Rattle.ledger_file.specs.declared.refusal.CopyRefusal.{CopyRefusal}
 use Rattle.ledger_file.specs.declared.refusal.CopyRefusal.TheVariants.{Target, Copy}
-use Rattle.program_ends.specs.declared.status.Status.{Status}
-use Rattle.program_ends.specs.declared.status.Status.TheVariants.{Refused, Failed}
-use Rattle.archive_engine.specs.declared.copying.CopiesFault.{CopiesFault}
-use Rattle.archive_engine.specs.declared.copying.CopiesFault.TheVariants as copies
 use Rattle.archive_engine.specs.declared.copying.FolderCopyRefusal.{FolderCopyRefusal}
 use Rattle.archive_engine.specs.declared.copying.FolderCopyRefusal.TheVariants.{Memory, Ledger, Unwritten}
 
@@ -31,8 +27,3 @@ IsReadFault refusal = refusal ≡ Ledger opening.Device
 -- the number is that of the next batch of the ledger in the image
 abbrev pub IsNumberOf : ℕ → Image → Type 0
 IsNumberOf number image = (held : State) × RecoversTo held image × (number ≡ held.next)
-
--- that the archive's folder is no folder of copies is a rule; else something failed
-abbrev pub status_of : CopiesFault → Status
-status_of copies.Archive = Refused
-status_of _ = Failed

@@ -1,39 +1,30 @@
--- By which status a fault of an archive ends the program, and what its numbers say.
-use Rattle.std.specs.Prelude.{◌≡◌, ◌<◌}
+-- How a fault of an archive is told, and what its numbers say.
+use Rattle.std.specs.Prelude.{◌≡◌, ◌<◌, ℕ, List}
+use Rattle.std.specs.Borrow.{Bor}
 use Rattle.gate_journal.specs.declared.refusals.ReadRefusal.TheVariants as read
 use Rattle.journal_recovery.specs.declared.refusals.OpenRefusal.TheVariants as opening
-use Rattle.program_ends.specs.Status.{of_opening}
-use Rattle.program_ends.specs.declared.status.Status.{Status}
-use Rattle.program_ends.specs.declared.status.Status.TheVariants.{Refused, Failed}
-use Rattle.archive_engine.specs.declared.faults.NewestFault.{NewestFault}
-use Rattle.archive_engine.specs.declared.faults.NewestFault.TheVariants as newest
+use Rattle.file_device.specs.declared.refusal.FileFault.{FileFault}
+use Rattle.file_device.specs.declared.refusal.FileFault.TheVariants as file
+use Rattle.file_device.specs.declared.refusal.DeviceRefusal.{DeviceRefusal}
+use Rattle.file_device.specs.declared.refusal.DeviceRefusal.TheVariants as device
+use Rattle.archive_engine.specs.declared.faults.Part.{Part}
+use Rattle.archive_engine.specs.declared.faults.Part.TheVariants as part
 use Rattle.archive_engine.specs.declared.faults.ArchiveFault.{ArchiveFault}
 use Rattle.archive_engine.specs.declared.faults.ArchiveFault.TheVariants as fault
 
--- a newest ledger that isn't one, or isn't the archive's, is a rule's matter
-abbrev pub of_newest : NewestFault → Status
-of_newest (newest.Unread inner) = Failed
-of_newest (newest.Lost refusal) = Failed
-of_newest (newest.NoLedger refusal) = of_opening refusal
-of_newest newest.Foreign = Refused
+-- out of memory stays out of memory, whether a ledger can't be looked at, or the one that is to be added can't be made
+abbrev pub of_file : Part → FileFault → ArchiveFault
+of_file ledger file.Memory = fault.Memory
+of_file ledger inner = fault.Unread ledger inner
 
--- so is a folder without an archive, a file that is missing in it, or a ledger that doesn't go on where the archive
--- ends; else something failed
-abbrev pub status_of : ArchiveFault → Status
-status_of (fault.NoLedger path refusal) = of_opening refusal
-status_of (fault.Newest volume inner) = of_newest inner
-status_of (fault.Empty folder) = Refused
-status_of (fault.Missing volume first before end) = Refused
-status_of (fault.Gap path first end) = Refused
-status_of (fault.Short path next end) = Refused
-status_of (fault.Other path batch) = Refused
-status_of (fault.Differs path end) = Refused
-status_of _ = Failed
+abbrev pub of_device : Bor (List ℕ) → DeviceRefusal → ArchiveFault
+of_device folder (device.File file.Memory) = fault.Memory
+of_device folder refusal = fault.Unmade folder refusal
 
--- a read of the ledger failed
+-- a read of the ledger failed, and not one of the archive
 abbrev pub IsReadFault : ArchiveFault → Type 0
-IsReadFault (fault.NoLedger path refusal) = refusal ≡ opening.Device
-IsReadFault (fault.Lost path refusal) = refusal ≡ read.Device
+IsReadFault (fault.NoLedger (part.File path) refusal) = refusal ≡ opening.Device
+IsReadFault (fault.Lost (part.File path) refusal) = refusal ≡ read.Device
 IsReadFault _ = ⊥
 
 -- the numbers that a fault tells show it: the earliest batch comes behind the end of what is before it, or the next one

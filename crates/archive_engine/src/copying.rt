@@ -2,7 +2,8 @@
 ghost use Rattle.std.specs.Prelude.{◌≡◌, ◌↔◌, IfOk, IfErr, IsErrAnd};
 ghost use Rattle.sector_device.specs.Device.{AreCalls};
 ghost use Rattle.sector_device.specs.Crash.{LooksOnly};
-ghost use Rattle.archive_engine.specs.Copies.{IsReadFault, IsNumberOf, refusal_of, status_of};
+ghost use Rattle.archive_engine.specs.Faults.{IsElsewhere};
+ghost use Rattle.archive_engine.specs.Copies.{IsReadFault, IsNumberOf, refusal_of};
 
 use crate::faults::{ArchiveFault, FolderFault};
 use crate::folder::{Folder, are_one_folder};
@@ -10,36 +11,11 @@ use file_device::{DeviceRefusal, FileFault};
 use journal_recovery::{MigrateRefusal, OpenRefusal, Recovered, recover};
 use ledger_file::{CopyRefusal, Formatting, LedgerRefusal, open_for_copy};
 use office_counters::{RosterPath, remove_roster, take_along};
-use program_ends::Status;
 use sector_device::Device;
-use std::alloc::{AllocError, Global};
+use std::alloc::Global;
 use std::fs;
 use std::fs::{File, Files};
 use std::num::NonZeroU64;
-use thiserror::Error;
-
-/// Why no copies can be made in a folder.
-#[derive(Clone, Copy, Debug, PartialEq, Eq, Error)]
-pub enum CopiesFault {
-    /// There is no memory.
-    #[error("out of memory")]
-    Memory,
-    /// It is the archive's folder too, where a copy would be taken for a file of the archive.
-    #[error("it is the archive's folder; the copies need another one")]
-    Archive,
-    /// There is none.
-    #[error("there is no such folder; make it first")]
-    Missing,
-    /// Something else is there.
-    #[error("it is no folder")]
-    NoFolder,
-    /// Another office makes its copies in it, or another program adds to an archive in it.
-    #[error("another program adds to this folder; end that one first, or take another folder")]
-    InUse,
-    /// No file can be made in it.
-    #[error("no file can be made in it")]
-    Unwritable,
-}
 
 /// Why there is no copy in a folder.
 #[derive(Clone, Copy, Debug, PartialEq, Eq)]
@@ -59,65 +35,41 @@ pub enum FolderCopyRefusal {
 /// there that wasn't finished is removed. The folder of the office's archive is refused, by whatever path.
 ///
 /// # Errors
-/// [`CopiesFault`], the first that holds.
+/// [`ArchiveFault::Folder`], for the first [`FolderFault`] that holds, or out of memory.
 pub fn open_copies<'a, R: Files<File = File>>(
     rt: &R,
     alloc: Global,
     path: &'a str,
     archive: Option<&str>,
-) -> Result<Folder<'a>, CopiesFault> {
-    if let Some(archive) = archive {
-        if are_one_folder(rt, archive, path) {
-            return Err(CopiesFault::Archive);
-        }
-    }
-    let folder = match Folder::open(rt, path) {
+) -> Result<Folder<'a>, ArchiveFault<'a>>
+    ensures { IfErr result IsElsewhere }
+{
+    let folder = match folder_of_copies(rt, path, archive) {
         Ok(folder) => folder,
-        Err(fault) => return Err(CopiesFault::of(fault)),
+        Err(fault) => return Err(ArchiveFault::of_folder(path, fault)),
     };
-    let Ok(unfinished) = folder.unfinished(alloc) else {
-        return Err(CopiesFault::Memory);
-    };
+    let unfinished = folder.unfinished(alloc)?;
     if folder.can_be_written(rt, unfinished.as_str()) {
-        Ok(folder)
-    } else {
-        Err(CopiesFault::Unwritable)
+        return Ok(folder);
     }
+    Err(ArchiveFault::of_folder(path, FolderFault::Unwritable))
 }
 
-impl CopiesFault {
-    /// The status that the program ends with.
-    pub fn status(self) -> Status
-        ensures { result ≡ status_of self }
-    {
-        match self {
-            CopiesFault::Archive => Status::Refused,
-            CopiesFault::Memory
-            | CopiesFault::Missing
-            | CopiesFault::NoFolder
-            | CopiesFault::InUse
-            | CopiesFault::Unwritable => Status::Failed,
+// The folder, open and locked. The causes are told in words of copies.
+fn folder_of_copies<'a, R: Files<File = File>>(
+    rt: &R,
+    path: &'a str,
+    archive: Option<&str>,
+) -> Result<Folder<'a>, FolderFault> {
+    if let Some(archive) = archive {
+        if are_one_folder(rt, archive, path) {
+            return Err(FolderFault::OfArchive);
         }
     }
-
-    // Why the folder can't be opened.
-    fn of(fault: ArchiveFault<'_>) -> CopiesFault {
-        match fault {
-            ArchiveFault::Memory => CopiesFault::Memory,
-            ArchiveFault::Folder {
-                fault: FolderFault::Missing,
-                ..
-            } => CopiesFault::Missing,
-            ArchiveFault::Folder {
-                fault: FolderFault::NoFolder,
-                ..
-            } => CopiesFault::NoFolder,
-            ArchiveFault::Folder {
-                fault: FolderFault::InUse,
-                ..
-            } => CopiesFault::InUse,
-            _ => CopiesFault::Unwritable,
-        }
+    match Folder::locked(rt, path) {
+        Err(FolderFault::InUse) => Err(FolderFault::Taken),
+        Err(FolderFault::Failed) => Err(FolderFault::Unwritable),
+        folder => folder,
     }
 }
 

@@ -1,16 +1,15 @@
 //! Why nothing, or not all, was added to an archive.
 ghost use Rattle.std.specs.Prelude.{◌≡◌, ◌↔◌};
-ghost use Rattle.archive_engine.specs.Faults.{TellsNumbers, IsReadFault, IsElsewhere, of_newest, status_of};
+ghost use Rattle.archive_engine.specs.Faults.{TellsNumbers, IsReadFault, IsElsewhere, of_file, of_device};
 
 use file_device::{DeviceRefusal, FileFault};
 use journal_recovery::OpenRefusal;
 use ledger_reading::ReadRefusal;
-use program_ends::Status;
 use std::alloc::AllocError;
 use std::fmt;
 use thiserror::Error;
 
-/// Why an archive's folder can't be had.
+/// Why the folder of an archive, or of copies, can't be had.
 #[derive(Clone, Copy, Debug, Error)]
 pub enum FolderFault {
     /// There is none.
@@ -19,29 +18,21 @@ pub enum FolderFault {
     /// Something else is there.
     #[error("it is no folder")]
     NoFolder,
-    /// Another program adds to it.
+    /// Another program adds to the archive in it.
     #[error("another program adds to this archive; wait until it has ended")]
     InUse,
     /// The system fails to open, lock, list, change or sync it.
     #[error("the system fails to open, lock, list, change or sync it")]
     Failed,
-}
-
-/// What is wrong with an archive's newest ledger.
-#[derive(Clone, Copy, Debug, Error)]
-pub enum NewestFault {
-    /// It can't be looked at.
-    #[error("{0}")]
-    Unread(FileFault),
-    /// It isn't sound.
-    #[error("{0}")]
-    NoLedger(OpenRefusal),
-    /// It was sound, and a record can't be read again.
-    #[error("{0}")]
-    Lost(ReadRefusal),
-    /// Its first record doesn't have the number that is its name, or it has no record.
-    #[error("it isn't of this archive: its first record doesn't have the number that is its name")]
-    Foreign,
+    /// It is for copies, and the archive's folder too, where a copy would be taken for a file of the archive.
+    #[error("it is the archive's folder; the copies need another one")]
+    OfArchive,
+    /// It is for copies, and another office makes its own in it, or another program adds to an archive in it.
+    #[error("another program adds to this folder; end that one first, or take another folder")]
+    Taken,
+    /// It is for copies, and no file can be made in it.
+    #[error("no file can be made in it")]
+    Unwritable,
 }
 
 /// A ledger of an archive, whose name is the number of its first batch in twenty digits.
@@ -57,29 +48,53 @@ impl fmt::Display for Volume<'_> {
     }
 }
 
+/// A ledger, in a file or on a disk, or one of an archive.
+#[derive(Clone, Copy, Debug)]
+pub enum Part<'a> {
+    /// In a file or on a disk.
+    File(&'a str),
+    /// Of an archive.
+    Volume(Volume<'a>),
+}
+
+/// Its path.
+impl fmt::Display for Part<'_> {
+    fn fmt<W: fmt::Write>(&self, f: &mut fmt::Formatter<W>) -> fmt::Result {
+        match self {
+            Part::File(path) => f.write_str(path),
+            Part::Volume(volume) => write!(f, "{volume}"),
+        }
+    }
+}
+
 /// Why an archive doesn't have all that its ledger lists, or can't be read. What was added before stands.
 #[derive(Clone, Copy, Debug, Error)]
 pub enum ArchiveFault<'a> {
     /// There is no memory.
     #[error("out of memory")]
     Memory,
-    /// The ledger can't be looked at.
-    #[error("{path}: {fault}")]
+    /// The ledger, or one of the archive, can't be looked at.
+    #[error("{part}: {fault}")]
     Unread {
-        path: &'a str,
+        part: Part<'a>,
         fault: FileFault,
     },
     /// It isn't sound.
-    #[error("{path}: {refusal}")]
+    #[error("{part}: {refusal}")]
     NoLedger {
-        path: &'a str,
+        part: Part<'a>,
         refusal: OpenRefusal,
     },
     /// It was sound, and a record can't be read again.
-    #[error("{path}: {refusal}")]
+    #[error("{part}: {refusal}")]
     Lost {
-        path: &'a str,
+        part: Part<'a>,
         refusal: ReadRefusal,
+    },
+    /// The first record of the archive's newest ledger doesn't have the number that is its name, or it has no record.
+    #[error("{volume}: it isn't of this archive: its first record doesn't have the number that is its name")]
+    Foreign {
+        volume: Volume<'a>,
     },
     /// The folder can't be had.
     #[error("{folder}: {fault}")]
@@ -91,12 +106,6 @@ pub enum ArchiveFault<'a> {
     #[error("{folder}: it has no ledger of an archive")]
     Empty {
         folder: &'a str,
-    },
-    /// A ledger of the archive, mostly the newest, can't be had.
-    #[error("{volume}: {fault}")]
-    Newest {
-        volume: Volume<'a>,
-        fault: NewestFault,
     },
     /// One or more ledgers of the archive are missing before this one.
     #[error("{volume}: its earliest batch is {first}, and {before} ends before {end}; those between are missing")]
@@ -146,36 +155,14 @@ pub enum ArchiveFault<'a> {
 }
 
 impl<'a> ArchiveFault<'a> {
-    /// The status that the program ends with.
-    pub fn status(self) -> Status
-        ensures { result ≡ status_of self.entry }
-    {
-        match self {
-            ArchiveFault::NoLedger { refusal, .. } => Status::from(refusal),
-            ArchiveFault::Newest { fault, .. } => fault.status(),
-            ArchiveFault::Empty { .. }
-            | ArchiveFault::Missing { .. }
-            | ArchiveFault::Gap { .. }
-            | ArchiveFault::Short { .. }
-            | ArchiveFault::Other { .. }
-            | ArchiveFault::Differs { .. } => Status::Refused,
-            ArchiveFault::Memory
-            | ArchiveFault::Unread { .. }
-            | ArchiveFault::Lost { .. }
-            | ArchiveFault::Folder { .. }
-            | ArchiveFault::Unmade { .. }
-            | ArchiveFault::Unwritten { .. } => Status::Failed,
-        }
-    }
-
-    // The ledger can't be looked at. Out of memory stays out of memory, here and below.
-    pub(crate) fn of_file(path: &'a str, fault: FileFault) -> ArchiveFault<'a>
-        ensures status { status_of result ≡ Status.Failed }
-        ensures numbers { TellsNumbers result }
+    // A ledger can't be looked at. Out of memory stays out of memory, here and below.
+    pub(crate) fn of_file(part: Part<'a>, fault: FileFault) -> ArchiveFault<'a>
+        ensures told { result ≡ of_file part.entry fault }
+        ensures elsewhere { IsElsewhere result }
     {
         match fault {
             FileFault::Memory => ArchiveFault::Memory,
-            fault => ArchiveFault::Unread { path, fault },
+            fault => ArchiveFault::Unread { part, fault },
         }
     }
 
@@ -186,43 +173,42 @@ impl<'a> ArchiveFault<'a> {
     {
         match refusal {
             OpenRefusal::Memory => ArchiveFault::Memory,
-            refusal => ArchiveFault::NoLedger { path, refusal },
+            refusal => {
+                let part = Part::File(path);
+                ArchiveFault::NoLedger { part, refusal }
+            }
         }
     }
 
-    // The archive's newest ledger can't be had.
-    pub(crate) fn of_newest(volume: Volume<'a>, fault: NewestFault) -> ArchiveFault<'a>
+    // One of the archive isn't.
+    pub(crate) fn of_volume(volume: Volume<'a>, refusal: OpenRefusal) -> ArchiveFault<'a>
         ensures { IsElsewhere result }
     {
-        match fault {
-            NewestFault::Unread(FileFault::Memory) | NewestFault::NoLedger(OpenRefusal::Memory) => {
-                ArchiveFault::Memory
+        match refusal {
+            OpenRefusal::Memory => ArchiveFault::Memory,
+            refusal => {
+                let part = Part::Volume(volume);
+                ArchiveFault::NoLedger { part, refusal }
             }
-            fault => ArchiveFault::Newest { volume, fault },
         }
+    }
+
+    // The folder can't be had.
+    pub(crate) fn of_folder(folder: &'a str, fault: FolderFault) -> ArchiveFault<'a>
+        ensures told { result ≡ ArchiveFault.Folder folder.entry fault }
+        ensures elsewhere { IsElsewhere result }
+    {
+        ArchiveFault::Folder { folder, fault }
     }
 
     // The ledger that is to be added can't be made.
     pub(crate) fn of_device(folder: &'a str, refusal: DeviceRefusal) -> ArchiveFault<'a>
-        ensures status { status_of result ≡ Status.Failed }
+        ensures told { result ≡ of_device folder.entry refusal }
         ensures elsewhere { IsElsewhere result }
     {
         match refusal {
             DeviceRefusal::File(FileFault::Memory) => ArchiveFault::Memory,
             refusal => ArchiveFault::Unmade { folder, refusal },
-        }
-    }
-}
-
-impl NewestFault {
-    // The status that it ends the program with.
-    fn status(self) -> Status
-        ensures { result ≡ of_newest self }
-    {
-        match self {
-            NewestFault::Unread(_) | NewestFault::Lost(_) => Status::Failed,
-            NewestFault::NoLedger(refusal) => Status::from(refusal),
-            NewestFault::Foreign => Status::Refused,
         }
     }
 }

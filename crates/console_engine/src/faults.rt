@@ -1,8 +1,4 @@
 //! Why a script ends early.
-ghost use Rattle.std.specs.Prelude.{◌≡◌};
-ghost use Rattle.console_engine.specs.Faults.{status_of_script};
-
-use program_ends::Status;
 use script_grammar::LineFault;
 use script_streams::StreamFault;
 use std::alloc::AllocError;
@@ -26,18 +22,6 @@ pub enum ScriptFault {
     /// A line is none of the grammar. Lines are numbered from 1.
     #[error("line {line}: {cause}")]
     Line { line: u64, cause: LineFault },
-}
-
-impl ScriptFault {
-    /// The status that the program ends with.
-    pub fn status(self) -> Status
-        ensures { result ≡ status_of_script self }
-    {
-        match self {
-            ScriptFault::Line { .. } | ScriptFault::TooLong => Status::Refused,
-            ScriptFault::Read | ScriptFault::Write | ScriptFault::Memory => Status::Failed,
-        }
-    }
 }
 
 impl From<AllocError> for ScriptFault {

@@ -1,1 +1,1 @@
-pub mod StatusLemmas
+pub mod RefusalLemmas

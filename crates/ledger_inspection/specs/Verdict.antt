@@ -1,4 +1,4 @@
--- What a status says of the image that it looked at.
+-- What an inspection says of the image that it looked at.
 use Rattle.sector_device.specs.Image.{Image}
 use Rattle.turn_ledger.specs.State.{LedgerState}
 use Rattle.journal_recovery.specs.declared.refusals.OpenRefusal.{OpenRefusal}

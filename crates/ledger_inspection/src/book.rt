@@ -1,9 +1,7 @@
 //! What is asked of ledgers that are read as one book.
 use crate::inspection::Task;
-use archive_engine::Volume;
 use file_device::Locking;
 use ledger_printing::{Date, Format, JournalWish};
-use std::fmt;
 
 /// What is to be done with ledgers that are read as one book.
 #[derive(Debug, Drop)]
@@ -56,25 +54,6 @@ impl BookTask {
                 at: record,
             },
             task => task,
-        }
-    }
-}
-
-/// A ledger of a book.
-#[derive(Clone, Copy, Debug)]
-pub enum Part<'a> {
-    /// In a file or on a disk.
-    File(&'a str),
-    /// Of an archive.
-    Volume(Volume<'a>),
-}
-
-/// Its path.
-impl fmt::Display for Part<'_> {
-    fn fmt<W: fmt::Write>(&self, f: &mut fmt::Formatter<W>) -> fmt::Result {
-        match self {
-            Part::File(path) => f.write_str(path),
-            Part::Volume(volume) => write!(f, "{volume}"),
         }
     }
 }

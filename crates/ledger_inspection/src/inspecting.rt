@@ -1,212 +1,105 @@
 //! Looks at a ledger, and prints it or tells what is wrong with it.
-ghost use Rattle.std.specs.Prelude.{◌≡◌, ◌≢◌, ◌⊎◌};
-ghost use Rattle.program_ends.specs.Status.{of_opening};
+ghost use Rattle.std.specs.Prelude.{◌≡◌, true, false, IfErr, OnOk};
+ghost use Rattle.ledger_inspection.specs.Faults.{is_refusal, IsOfOne};
 ghost use Rattle.ledger_inspection.specs.Verdict.{IsSound, IsRefused};
 
-use crate::damage::Damage;
+use crate::faults::InspectionFault;
 use crate::inspection::Inspection;
 use crate::meter::Meter;
-use crate::sound_ledger::{print_map, print_sound};
-use crate::unsound_ledger::{Telling, damage};
-use file_device::{FileFault, Locking, ReadOnlyFile};
-use ledger_printing::PrintFault;
-use ledger_reading::{Device, OpenRefusal, ReadRefusal, Sound, look};
-use program_ends::{OUT_OF_MEMORY, Status, Watched, fail, tell, unwritten};
-use script_streams::{StreamFault, write_all};
+use crate::sound_ledger::print_sound;
+use crate::unsound_ledger::print_unsound;
+use archive_engine::Part;
+use file_device::{Locking, ReadOnlyFile};
+use ledger_reading::{Device, Sound, look};
+use script_streams::{Watched, write_all};
 use std::alloc::Global;
-use std::fmt;
 use std::fs::{File, Files};
 use std::io::Write;
 
 /// Opens the file and does what is asked for with its ledger, as [`inspect_device`].
-pub fn inspect_file<F: Files<File = File>, W: Write, E: Write>(
+///
+/// # Errors
+/// As of [`inspect_device`], and if the file can't be looked at.
+pub fn inspect_file<'a, F: Files<File = File>, W: Write, E: Write>(
     rt: &F,
     alloc: Global,
-    wish: &Inspection<'_>,
+    wish: &Inspection<'a>,
     writer: &mut W,
     errors: &mut E,
     shows_progress: bool,
-) -> Status
-    ensures { result ≢ Status.WrongWords }
+) -> Result<(), InspectionFault<'a>>
+    ensures { IfErr result (IsOfOne (Part.File wish.now.path)) }
 {
     match ReadOnlyFile::open(rt, alloc, wish.path, wish.locking) {
         Ok(device) => {
             tell_locking(alloc, wish.path, wish.locking, errors);
             inspect_device(alloc, wish, device, writer, errors, shows_progress)
         }
-        Err(fault) => tell_file_fault(alloc, wish.path, fault, errors),
+        Err(fault) => Err(InspectionFault::of_file(Part::File(wish.path), fault)),
     }
 }
 
 // Tells that what is at the path isn't locked.
 pub(crate) fn tell_locking<E: Write>(alloc: Global, path: &str, locking: Locking, errors: &mut E) {
-    if locking == Locking::Unlocked {
-        let notice = format_args!("{path}: it isn't locked, so what is printed may be torn");
-        tell(alloc, notice, errors);
+    if locking != Locking::Unlocked {
+        return;
     }
-}
-
-// Tells why a file can't be looked at.
-fn tell_file_fault<E: Write>(alloc: Global, path: &str, fault: FileFault, errors: &mut E) -> Status
-    ensures { result ≡ Status.Failed }
-{
-    match fault {
-        FileFault::Memory => fail(alloc, OUT_OF_MEMORY, errors),
-        fault => fail(alloc, format_args!("{path}: {fault}"), errors),
-    }
+    let _ = match format!(in alloc; "{path}: it isn't locked, so what is printed may be torn\n") {
+        Ok(notice) => write_all(errors, notice.as_bytes()),
+        Err(_) => write_all(errors, b"out of memory\n"),
+    };
 }
 
 /// Does what is asked for with the ledger on a device, which is the file that the wish names. What is printed of a
-/// sound ledger goes to the writer; so does the damage that `check` finds, and every other task tells it to `errors`,
-/// of which a fault is ignored. So does the progress of long work, if it is to be shown.
-pub fn inspect_device<D: Device + Drop, W: Write, E: Write>(
+/// sound ledger goes to the writer, and so does the damage that `check` finds, unless it is quiet; the drawing of `map`
+/// goes there too. The progress of long work goes to `errors`, if it is to be shown. A writer whose reader went away
+/// has taken enough.
+///
+/// # Errors
+/// [`InspectionFault`] of this ledger: it isn't sound, can't be read again, or isn't printed to its end.
+pub fn inspect_device<'a, D: Device + Drop, W: Write, E: Write>(
     alloc: Global,
-    wish: &Inspection<'_>,
+    wish: &Inspection<'a>,
     device: D,
     writer: &mut W,
     errors: &mut E,
     shows_progress: bool,
-) -> Status
+) -> Result<(), InspectionFault<'a>>
+    ensures one { IfErr result (IsOfOne (Part.File wish.now.path)) }
+
     // On an honest device.
-    ensures sound { (D.state device).honest
-        → result ≡ Status.Done → IsSound D (D.state device).reads }
+    ensures sound { (D.state device).honest → OnOk result (IsSound D (D.state device).reads) }
     ensures refused { (D.state device).honest
-        → result ≡ Status.Refused → IsRefused (D.state device).reads }
-    ensures words { result ≢ Status.WrongWords }
+        → IfErr result (λ fault. is_refusal fault ≡ true → IsRefused (D.state device).reads) }
 {
     match look(alloc, device) {
         Ok(sound) => inspect_sound(alloc, wish, sound, writer, errors, shows_progress),
-        Err((device, refusal)) => tell_unsound(alloc, wish, device, refusal, writer, errors),
+        Err((device, refusal)) => Err(print_unsound(alloc, wish, device, refusal, writer)),
     }
 }
 
-// Prints what is asked for of a sound ledger.
-fn inspect_sound<D: Device + Drop, W: Write, E: Write>(
+// Prints what is asked for of a sound ledger, and shows how far the printing is.
+fn inspect_sound<'a, D: Device + Drop, W: Write, E: Write>(
     alloc: Global,
-    wish: &Inspection<'_>,
+    wish: &Inspection<'a>,
     sound: Sound<D>,
     writer: &mut W,
     errors: &mut E,
     shows_progress: bool,
-) -> Status
-    ensures sound { result ≢ Status.Refused }
-    ensures words { result ≢ Status.WrongWords }
+) -> Result<(), InspectionFault<'a>>
+    ensures one { IfErr result (IsOfOne (Part.File wish.now.path)) }
+    ensures failed { IfErr result (λ fault. is_refusal fault ≡ false) }
 {
     let mut output = Watched::over(writer);
-    match print_metered(alloc, wish, sound, &mut output, errors, shows_progress) {
-        Ok(()) => Status::Done,
-        Err(fault) => {
-            let is_closed = output.is_closed();
-            tell_print_fault(alloc, wish.path, fault, is_closed, Status::Done, errors)
-        }
-    }
-}
-
-// Prints it, and shows how far the printing is.
-fn print_metered<D: Device + Drop, W: Write, E: Write>(
-    alloc: Global,
-    wish: &Inspection<'_>,
-    sound: Sound<D>,
-    output: &mut Watched<'_, W>,
-    errors: &mut E,
-    shows_progress: bool,
-) -> Result<(), PrintFault> {
     let mut meter = Meter::over(alloc, errors, shows_progress);
-    let printed = print_sound(alloc, wish.task, sound, output, &mut meter);
+    let printed = print_sound(alloc, wish.task, sound, &mut output, &mut meter);
     meter.end();
-    printed
-}
-
-// Tells what is wrong with the device, and where.
-fn tell_unsound<D: Device + Drop, W: Write, E: Write>(
-    alloc: Global,
-    wish: &Inspection<'_>,
-    device: D,
-    refusal: OpenRefusal,
-    writer: &mut W,
-    errors: &mut E,
-) -> Status
-    ensures unsound { result ≢ Status.Done }
-    ensures refused { result ≡ Status.Refused → of_opening refusal ≡ Status.Refused }
-    ensures words { result ≢ Status.WrongWords }
-{
-    let status = Status::from(refusal);
-    let mut device = device;
-    let damage = damage(wish.path, &mut device, refusal);
-    match (status, Telling::of(wish.task)) {
-        (Status::Refused, Telling::Nothing) => status,
-        (Status::Refused, Telling::Answer) => answer(alloc, damage, writer, errors),
-        (Status::Refused, Telling::Drawing) => {
-            draw_damage(alloc, damage, &mut device, writer, errors)
-        }
-        _ => {
-            tell(alloc, damage, errors);
-            status
-        }
-    }
-}
-
-// Draws the device, and tells the damage.
-fn draw_damage<D: Device, W: Write, E: Write>(
-    alloc: Global,
-    damage: Damage<'_>,
-    device: &mut D,
-    writer: &mut W,
-    errors: &mut E,
-) -> Status
-    ensures unsound { result ≢ Status.Done }
-    ensures words { result ≢ Status.WrongWords }
-{
-    let mut output = Watched::over(writer);
-    let drawn = print_map(alloc, device, damage.place, &mut output);
-    let (path, is_closed) = (damage.path, output.is_closed());
-    tell(alloc, damage, errors);
-    match drawn {
-        Ok(()) => Status::Refused,
-        Err(fault) => tell_print_fault(alloc, path, fault, is_closed, Status::Refused, errors),
-    }
-}
-
-// Prints what is wrong, where that was asked for.
-pub(crate) fn answer<L: fmt::Display + Drop, W: Write, E: Write>(
-    alloc: Global,
-    wrong: L,
-    writer: &mut W,
-    errors: &mut E,
-) -> Status
-    ensures unsound { result ≢ Status.Done }
-    ensures words { result ≢ Status.WrongWords }
-{
-    let mut output = Watched::over(writer);
-    let Ok(line) = format!(in alloc; "{wrong}\n") else {
-        return fail(alloc, OUT_OF_MEMORY, errors);
+    let Err(fault) = printed else {
+        return Ok(());
     };
-    match write_all(&mut output, line.as_bytes()) {
-        Ok(()) => Status::Refused,
-        Err(_) => unwritten(alloc, output.is_closed(), Status::Refused, errors),
+    let fault = InspectionFault::of_printing(Part::File(wish.path), fault);
+    if fault.is_of_reader(output.is_closed()) {
+        return Ok(());
     }
-}
-
-// Tells why it wasn't printed to its end. A reader that went away leaves the status as it is.
-fn tell_print_fault<E: Write>(
-    alloc: Global,
-    path: &str,
-    fault: PrintFault,
-    is_closed: bool,
-    status: Status,
-    errors: &mut E,
-) -> Status
-    ensures { (result ≡ Status.Failed) ⊎ (result ≡ status) }
-{
-    match fault {
-        PrintFault::Stream(StreamFault::Write) => unwritten(alloc, is_closed, status, errors),
-        PrintFault::Stream(fault) => fail(alloc, fault, errors),
-        PrintFault::Read(ReadRefusal::Device) => {
-            fail(alloc, format_args!("{path}: it can't be read"), errors)
-        }
-        PrintFault::Read(ReadRefusal::Changed) => {
-            let line = format_args!("{path}: it changed while it was read");
-            fail(alloc, line, errors)
-        }
-    }
+    Err(fault)
 }

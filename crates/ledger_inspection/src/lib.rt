@@ -1,4 +1,5 @@
 //! Looks at a ledger on a device or in a file, of any layout, and prints what is asked for. It never writes the file.
+//! What keeps it from that it answers as a fault, and leaves its telling to the caller.
 //!
 //! [`inspect_file`] opens a file and looks at it, and [`inspect_device`] does so with a device that is handed in.
 //! [`inspect_book`] looks at several ledgers as one, and [`check_archive`] finds an archive sound.
@@ -7,9 +8,8 @@
 #![tactic(auto)]
 
 mod book;
-mod book_faults;
 mod book_reader;
-mod damage;
+mod faults;
 mod inspecting;
 mod inspection;
 mod meter;
@@ -17,16 +17,17 @@ mod reading_book;
 mod shelf;
 mod sound_ledger;
 mod unsound_ledger;
+mod wrong;
 
-pub use book::{BookInspection, BookTask, Part};
-pub use book_faults::BookFault;
-pub use damage::{Damage, Wrong};
+pub use archive_engine::Part;
+pub use book::{BookInspection, BookTask};
 pub use device_drawing::Place;
+pub use faults::InspectionFault;
 pub use file_device::{FileFault, Locking};
 pub use inspecting::{inspect_device, inspect_file};
 pub use inspection::{Inspection, Task};
 pub use ledger_printing::{Date, Format, JournalWish, Progress, Selection};
 pub use ledger_reading::{Cause, Device, OpenRefusal};
 pub use meter::Meter;
-pub use program_ends::Status;
 pub use reading_book::{check_archive, inspect_book};
+pub use wrong::Wrong;

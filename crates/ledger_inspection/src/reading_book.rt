@@ -1,34 +1,39 @@
 //! Reads ledgers as one book.
-ghost use Rattle.std.specs.Prelude.{◌≢◌};
-
 use crate::book::{BookInspection, BookTask};
-use crate::book_faults::BookFault;
 use crate::book_reader::{Keeping, Passing, Printing};
-use crate::inspecting::{answer, tell_locking};
+use crate::faults::InspectionFault;
+use crate::inspecting::tell_locking;
 use crate::meter::Meter;
 use crate::shelf::{Extent, Shelf, parts_of};
+use crate::unsound_ledger::answered;
 use file_device::Locking;
 use ledger_printing::{JournalPrint, JournalWish, Progress, print_balances};
 use ledger_reading::Ledger;
-use program_ends::{Status, Watched, tell, unwritten};
-use script_streams::{Output, StreamFault};
+use script_streams::{Output, StreamFault, Watched};
 use std::alloc::{Alloc, Global};
 use std::fs::{File, Files};
 use std::io::Write;
 
 /// Does what is asked for with a book. All of it is found sound, and each ledger to go on where the one before ends,
-/// before anything is printed, and the last one stays locked from then on. What is printed goes to the writer; so does
-/// what `check` finds wrong, and every other task tells it to `errors`, of which a fault is ignored.
-pub fn inspect_book<R: Files<File = File> + Alloc<A = Global> + Clone + Drop, W: Write, E: Write>(
+/// before anything is printed, and the last one stays locked from then on. What is printed goes to the writer, and so
+/// does what `check` finds wrong, unless it is quiet. The progress of long work goes to `errors`, if it is to be shown.
+/// A writer whose reader went away has taken enough.
+///
+/// # Errors
+/// [`InspectionFault`], the first that is met.
+pub fn inspect_book<
+    'a,
+    R: Files<File = File> + Alloc<A = Global> + Clone + Drop,
+    W: Write,
+    E: Write,
+>(
     rt: &R,
     alloc: Global,
-    wish: &BookInspection<'_>,
+    wish: &BookInspection<'a>,
     writer: &mut W,
     errors: &mut E,
     shows_progress: bool,
-) -> Status
-    ensures { result ≢ Status.WrongWords }
-{
+) -> Result<(), InspectionFault<'a>> {
     for path in &wish.paths {
         tell_locking(alloc, path, wish.locking, errors);
     }
@@ -36,12 +41,15 @@ pub fn inspect_book<R: Files<File = File> + Alloc<A = Global> + Clone + Drop, W:
     let mut meter = Meter::over(alloc, errors, shows_progress);
     let read = read_book(rt, alloc, wish, &mut output, &mut meter);
     meter.end();
-    match read {
-        Ok(()) => Status::Done,
-        Err(BookFault::Output(StreamFault::Write)) => {
-            unwritten(alloc, output.is_closed(), Status::Done, errors)
+    let Err(fault) = read else {
+        return Ok(());
+    };
+    match wish.task {
+        _ if fault.is_of_reader(output.is_closed()) => Ok(()),
+        BookTask::Check { quiet: false } if fault.is_refusal() => {
+            Err(answered(alloc, fault, &mut output))
         }
-        Err(fault) => tell_fault(alloc, wish.task, fault, &mut output, errors),
+        _ => Err(fault),
     }
 }
 
@@ -49,12 +57,12 @@ pub fn inspect_book<R: Files<File = File> + Alloc<A = Global> + Clone + Drop, W:
 /// ends.
 ///
 /// # Errors
-/// [`BookFault`], the first that is met.
+/// [`InspectionFault`], the first that is met.
 pub fn check_archive<'a, R: Files<File = File> + Alloc<A = Global> + Clone + Drop>(
     rt: &R,
     alloc: Global,
     folder: &'a str,
-) -> Result<(), BookFault<'a>> {
+) -> Result<(), InspectionFault<'a>> {
     let parts = parts_of(rt, alloc, &[folder])?;
     let shelf = Shelf {
         rt,
@@ -64,29 +72,6 @@ pub fn check_archive<'a, R: Files<File = File> + Alloc<A = Global> + Clone + Dro
     };
     shelf.walk(&mut Passing)?;
     Ok(())
-}
-
-// Tells why it isn't read.
-fn tell_fault<W: Write, E: Write>(
-    alloc: Global,
-    task: BookTask,
-    fault: BookFault<'_>,
-    writer: &mut W,
-    errors: &mut E,
-) -> Status
-    ensures { result ≢ Status.WrongWords }
-{
-    let status = fault.status();
-    match (status, task) {
-        (Status::Refused, BookTask::Check { quiet: true }) => status,
-        (Status::Refused, BookTask::Check { quiet: false }) => {
-            answer(alloc, fault, writer, errors)
-        }
-        _ => {
-            tell(alloc, fault, errors);
-            status
-        }
-    }
 }
 
 // Finds all of it sound, and then prints what is asked for. The last ledger stays open, so that nobody writes it.
@@ -101,10 +86,10 @@ fn read_book<
     wish: &BookInspection<'a>,
     writer: &mut W,
     progress: &mut P,
-) -> Result<(), BookFault<'a>> {
+) -> Result<(), InspectionFault<'a>> {
     let parts = parts_of(rt, alloc, wish.paths.as_slice())?;
     let Some(last) = parts.last() else {
-        return Err(BookFault::Nothing);
+        return Err(InspectionFault::Nothing);
     };
     let shelf = Shelf {
         rt,
@@ -124,7 +109,7 @@ impl<'a, R: Files<File = File>> Shelf<'a, '_, R> {
         task: BookTask,
         writer: &mut W,
         progress: &mut P,
-    ) -> Result<(), BookFault<'a>> {
+    ) -> Result<(), InspectionFault<'a>> {
         match task {
             BookTask::Check { quiet } => {
                 let extent = self.walk(&mut Passing)?;
@@ -147,21 +132,21 @@ impl<'a, R: Files<File = File>> Shelf<'a, '_, R> {
         wish: JournalWish,
         writer: &mut W,
         progress: &mut P,
-    ) -> Result<(), BookFault<'a>> {
+    ) -> Result<(), InspectionFault<'a>> {
         let Extent { last, .. } = self.walk(&mut Passing)?;
         let printed = JournalPrint::over(self.alloc, wish, writer).map_err(
-            |fault| BookFault::of_printing(last, fault),
+            |fault| InspectionFault::of_printing(last, fault),
         )?;
         let mut printing = Printing { printed, progress };
         self.walk(&mut printing)?;
         let Printing { printed, .. } = printing;
         printed
             .end()
-            .map_err(|fault| BookFault::of_printing(last, fault))
+            .map_err(|fault| InspectionFault::of_printing(last, fault))
     }
 
     // What the accounts hold at the end, or held before the record with that sequence number.
-    fn held(&self, at: Option<u64>) -> Result<Ledger, BookFault<'a>> {
+    fn held(&self, at: Option<u64>) -> Result<Ledger, InspectionFault<'a>> {
         let mut ledger = Ledger::new(self.alloc)?;
         let Some(at) = at else {
             let extent = self.walk(&mut Passing)?;
@@ -175,7 +160,7 @@ impl<'a, R: Files<File = File>> Shelf<'a, '_, R> {
         };
         let extent = self.walk(&mut keeping)?;
         if !keeping.is_found {
-            return Err(BookFault::OutOfReach {
+            return Err(InspectionFault::OutOfReach {
                 part: extent.last,
                 at,
                 first: extent.first,

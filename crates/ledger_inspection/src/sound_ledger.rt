@@ -2,7 +2,7 @@
 ghost use Rattle.std.specs.Prelude.{◌≡◌, ◌+◌, ◌≤◌};
 
 use crate::inspection::Task;
-use device_drawing::{DrawFault, Place, draw};
+use device_drawing::{DrawFault, draw};
 use ledger_printing::{PrintFault, Progress, print_balances, print_journal};
 use ledger_reading::{AnyJournal, Device, Numbers, ReadRefusal, Sound};
 use script_streams::{Output, StreamFault};
@@ -70,7 +70,11 @@ fn print_sound_map<D: Device + Drop, W: Write>(
 ) -> Result<(), PrintFault> {
     let Sound { journal, .. } = sound;
     let mut device = device_of(journal);
-    print_map(alloc, &mut device, None, writer)
+    match draw(alloc, &mut device, None, writer) {
+        Ok(()) => Ok(()),
+        Err(DrawFault::Device) => Err(PrintFault::Read(ReadRefusal::Device)),
+        Err(DrawFault::Stream(fault)) => Err(PrintFault::Stream(fault)),
+    }
 }
 
 // The device of a journal, of whichever layout.
@@ -78,19 +82,5 @@ fn device_of<D: Device>(journal: AnyJournal<D>) -> D {
     match journal {
         AnyJournal::Present(journal) => journal.into_device(),
         AnyJournal::Old(journal) => journal.into_device(),
-    }
-}
-
-/// Draws the sectors of a device, and where it is damaged.
-pub(crate) fn print_map<D: Device, W: Write>(
-    alloc: Global,
-    device: &mut D,
-    damage: Option<Place>,
-    writer: &mut W,
-) -> Result<(), PrintFault> {
-    match draw(alloc, device, damage, writer) {
-        Ok(()) => Ok(()),
-        Err(DrawFault::Device) => Err(PrintFault::Read(ReadRefusal::Device)),
-        Err(DrawFault::Stream(fault)) => Err(PrintFault::Stream(fault)),
     }
 }

@@ -19,5 +19,5 @@ mod roster;
 pub use file::{note_script, read_roster, remove_roster, take_along, write_roster};
 pub use name::{LONGEST_NAME, is_name, name_of};
 pub use place::{RosterPath, is_disk};
-pub use refusal::{CountersFault, RosterFault, SeatRefusal};
+pub use refusal::{CountersFault, RosterFault};
 pub use roster::{Left, MOST_COUNTERS, Roster};

@@ -1,6 +1,6 @@
 //! A roster as the text of its file: a line for its kind, one for the ledger, one for the batch from which on only
 //! offices posted, one for how it was left, and one for each counter.
-use crate::refusal::{RosterFault, SeatRefusal};
+use crate::refusal::RosterFault;
 use crate::roster::{Left, Roster};
 use std::alloc::Global;
 use std::fmt;
@@ -70,8 +70,8 @@ fn add_counter(
     }
     match roster.seat(alloc, name) {
         Ok(_) => Ok(()),
-        Err(SeatRefusal::Memory) => Err(RosterFault::Memory),
-        Err(SeatRefusal::NoName | SeatRefusal::Full) => Err(wrong(number)),
+        Err(RosterFault::Memory) => Err(RosterFault::Memory),
+        Err(_) => Err(wrong(number)),
     }
 }
 

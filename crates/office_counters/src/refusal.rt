@@ -72,27 +72,6 @@ impl fmt::Display for CountersFault<'_> {
     }
 }
 
-/// Why a counter has no station.
-#[derive(Clone, Copy, Debug, PartialEq, Eq)]
-pub enum SeatRefusal {
-    /// Its name is none.
-    NoName,
-    /// There is no memory.
-    Memory,
-    /// All 64 stations have other counters.
-    Full,
-}
-
-impl From<SeatRefusal> for RosterFault {
-    fn from(refusal: SeatRefusal) -> RosterFault {
-        match refusal {
-            SeatRefusal::Memory => RosterFault::Memory,
-            SeatRefusal::NoName => RosterFault::NoName,
-            SeatRefusal::Full => RosterFault::Full,
-        }
-    }
-}
-
 impl From<AllocError> for RosterFault {
     fn from(_: AllocError) -> RosterFault {
         RosterFault::Memory

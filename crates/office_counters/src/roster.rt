@@ -1,10 +1,11 @@
 //! Which station each counter has, and from which batch on only offices posted.
 ghost use Rattle.std.specs.Prelude.{◌≡◌, ◌<◌, ◌≤◌, ◌++◌, ◌∷◌, [], min, map, true, false, bytes_eq, HoldsAt, All, IsNone, length, string_bytes, slice_get, Contains, Some, None, Err, IfOk, IfErr, IfSome, IsTrue, OnOk, OnErr};
+ghost use Rattle.office_counters.specs.Faults.{IsOfSeat};
 ghost use Rattle.office_counters.specs.Name.{IsName};
 ghost use Rattle.office_counters.specs.Seats.{Seats, IsAsLeft};
 
 use crate::name::is_name;
-use crate::refusal::SeatRefusal;
+use crate::refusal::RosterFault;
 use std::alloc::Global;
 use std::marker::Model;
 
@@ -107,17 +108,18 @@ impl Roster {
     /// The station of the counter with this name: its own, and that of a new one is the next that no counter has.
     ///
     /// # Errors
-    /// [`SeatRefusal`]; nothing has changed then.
-    pub fn seat(&mut self, alloc: Global, name: &str) -> Result<u8, SeatRefusal>
+    /// [`RosterFault`], `NoName`, `Full` or `Memory`; nothing has changed then.
+    pub fn seat(&mut self, alloc: Global, name: &str) -> Result<u8, RosterFault>
         ensures its_own { IfOk result (λ station. slice_get self.new.names station ≡ Some name.now) }
         ensures known { Contains self.old.names name.now → self.new.names ≡ self.old.names }
         ensures new { (Contains self.old.names name.now → ⊥) → IfOk result (λ station.
             self.new.names ≡ self.old.names ++ name.now ∷ []) }
         ensures named { (Contains self.old.names name.now → ⊥) → IfOk result (λ station. IsName name.now) }
-        ensures no_name { result ≡ Err SeatRefusal.NoName
+        ensures no_name { result ≡ Err RosterFault.NoName
             → (IsName name.now → ⊥) × (Contains self.old.names name.now → ⊥) }
-        ensures full { result ≡ Err SeatRefusal.Full
+        ensures full { result ≡ Err RosterFault.Full
             → (length self.old.names ≡ 64) × (Contains self.old.names name.now → ⊥) }
+        ensures cause { IfErr result IsOfSeat }
         ensures refused { IfErr result (λ refusal. self.new ≡ self.old) }
         ensures since { self.new.since ≡ self.old.since }
         ensures left { self.new.left ≡ self.old.left }
@@ -131,12 +133,13 @@ impl Roster {
     }
 
     // The station of a new counter.
-    fn add(&mut self, alloc: Global, name: &str) -> Result<u8, SeatRefusal>
+    fn add(&mut self, alloc: Global, name: &str) -> Result<u8, RosterFault>
         ensures its_own { IfOk result (λ station. slice_get self.new.names station ≡ Some name.now) }
         ensures new { IfOk result (λ station. self.new.names ≡ self.old.names ++ name.now ∷ []) }
         ensures named { IfOk result (λ station. IsName name.now) }
-        ensures no_name { result ≡ Err SeatRefusal.NoName → IsName name.now → ⊥ }
-        ensures full { result ≡ Err SeatRefusal.Full → length self.old.names ≡ 64 }
+        ensures no_name { result ≡ Err RosterFault.NoName → IsName name.now → ⊥ }
+        ensures full { result ≡ Err RosterFault.Full → length self.old.names ≡ 64 }
+        ensures cause { IfErr result IsOfSeat }
         ensures refused { IfErr result (λ refusal. self.new ≡ self.old) }
         ensures since { self.new.since ≡ self.old.since }
         ensures left { self.new.left ≡ self.old.left }
@@ -145,10 +148,10 @@ impl Roster {
     {
         let station = self.names.len();
         if !is_name(name) {
-            return Err(SeatRefusal::NoName);
+            return Err(RosterFault::NoName);
         }
         if station >= MOST_COUNTERS {
-            return Err(SeatRefusal::Full);
+            return Err(RosterFault::Full);
         }
         add_name(alloc, &mut self.names, name)?;
         Ok(station as u8)
@@ -218,14 +221,14 @@ fn place_of(names: &[String], name: &str) -> Option<usize>
 }
 
 // Puts a name behind the others.
-fn add_name(alloc: Global, names: &mut Vec<String>, name: &str) -> Result<(), SeatRefusal>
+fn add_name(alloc: Global, names: &mut Vec<String>, name: &str) -> Result<(), RosterFault>
     ensures added { OnOk result (map (λ one. string_bytes one) names.new.items
         ≡ map (λ one. string_bytes one) names.old.items ++ name.now ∷ []) }
     ensures refused { OnErr result (names.new.items ≡ names.old.items) }
-    ensures memory { IfErr result (λ refusal. refusal ≡ SeatRefusal.Memory) }
+    ensures memory { IfErr result (λ refusal. refusal ≡ RosterFault.Memory) }
 {
     let Ok(own) = name.to_owned(alloc) else {
-        return Err(SeatRefusal::Memory);
+        return Err(RosterFault::Memory);
     };
-    names.push(own).or(Err(SeatRefusal::Memory))
+    names.push(own).or(Err(RosterFault::Memory))
 }

@@ -1,5 +1,4 @@
 pub mod Ends
 pub mod Serving
-pub mod Faults
 pub mod Copies
 pub mod FolderArchive

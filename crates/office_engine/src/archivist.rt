@@ -60,7 +60,7 @@ impl<'a, 'r, R: Files<File = File> + Alloc<A = Global> + Clone + Drop> Archivist
         let copies = match serving.copies {
             Some(path) => match open_copies(rt, alloc, path, serving.archive) {
                 Ok(copies) => Some(copies),
-                Err(fault) => return Err(OfficeFault::of_copies(path, fault)),
+                Err(fault) => return Err(OfficeFault::from(fault)),
             },
             None => None,
         };

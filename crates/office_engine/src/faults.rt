@@ -1,9 +1,6 @@
 //! Why an office isn't kept open, or ends early.
-ghost use Rattle.std.specs.Prelude.{◌≡◌};
-ghost use Rattle.office_engine.specs.Faults.{status_of};
-
 use crate::pipes::{PipeRefusal, Side};
-use archive_engine::{ArchiveFault, CopiesFault};
+use archive_engine::ArchiveFault;
 use four_state::LineRefusal;
 use journal_recovery::OpenRefusal;
 use ledger_file::LedgerRefusal;
@@ -11,7 +8,6 @@ use line_lock::OfficeRefusal;
 use live_office::LiveRefusal;
 use office_counters::{CountersFault, RosterFault};
 use office_day::TurnRefusal;
-use program_ends::Status;
 use script_streams::StreamFault;
 use std::alloc::AllocError;
 use std::fmt;
@@ -79,7 +75,8 @@ pub enum OfficeFault<'a> {
     /// The system refused a station its thread.
     #[error("the system refused a thread")]
     Threads,
-    /// The archive can't be had, or what it lacks can't be added to it. What was answered stands in the ledger.
+    /// The archive, or the folder of the copies, can't be had, or what the archive lacks can't be added to it. What was
+    /// answered stands in the ledger.
     #[error("{0}")]
     Archive(ArchiveFault<'a>),
     /// The ledger or the archive isn't at its path any more. What was answered stands in what was open.
@@ -90,12 +87,6 @@ pub enum OfficeFault<'a> {
     /// Which station each counter has isn't known, or can't be written down.
     #[error("{0}")]
     Counters(CountersFault<'a>),
-    /// No copies can be made in the folder that is named for them.
-    #[error("{folder}: {fault}")]
-    Copies {
-        folder: &'a str,
-        fault: CopiesFault,
-    },
 }
 
 /// Out of memory is reported as out of memory, wherever it was met.
@@ -114,31 +105,6 @@ impl From<LiveRefusal> for OfficeFault<'_> {
 }
 
 impl<'a> OfficeFault<'a> {
-    /// The status that the program ends with.
-    pub fn status(self) -> Status
-        ensures { result ≡ status_of self.entry }
-    {
-        match self {
-            OfficeFault::File { refusal, .. } => Status::from(refusal),
-            OfficeFault::NoLedger { refusal, .. } => Status::from(refusal),
-            OfficeFault::Office(LiveRefusal::Office(OfficeRefusal::Opening(refusal))) => {
-                Status::from(refusal)
-            }
-            OfficeFault::Refused(refusal) => Status::from(refusal),
-            OfficeFault::Archive(fault) => fault.status(),
-            OfficeFault::Counters(fault) if fault.cause.is_refusal() => Status::Refused,
-            OfficeFault::Copies { fault, .. } => fault.status(),
-            OfficeFault::Memory
-            | OfficeFault::Write
-            | OfficeFault::Pipe(_)
-            | OfficeFault::Line(_)
-            | OfficeFault::Office(_)
-            | OfficeFault::Threads
-            | OfficeFault::Lost { .. }
-            | OfficeFault::Counters(_) => Status::Failed,
-        }
-    }
-
     // Out of memory stays out of memory.
     pub(crate) fn of_counters(fault: CountersFault<'a>) -> OfficeFault<'a> {
         match fault.cause {
@@ -153,14 +119,6 @@ impl<'a> OfficeFault<'a> {
             return OfficeFault::Memory;
         }
         OfficeFault::File { path, refusal }
-    }
-
-    // The same of the folder of the copies.
-    pub(crate) fn of_copies(folder: &'a str, fault: CopiesFault) -> OfficeFault<'a> {
-        match fault {
-            CopiesFault::Memory => OfficeFault::Memory,
-            fault => OfficeFault::Copies { folder, fault },
-        }
     }
 }
 

@@ -11,8 +11,8 @@ use crate::seating::Seating;
 use crate::serving::{CounterFolder, Plan, Serving};
 use crate::source::{Source, Target};
 use file_device::FileNumber;
-use four_state::{Line, MOST_STATIONS};
-use journal_recovery::{Recovered, recover};
+use four_state::{FEWEST_STATIONS, Line, MOST_STATIONS};
+use journal_recovery::OpenRefusal;
 use ledger_file::{FileDevice, Formatting, format_ledger, open_ledger};
 use live_office::{
     Closed, Conversation, Counter, Entry, Identity, Kept, Kind, are_threads_granted, keep_open,
@@ -23,6 +23,7 @@ use sector_device::Device;
 use std::alloc::{AllocError, Global};
 use std::fs::{File, Files};
 use std::io::{Read, Write};
+use turn_clerk::Clerk;
 
 /// After how many turns an office is closed and opened again, if its banks have as many slots: so many its history
 /// holds at most.
@@ -84,15 +85,14 @@ pub fn serve<
 // What an office is opened on, and who keeps its archive.
 #[derive(Drop)]
 struct Ready<'a, 'r, R> {
-    ledger: Opened<FileDevice>,
+    clerk: Clerk<FileDevice>,
     seating: Seating<'a>,
     archivist: Archivist<'a, 'r, R>,
-    stations: u64,
     // How many turns a span has.
     moves: u64,
 }
 
-// Brings the archive up to the ledger on the device, and gives each counter its station.
+// Brings the archive up to the ledger on the device, reads that once more, and gives each counter its station.
 fn ready_office<'a, 'r, R: Runtime>(
     rt: &'r R,
     alloc: Global,
@@ -102,19 +102,18 @@ fn ready_office<'a, 'r, R: Runtime>(
     mut archivist: Archivist<'a, 'r, R>,
 ) -> Result<Ready<'a, 'r, R>, OfficeFault<'a>> {
     let (device, _) = archivist.add(device)?;
-    let ledger = look_at(alloc, serving.path, device)?;
-    let seating = Seating::begin(rt, alloc, serving, ledger.next)?;
+    let clerk = open_clerk(alloc, serving.path, device)?;
+    let seating = Seating::begin(rt, alloc, serving, clerk.next())?;
     let stations = seating.stations(planned);
     if !are_threads_granted(rt, alloc, stations, seating.seats.len())? {
         return Err(OfficeFault::Threads);
     }
     archivist.learn(&seating)?;
-    let moves = turns_of_span(ledger.slots, serving.archive.is_some());
+    let moves = turns_of_span(clerk.slots(), serving.archive.is_some());
     Ok(Ready {
-        ledger,
+        clerk: on_line_of(serving.path, clerk, stations)?,
         seating,
         archivist,
-        stations,
         moves,
     })
 }
@@ -133,17 +132,15 @@ fn keep_on<
     counters: Vec<AnyCounter<I, O>>,
     output: &mut Output<'_, W>,
 ) -> Result<(), OfficeFault<'a>> {
-    tell_opened(&office, output)?;
-    let line = first_line(office.stations)?;
     let Ready {
-        ledger,
+        clerk,
         mut seating,
         archivist,
         moves,
-        ..
     } = office;
+    tell_opened(&clerk, output)?;
     let counters = seated(alloc, counters, &seating)?;
-    match keep_open(rt, alloc, ledger.device, line, counters, moves, archivist) {
+    match keep_open(rt, alloc, clerk, counters, moves, archivist) {
         Ok((closed, archivist)) => {
             let next = closed.clerk.next();
             let _device = end(closed, archivist, output)?;
@@ -154,12 +151,15 @@ fn keep_on<
 }
 
 // Tells that the office is open.
-fn tell_opened<R, W: Write>(
-    office: &Ready<'_, '_, R>,
+fn tell_opened<D: Device, W: Write>(
+    clerk: &Clerk<D>,
     output: &mut Output<'_, W>,
 ) -> Result<(), StreamFault> {
-    let Opened { next, total, .. } = office.ledger;
-    let stations = office.stations;
+    let (stations, next, total) = (
+        clerk.line().stations(),
+        clerk.next(),
+        clerk.ledger().total(),
+    );
     output.line(format_args!("opened {stations} next {next} total {total}"))?;
     output.flush()
 }
@@ -291,34 +291,27 @@ fn open_device<'a, R: Files<File = File>, W: Write>(
     Ok(device)
 }
 
-// What an office is opened on: the number of the next batch, what the accounts hold together, and how many slots each
-// bank has.
-#[derive(Drop)]
-struct Opened<D> {
-    device: D,
-    next: u64,
-    total: u64,
-    slots: u64,
-}
-
-// What the device holds.
-fn look_at<'a, D: Device + Drop>(
+// The clerk of the ledger on the device, on a line of the fewest stations.
+fn open_clerk<'a, D: Device + Drop>(
     alloc: Global,
     path: &'a str,
     device: D,
-) -> Result<Opened<D>, OfficeFault<'a>> {
-    let Recovered { journal, ledger } = match recover(alloc, device) {
-        Ok(found) => found,
-        Err((_, refusal)) => return Err(OfficeFault::NoLedger { path, refusal }),
-    };
-    let (next, total, slots) = (journal.next(), ledger.total(), journal.slots());
-    let device = journal.into_device();
-    Ok(Opened {
-        device,
-        next,
-        total,
-        slots,
-    })
+) -> Result<Clerk<D>, OfficeFault<'a>> {
+    match Clerk::open(alloc, device, first_line(FEWEST_STATIONS)?) {
+        Ok(clerk) => Ok(clerk),
+        Err((_, refusal)) => Err(OfficeFault::NoLedger { path, refusal }),
+    }
+}
+
+// The clerk on a line of so many stations. One that was just opened has met no fault.
+fn on_line_of<'a, D: Device + Drop>(
+    path: &'a str,
+    clerk: Clerk<D>,
+    stations: u64,
+) -> Result<Clerk<D>, OfficeFault<'a>> {
+    let refusal = OpenRefusal::Device;
+    let begun = clerk.begin_anew(first_line(stations)?);
+    begun.or(Err(OfficeFault::NoLedger { path, refusal }))
 }
 
 // The line that an office begins with: any would do, since it heals. On this one the bottom station alone is

@@ -143,12 +143,10 @@ fn seats_of(
 ) -> Result<Vec<u8>, RosterFault> {
     let mut seats = Vec::new(alloc);
     for counter in &serving.counters {
-        let station = roster.seat(alloc, counter.name).map_err(RosterFault::from)?;
-        seats.push(station)?;
+        seats.push(roster.seat(alloc, counter.name)?)?;
     }
     if serving.terminal {
-        let station = roster.seat(alloc, TERMINAL).map_err(RosterFault::from)?;
-        seats.push(station)?;
+        seats.push(roster.seat(alloc, TERMINAL)?)?;
     }
     Ok(seats)
 }

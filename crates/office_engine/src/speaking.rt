@@ -1,11 +1,7 @@
 //! Speaking at an office from outside, at one of its counters.
-ghost use Rattle.std.specs.Prelude.{◌≡◌};
-ghost use Rattle.office_engine.specs.Faults.{status_of_control};
-
 use crate::faults::PipeFault;
 use crate::locks::{LockRefusal, lock_folder};
 use crate::pipes::{PipeRefusal, Side, find_pipe};
-use program_ends::Status;
 use script_streams::write_all;
 use std::alloc::Global;
 use std::fs::{File, Files, TryLockError};
@@ -36,22 +32,6 @@ pub enum ControlFault<'a> {
     /// The office was asked how it stands, and closes, or can't read its ledger.
     #[error("{0}: its office doesn't tell")]
     Untold(&'a str),
-}
-
-impl ControlFault<'_> {
-    /// The status that the program ends with.
-    pub fn status(self) -> Status
-        ensures { result ≡ status_of_control self.entry }
-    {
-        match self {
-            ControlFault::NotOpen(_) | ControlFault::Taken(_) => Status::Refused,
-            ControlFault::Pipe(_)
-            | ControlFault::NoLock(_)
-            | ControlFault::Unwritten(_)
-            | ControlFault::StillOpen(_)
-            | ControlFault::Untold(_) => Status::Failed,
-        }
-    }
 }
 
 /// Who speaks at the counter of a folder, whose lock it holds.

@@ -59,13 +59,13 @@ impl CommandText {
 }
 
 /// The command, with these as its own.
-pub(crate) fn with_commands<'a>(
+pub(crate) fn with_commands<'a, V>(
     alloc: Global,
     command: Command<'a>,
-    texts: &[CommandText],
+    texts: &[(V, CommandText)],
 ) -> Result<Command<'a>, AllocError> {
     let mut command = command;
-    for text in texts {
+    for (_, text) in texts {
         command = command.subcommand(text.command(alloc)?)?;
     }
     Ok(command)

@@ -70,34 +70,79 @@ pub(crate) fn derbyfig_command<'a>(alloc: Global) -> Result<Command<'a>, Error>
         .version(VERSION)
         .subcommand_required(true);
     let command = with_commands(alloc, command, running_commands())?;
-    let command = with_commands(alloc, command, serving_commands())?;
     let command = with_commands(alloc, command, looking_commands())?;
     Ok(with_commands(alloc, command, making_commands())?)
 }
 
-// The table in four parts: the prover takes no more text at once.
-const RUNNING: &[CommandText] = &[RUN];
-
-const KEEPING: &[CommandText] = &[SERVE];
-
-const LOOKS: &[CommandText] = &[CLOSE, STATUS, CHECK, JOURNAL];
-
-const MAKING: &[CommandText] = &[BALANCES, MAP, FORMATS, COPY, ARCHIVE, RESTORE, MIGRATE];
-
-fn running_commands() -> &'static [CommandText] {
-    RUNNING
+/// A command.
+#[derive(Clone, Copy)]
+pub(crate) enum Verb {
+    Run,
+    Serve,
+    Close,
+    Status,
+    Check,
+    Journal,
+    Balances,
+    Map,
+    Format,
+    Copy,
+    Archive,
+    Restore,
+    Migrate,
 }
 
-fn serving_commands() -> &'static [CommandText] {
-    KEEPING
+impl Verb {
+    /// The command of this name.
+    pub(crate) fn named(name: &str) -> Option<Verb> {
+        for part in [running_commands(), looking_commands(), making_commands()] {
+            for (verb, text) in part {
+                if text.name == name {
+                    return Some(*verb);
+                }
+            }
+        }
+        None
+    }
 }
 
-fn looking_commands() -> &'static [CommandText] {
-    LOOKS
+// The table, by what the commands are for.
+
+const TO_RUN: &[(Verb, CommandText)] = &[
+    (Verb::Run, RUN),
+    (Verb::Serve, SERVE),
+    (Verb::Close, CLOSE),
+    (Verb::Status, STATUS),
+];
+
+const TO_LOOK: &[(Verb, CommandText)] = &[
+    (Verb::Check, CHECK),
+    (Verb::Journal, JOURNAL),
+    (Verb::Balances, BALANCES),
+    (Verb::Map, MAP),
+];
+
+const TO_MAKE: &[(Verb, CommandText)] = &[
+    (Verb::Format, FORMATS),
+    (Verb::Copy, COPY),
+    (Verb::Archive, ARCHIVE),
+    (Verb::Restore, RESTORE),
+    (Verb::Migrate, MIGRATE),
+];
+
+// Each part has a function. One that named all three constants would be proved over all of their texts at once, which
+// are more than the prover takes.
+
+fn running_commands() -> &'static [(Verb, CommandText)] {
+    TO_RUN
 }
 
-fn making_commands() -> &'static [CommandText] {
-    MAKING
+fn looking_commands() -> &'static [(Verb, CommandText)] {
+    TO_LOOK
+}
+
+fn making_commands() -> &'static [(Verb, CommandText)] {
+    TO_MAKE
 }
 
 // A command of which help says no more than this.

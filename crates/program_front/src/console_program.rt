@@ -1,22 +1,16 @@
 //! All of `turn_console`, over the words and streams that it is handed.
-ghost use Rattle.std.specs.Prelude.{◌≡◌, ◌≢◌, ◌⊎◌, ◌≤◌, None, IfSome, OnOk};
+ghost use Rattle.std.specs.Prelude.{◌≡◌, ◌≢◌, ◌⊎◌, ◌≤◌, None, IfSome};
 ghost use Rattle.std.specs.Str.Lines.{lines};
 ghost use Rattle.console_engine.specs.Lines.{first_fault};
-ghost use Rattle.program_front.specs.ConsoleSettings.{HasSlots};
 ghost use Rattle.clap.specs.Values.{kind_of};
 ghost use Rattle.clap.specs.declared.error.kind.ErrorKind.TheVariants.{DisplayHelp, DisplayVersion};
 
-use crate::console_faults::ProgramFault;
-use crate::console_settings::{Plan, Target, Upgrade};
+use crate::console_faults::ToldByConsole;
 use crate::console_words::options;
-use crate::migration::migrate_onto;
+use crate::running::run_on_device;
+use crate::status::Status;
+use crate::telling::{fail, tell_words, tell_wrong};
 use clap::Error;
-use console_engine::{ScriptFault, run_script};
-use file_device::{FileDevice, Making};
-use ledger_file::open_for_script;
-use program_ends::{Status, fail, tell_words, tell_wrong};
-use script_streams::write_all;
-use sector_device::MemoryDevice;
 use std::alloc::Global;
 use std::fs::{File, Files};
 use std::io::{Read, Write};
@@ -46,86 +40,14 @@ pub fn run_program<F: Files<File = File> + Threads + Wait + Sync, R: Read, W: Wr
         Ok(options) => options,
         Err(error) => return tell_error(alloc, error, writer, errors),
     };
-    let plan = match options.plan() {
-        Ok(plan) => plan,
+    let running = match options.plan() {
+        Ok(running) => running,
         Err(wrong) => return tell_wrong(alloc, wrong, errors).console_code(),
     };
-    match run_plan(rt, alloc, plan, reader, writer) {
+    match run_on_device(rt, alloc, running, reader, writer) {
         Ok(()) => Status::Done.console_code(),
-        Err(fault) => fail(alloc, fault, errors).console_code(),
+        Err(fault) => fail(alloc, ToldByConsole(fault), errors).console_code(),
     }
-}
-
-// Runs the script on what the plan says.
-fn run_plan<'a, F: Files<File = File> + Threads + Wait + Sync, R: Read, W: Write>(
-    rt: &F,
-    alloc: Global,
-    plan: Plan<'a>,
-    reader: &mut R,
-    writer: &mut W,
-) -> Result<(), ProgramFault<'a>>
-    requires { HasSlots plan }
-    ensures sound { OnOk result (IfSome (R.remaining reader.old) (λ bytes.
-        first_fault 1 (lines bytes) ≡ None)) }
-{
-    match plan {
-        Plan::Memory(sectors) => {
-            let device = MemoryDevice::new(alloc, sectors).map_err(ScriptFault::from)?;
-            run_script(rt, alloc, reader, writer, device)?;
-        }
-        Plan::File(target) => {
-            let device = open_device(rt, alloc, target)?;
-            run_script(rt, alloc, reader, writer, device)?;
-        }
-        Plan::Upgraded(upgrade) => {
-            let device = upgraded(rt, alloc, upgrade)?;
-            write_migrated(alloc, upgrade.slots, writer)?;
-            run_script(rt, alloc, reader, writer, device)?;
-        }
-    }
-    Ok(())
-}
-
-// The file that an older one was copied onto. That one is opened first, so that no other is made where it can't be.
-fn upgraded<'a, F: Files<File = File>>(
-    rt: &F,
-    alloc: Global,
-    upgrade: Upgrade<'a>,
-) -> Result<FileDevice, ProgramFault<'a>>
-    requires { 1 ≤ upgrade.slots }
-{
-    let old = FileDevice::open_with_cause(rt, alloc, upgrade.old, 0).map_err(
-        |refusal| ProgramFault::of_device(upgrade.old, refusal),
-    )?;
-    let device = open_device(rt, alloc, upgrade.onto)?;
-    let (device, migrated) = migrate_onto(alloc, old, device, upgrade.slots);
-    migrated?;
-    Ok(device)
-}
-
-// The device, opened as is asked for.
-fn open_device<'a, F: Files<File = File>>(
-    rt: &F,
-    alloc: Global,
-    target: Target<'a>,
-) -> Result<FileDevice, ProgramFault<'a>> {
-    let Target {
-        path,
-        sectors,
-        overwrite,
-    } = target;
-    let opened = if overwrite {
-        FileDevice::overwrite(rt, alloc, path, sectors)
-    } else {
-        open_for_script(rt, alloc, path, sectors, Making::IfMissing)
-    };
-    opened.map_err(|refusal| ProgramFault::of_device(path, refusal))
-}
-
-// Says that a device was migrated, by the rule of the output.
-fn write_migrated<W: Write>(alloc: Global, slots: u64, writer: &mut W) -> Result<(), ScriptFault> {
-    let line = format!(in alloc; "migrated {slots}\n")?;
-    write_all(writer, line.as_bytes()).or(Err(ScriptFault::Write))
 }
 
 /// Writes what `clap` answers to wrong words, or to the wish for help, and gives the status.

@@ -1,7 +1,9 @@
 //! What `turn_console` is asked for.
-ghost use Rattle.std.specs.Prelude.{◌≡◌, ◌≤◌, ◌↔◌, ◌⊎◌, ◌≢◌, Option, None, Some, IsSome, IsTrue, IfOk, Err};
+ghost use Rattle.std.specs.Prelude.{◌≡◌, ◌↔◌, ◌⊎◌, None, Some, false, IsSome, IsTrue, IfOk, IfSome, Err, option_map};
 ghost use Rattle.program_front.specs.ConsoleSettings.{IsPlanOf, NamesOnePath};
 
+use crate::request::{OlderLedger, Running, ScriptFile};
+use std::num::NonZeroU64;
 use thiserror::Error;
 
 /// What the words ask for.
@@ -14,7 +16,7 @@ pub struct Options<'a> {
     /// The path of a file of an older layout, whose ledger is copied onto the device first.
     pub migrate: Option<&'a str>,
     /// How many slots each bank of the device then has: 1 to 1,000,000.
-    pub slots: Option<u64>,
+    pub slots: Option<NonZeroU64>,
     /// Whether the device is a disk that is taken whatever it holds.
     pub overwrite: bool,
 }
@@ -36,45 +38,12 @@ pub enum OptionConflict {
     OverwriteAlone,
 }
 
-/// The file or the disk that is the device, and how it is opened.
-#[derive(Clone, Copy, Debug)]
-pub struct Target<'a> {
-    /// Its path.
-    pub path: &'a str,
-    /// How many sectors it has at least.
-    pub sectors: u64,
-    /// Whether it is a disk that is taken whatever it holds.
-    pub overwrite: bool,
-}
-
-/// A file of an older layout that is copied onto another one, and the slots that each bank of that gets.
-#[derive(Clone, Copy, Debug)]
-pub struct Upgrade<'a> {
-    /// The path of the file of an older layout.
-    pub old: &'a str,
-    /// The device that it is copied onto.
-    pub onto: Target<'a>,
-    /// 1 to 1,000,000.
-    pub slots: u64,
-}
-
-/// On what the script runs.
-#[derive(Clone, Copy, Debug)]
-pub enum Plan<'a> {
-    /// A device in memory, of so many sectors.
-    Memory(u64),
-    /// A file or a disk.
-    File(Target<'a>),
-    /// The device that an older one was copied onto first.
-    Upgraded(Upgrade<'a>),
-}
-
 impl<'a> Options<'a> {
-    /// On what the script runs, if the options go together.
+    /// The script that is to be run, if the options go together. What it posts isn't noted.
     ///
     /// # Errors
     /// [`OptionConflict`], the first that holds.
-    pub fn plan(self) -> Result<Plan<'a>, OptionConflict>
+    pub fn plan(self) -> Result<Running<'a>, OptionConflict>
         ensures plan { IfOk result (IsPlanOf self.entry) }
         ensures migrate_alone { (result ≡ Err OptionConflict.MigrateAlone)
             ↔ (IsSome self.entry.migrate
@@ -87,34 +56,37 @@ impl<'a> Options<'a> {
             ↔ (IsTrue self.entry.overwrite × (self.entry.device ≡ None)
             × (self.entry.migrate ≡ None) × (self.entry.slots ≡ None)) }
     {
-        let upgrade = match (self.migrate, self.device, self.slots) {
+        let (old, path, slots) = match (self.migrate, self.device, self.slots) {
             (None, None, None) if self.overwrite => return Err(OptionConflict::OverwriteAlone),
-            (None, None, None) => return Ok(Plan::Memory(self.sectors)),
-            (None, Some(path), None) => return Ok(Plan::File(self.target(path))),
+            (None, _, None) => return Ok(self.running(None)),
             (None, _, Some(_)) => return Err(OptionConflict::SlotsAlone),
-            (Some(old), Some(path), Some(slots)) => Upgrade {
-                old,
-                onto: self.target(path),
-                slots,
-            },
+            (Some(old), Some(path), Some(slots)) => (old, path, slots),
             (Some(_), _, _) => return Err(OptionConflict::MigrateAlone),
         };
-        if upgrade.old == upgrade.onto.path {
+        if old == path {
             return Err(OptionConflict::OnePath);
         }
-        Ok(Plan::Upgraded(upgrade))
+        Ok(self.running(Some(OlderLedger { path: old, slots })))
     }
 
-    // The device at this path, opened as the options say.
-    fn target(&self, path: &'a str) -> Target<'a>
-        ensures path { result.path ≡ path.entry }
-        ensures sectors { result.sectors ≡ self.now.sectors }
-        ensures overwrite { result.overwrite ≡ self.now.overwrite }
+    // The script on its device, which an older ledger may be copied onto first.
+    fn running(self, older: Option<OlderLedger<'a>>) -> Running<'a>
+        ensures device { option_map (λ file. file.path) result.file ≡ self.entry.device }
+        ensures file { IfSome result.file (λ file. (file.overwrite ≡ self.entry.overwrite)
+            × (file.noted ≡ false) × (file.older ≡ older.entry)) }
+        ensures sectors { result.sectors ≡ Some self.entry.sectors }
     {
-        Target {
+        let sectors = Some(self.sectors);
+        let Some(path) = self.device else {
+            let file = None;
+            return Running { file, sectors };
+        };
+        let file = Some(ScriptFile {
             path,
-            sectors: self.sectors,
             overwrite: self.overwrite,
-        }
+            older,
+            noted: false,
+        });
+        Running { file, sectors }
     }
 }

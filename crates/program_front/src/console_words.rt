@@ -1,12 +1,13 @@
 //! The words of `turn_console`.
 ghost use Rattle.std.specs.Prelude.{◌≡◌, ◌≤◌, None, false, IfOk, IfErr, IfSome, length, map, option_map};
+ghost use Rattle.std.specs.Int.NonZero.{non_zero_u64_get};
 ghost use Rattle.clap.specs.Values.{kind_of};
 ghost use Rattle.clap.specs.Words.{app_of, rule_of};
 ghost use Rattle.clap.specs.declared.error.kind.ErrorKind.TheVariants.{OutOfMemory};
 ghost use Rattle.program_front.specs.ConsoleWords.{AskForSectors, AskForDevice, AskForMigration, AskForOverwrite, AskForSlots, console, sectors_option};
 
 use crate::console_settings::Options;
-use crate::option_table::{SECTORS, SLOTS, flag, option};
+use crate::option_table::{SECTORS, SLOTS, flag, non_zero, option};
 use clap::error::ErrorKind;
 use clap::{Arg, Command, Error};
 use std::alloc::Global;
@@ -58,11 +59,11 @@ pub fn options<'a>(alloc: Global, words: &'a [&'a str]) -> Result<Options<'a>, E
     ensures migrate { let asked = map (λ word. word.now) words.entry.now in
         IfOk result (λ options. AskForMigration asked (option_map (λ path. path.now) options.migrate)) }
     ensures slots { let asked = map (λ word. word.now) words.entry.now in
-        IfOk result (λ options. AskForSlots asked options.slots) }
+        IfOk result (λ options. AskForSlots asked (option_map non_zero_u64_get options.slots)) }
     ensures overwrite { let asked = map (λ word. word.now) words.entry.now in
         IfOk result (λ options. AskForOverwrite asked options.overwrite) }
     ensures slots_within { IfOk result (λ options. IfSome options.slots (λ slots.
-        (1 ≤ slots) × (slots ≤ 1000000))) }
+        (1 ≤ non_zero_u64_get slots) × (non_zero_u64_get slots ≤ 1000000))) }
     // where the name of the program stands alone
     ensures default { IfOk result (λ options. length words.entry.now ≡ 1 → options.sectors ≡ 64) }
     ensures memory { IfOk result (λ options. length words.entry.now ≡ 1 → options.device ≡ None) }
@@ -82,7 +83,7 @@ pub fn options<'a>(alloc: Global, words: &'a [&'a str]) -> Result<Options<'a>, E
         device,
         sectors,
         migrate,
-        slots,
+        slots: non_zero(slots),
         overwrite,
     })
 }

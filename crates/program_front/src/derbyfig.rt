@@ -1,40 +1,33 @@
 //! All of `derbyfig`, over the words and streams that it is handed.
-ghost use Rattle.std.specs.Prelude.{◌≡◌, ◌≢◌, ◌≤◌, ◌⊎◌, None, IsOk, IfErr, IfSome, OnOk};
+ghost use Rattle.std.specs.Prelude.{◌≡◌, ◌≢◌, ◌≤◌, ◌⊎◌, IsOk, IfErr};
 ghost use Rattle.clap.specs.Values.{kind_of};
 ghost use Rattle.clap.specs.declared.error.kind.ErrorKind.TheVariants.{DisplayHelp, DisplayVersion};
-ghost use Rattle.std.specs.Str.Lines.{lines};
-ghost use Rattle.console_engine.specs.Lines.{first_fault};
-ghost use Rattle.program_front.specs.Statuses.{status_of};
+ghost use Rattle.program_front.specs.Statuses.{of_inspection, status_of};
 
 use crate::faults::Fault;
-use crate::request::{Copying, Request, Running};
+use crate::request::{Copying, Origin, Request};
+use crate::running::{run_on_device, say};
+use crate::status::Status;
+use crate::telling::{tell, tell_words, tell_wrong, unwritten};
 use crate::words::read_request;
 use archive_engine::{Archived, Archiving, archive, is_folder, open_newest};
 use clap::Error;
-use console_engine::{ScriptFault, run_script};
-use file_device::{FileDevice, Locking, Making, ReadOnlyFile};
+use file_device::{Locking, ReadOnlyFile};
 use ledger_file::{
-    CopyPlace, CopyRefusal, Formatting, LedgerRefusal, format_ledger, open_for_copy,
-    open_for_migration, open_for_script,
+    CopyPlace, CopyRefusal, Formatting, format_ledger, open_for_copy, open_for_migration,
 };
 use ledger_inspection::{
-    BookInspection, BookTask, Inspection, check_archive, inspect_book, inspect_file,
+    BookInspection, BookTask, Inspection, InspectionFault, Task, check_archive, inspect_book,
+    inspect_file,
 };
-use office_counters::{RosterPath, is_disk, note_script, remove_roster, take_along};
+use office_counters::{RosterPath, is_disk, remove_roster, take_along};
 use office_engine::{Runtime, Serving, Terminal, ask_standing, close_office, serve};
-use program_ends::{OUT_OF_MEMORY, Status, Watched, fail, tell_words, tell_wrong, unwritten};
-use script_streams::write_all;
-use sector_device::MemoryDevice;
+use script_streams::Watched;
 use std::alloc::{Alloc, AllocError, Global};
 use std::fmt;
 use std::fs::{File, Files};
 use std::io::{Read, Write};
-use std::sync::Wait;
-use std::thread::Threads;
 use std::time::Clock;
-
-/// How many sectors a device in memory has, unless that is said.
-const IN_MEMORY: u64 = 64;
 
 /// Runs the program and gives its status, as [`Status::code`] has it. The first of the words is the program's name. A
 /// script, and what the terminal of an office says, come from the terminal's input. Answers go to the writer, what is
@@ -70,15 +63,21 @@ pub fn run_derbyfig<
         Request::Serve(serving) => {
             serve_counters(rt, alloc, &serving, terminal, doing.writer, errors)
         }
-        Request::Inspect(wish) => inspect(rt, alloc, &wish, doing.writer, errors, shows_progress),
-        Request::Book(wish) => inspect_book(rt, alloc, &wish, doing.writer, errors, shows_progress),
+        Request::Inspect(wish) => {
+            let is_check = matches!(wish.task, Task::Check { .. });
+            let looked = inspect(rt, alloc, &wish, doing.writer, errors, shows_progress);
+            ended_looking(alloc, is_check, looked, errors)
+        }
+        Request::Book(wish) => {
+            let is_check = matches!(wish.task, BookTask::Check { .. });
+            let looked = inspect_book(rt, alloc, &wish, doing.writer, errors, shows_progress);
+            ended_looking(alloc, is_check, looked, errors)
+        }
         Request::Close { counter, seconds } => ended(alloc, doing.close(counter, seconds), errors),
         Request::Status { counter } => ended(alloc, doing.tell_standing(counter), errors),
         Request::Format { path, formatting } => ended(alloc, doing.make(path, formatting), errors),
-        Request::Migrate(copying) => ended(alloc, doing.migrate_file(copying), errors),
-        Request::Copy(copying) => ended(alloc, doing.copy_file(copying), errors),
+        Request::Copy(copying) => ended(alloc, doing.copy(copying), errors),
         Request::Archive(archiving) => ended(alloc, doing.add_to_archive(archiving), errors),
-        Request::Restore(copying) => ended(alloc, doing.restore(copying), errors),
     };
     status.code()
 }
@@ -91,51 +90,27 @@ fn ended<E: Write>(alloc: Global, outcome: Result<(), Fault<'_>>, errors: &mut E
     match outcome {
         Ok(()) => Status::Done,
         Err(fault) => {
-            let _ = fail(alloc, fault, errors);
+            tell(alloc, fault, errors);
             fault.status()
         }
     }
 }
 
-/// Runs a script on the device that is asked for. A file has to be there, unless it is said how many sectors it has.
-///
-/// # Errors
-/// [`Fault`].
-pub fn run_on_device<'a, F: Files<File = File> + Threads + Wait + Sync, R: Read, W: Write>(
-    rt: &F,
+// How an inspection ended. A refusal that `check` met is its answer, and is told no more.
+fn ended_looking<E: Write>(
     alloc: Global,
-    running: Running<'a>,
-    reader: &mut R,
-    writer: &mut W,
-) -> Result<(), Fault<'a>>
-    // of a reader whose bytes are known: no line of the script is wrong
-    ensures sound { OnOk result (IfSome (R.remaining reader.old) (λ bytes.
-        first_fault 1 (lines bytes) ≡ None)) }
+    is_check: bool,
+    outcome: Result<(), InspectionFault<'_>>,
+    errors: &mut E,
+) -> Status
+    ensures done { IsOk outcome.entry → result ≡ Status.Done }
+    ensures fault { IfErr outcome.entry (λ fault. result ≡ of_inspection fault) }
 {
-    let Some(path) = running.path else {
-        let sectors = running.sectors.unwrap_or(IN_MEMORY);
-        let device = MemoryDevice::new(alloc, sectors).map_err(ScriptFault::from)?;
-        run_script(rt, alloc, reader, writer, device)?;
-        return Ok(());
-    };
-    let device = device_for_script(rt, alloc, path, running.sectors)?;
-    note_script(rt, alloc, RosterPath::Beside(path))?;
-    run_script(rt, alloc, reader, writer, device)?;
-    Ok(())
-}
-
-// The device of a script.
-fn device_for_script<'a, F: Files<File = File>>(
-    rt: &F,
-    alloc: Global,
-    path: &'a str,
-    sectors: Option<u64>,
-) -> Result<FileDevice, Fault<'a>> {
-    let opened = match sectors {
-        Some(sectors) => open_for_script(rt, alloc, path, sectors, Making::IfMissing),
-        None => open_for_script(rt, alloc, path, 0, Making::Never),
-    };
-    opened.map_err(|refusal| Fault::of_ledger(path, LedgerRefusal::from(refusal)))
+    match outcome {
+        Ok(()) => Status::Done,
+        Err(fault) if is_check && fault.is_refusal() => Status::Refused,
+        Err(fault) => ended(alloc, Err(Fault::Inspection(fault)), errors),
+    }
 }
 
 // Keeps an office open, if its words go together.
@@ -157,17 +132,8 @@ fn serve_counters<
         Ok(plan) => plan,
         Err(wrong) => return tell_wrong(alloc, wrong, errors),
     };
-    match serve(rt, alloc, serving, plan, terminal, writer) {
-        Ok(()) => Status::Done,
-        Err(fault) => ended(alloc, Err(Fault::Office(fault)), errors),
-    }
-}
-
-// The layout of a ledger that is copied.
-#[derive(Clone, Copy)]
-enum Layout {
-    Present,
-    Older,
+    let served = serve(rt, alloc, serving, plan, terminal, writer);
+    ended(alloc, served.map_err(Fault::from), errors)
 }
 
 // What the commands work with that say what was done.
@@ -200,30 +166,6 @@ impl<R: Files<File = File> + Alloc<A = Global> + Clock + Clone + Drop, W: Write>
         self.say(format_args!("formatted {}", formatting.slots))
     }
 
-    // Copies a ledger of an older layout.
-    fn migrate_file<'a>(&mut self, copying: Copying<'a>) -> Result<(), Fault<'a>> {
-        let older = self.opened_first(copying.old)?;
-        self.copy(
-            older,
-            Layout::Older,
-            RosterPath::Beside(copying.old),
-            copying,
-        )?;
-        self.say(format_args!("migrated {}", copying.formatting.slots))
-    }
-
-    // Copies a ledger of the present layout.
-    fn copy_file<'a>(&mut self, copying: Copying<'a>) -> Result<(), Fault<'a>> {
-        let ledger = self.opened_first(copying.old)?;
-        self.copy(
-            ledger,
-            Layout::Present,
-            RosterPath::Beside(copying.old),
-            copying,
-        )?;
-        self.say(format_args!("copied {}", copying.formatting.slots))
-    }
-
     // Adds to an archive what it lacks.
     fn add_to_archive<'a>(&mut self, archiving: Archiving<'a>) -> Result<(), Fault<'a>> {
         let Archived { batches, first } = archive(self.rt, self.alloc, archiving)?;
@@ -237,43 +179,61 @@ impl<R: Files<File = File> + Alloc<A = Global> + Clock + Clone + Drop, W: Write>
         self.say(format_args!("archived {batches} from {first}"))
     }
 
-    // Makes a ledger that goes on where an archive ends, once all of the archive is found sound. Its newest file stays
-    // open meanwhile.
-    fn restore<'a>(&mut self, copying: Copying<'a>) -> Result<(), Fault<'a>> {
-        let newest = open_newest(self.rt, self.alloc, copying.old)?;
-        check_archive(self.rt, self.alloc, copying.old)?;
-        self.copy(
-            newest,
-            Layout::Present,
-            RosterPath::Inside(copying.old),
-            copying,
-        )?;
-        self.say(format_args!("restored {}", copying.formatting.slots))
+    // Copies a ledger, which stays open meanwhile, and says so.
+    fn copy<'a>(&mut self, copying: Copying<'a>) -> Result<(), Fault<'a>> {
+        let (done, counters) = match copying.origin {
+            Origin::Ledger => ("copied", RosterPath::Beside(copying.old)),
+            Origin::Older => ("migrated", RosterPath::Beside(copying.old)),
+            Origin::Archive => ("restored", RosterPath::Inside(copying.old)),
+        };
+        let ledger = self.opened_first(copying)?;
+        self.copy_ledger(ledger, counters, copying)?;
+        self.say(format_args!("{done} {}", copying.formatting.slots))
     }
 
-    // Copies a ledger of that layout, whose counters are kept there.
-    fn copy<'a>(
+    // What is to be copied, which is opened first, so that nothing is made if it isn't there. For an archive, which is
+    // all found sound, that is the newest file.
+    fn opened_first<'a>(&self, copying: Copying<'a>) -> Result<ReadOnlyFile, Fault<'a>> {
+        let path = copying.old;
+        match copying.origin {
+            Origin::Archive => {
+                let newest = open_newest(self.rt, self.alloc, path)?;
+                check_archive(self.rt, self.alloc, path)?;
+                Ok(newest)
+            }
+            Origin::Ledger | Origin::Older => {
+                ReadOnlyFile::open(self.rt, self.alloc, path, Locking::Shared).map_err(
+                    |fault| Fault::of_source(path, fault),
+                )
+            }
+        }
+    }
+
+    // Copies a ledger whose counters are kept there.
+    fn copy_ledger<'a>(
         &self,
         ledger: ReadOnlyFile,
-        layout: Layout,
         counters: RosterPath<'a>,
         copying: Copying<'a>,
     ) -> Result<(), Fault<'a>> {
         let Copying {
             old,
+            origin,
             path,
             formatting,
         } = copying;
-        let (ledger, opened) = match layout {
-            Layout::Present => open_for_copy(self.rt, self.alloc, ledger, path, formatting),
-            Layout::Older => open_for_migration(self.rt, self.alloc, ledger, path, formatting),
+        let (ledger, opened) = match origin {
+            Origin::Older => open_for_migration(self.rt, self.alloc, ledger, path, formatting),
+            Origin::Ledger | Origin::Archive => open_for_copy(
+                self.rt, self.alloc, ledger, path, formatting,
+            ),
         };
         let place = opened.map_err(|refusal| Fault::of_copy(old, path, refusal))?;
         let place = self.counters_first(place, counters, path)?;
         let is_made = place.made.is_some();
-        let (_, made) = match layout {
-            Layout::Present => place.copy(self.rt, self.alloc, ledger),
-            Layout::Older => place.migrate(self.rt, self.alloc, ledger),
+        let (_, made) = match origin {
+            Origin::Older => place.migrate(self.rt, self.alloc, ledger),
+            Origin::Ledger | Origin::Archive => place.copy(self.rt, self.alloc, ledger),
         };
         match made {
             Ok(_) => Ok(()),
@@ -313,37 +273,28 @@ impl<R: Files<File = File> + Alloc<A = Global> + Clock + Clone + Drop, W: Write>
         }
     }
 
-    // A ledger that is to be copied, which is opened first, so that nothing is made if it isn't there.
-    fn opened_first<'a>(&self, path: &'a str) -> Result<ReadOnlyFile, Fault<'a>> {
-        ReadOnlyFile::open(self.rt, self.alloc, path, Locking::Shared).map_err(
-            |fault| Fault::of_source(path, fault),
-        )
-    }
-
     // Says what was done on a line of its own.
     fn say<'a, L: fmt::Display + Drop>(&mut self, line: L) -> Result<(), Fault<'a>> {
-        let text = format!(in self.alloc; "{line}\n").map_err(ScriptFault::from)?;
-        write_all(self.writer, text.as_bytes()).or(Err(Fault::Script(ScriptFault::Write)))
+        say(self.alloc, line, self.writer)?;
+        Ok(())
     }
 }
 
 // Looks at a ledger, or at the archive in a folder.
-fn inspect<R: Files<File = File> + Alloc<A = Global> + Clone + Drop, W: Write, E: Write>(
+fn inspect<'a, R: Files<File = File> + Alloc<A = Global> + Clone + Drop, W: Write, E: Write>(
     rt: &R,
     alloc: Global,
-    wish: &Inspection<'_>,
+    wish: &Inspection<'a>,
     writer: &mut W,
     errors: &mut E,
     shows_progress: bool,
-) -> Status {
-    if !is_folder(rt, wish.path) {
-        return inspect_file(rt, alloc, wish, writer, errors, shows_progress);
+) -> Result<(), InspectionFault<'a>> {
+    if is_folder(rt, wish.path) {
+        if let Some(book) = book_of(alloc, wish)? {
+            return inspect_book(rt, alloc, &book, writer, errors, shows_progress);
+        }
     }
-    match book_of(alloc, wish) {
-        Ok(Some(book)) => inspect_book(rt, alloc, &book, writer, errors, shows_progress),
-        Ok(None) => inspect_file(rt, alloc, wish, writer, errors, shows_progress),
-        Err(_) => fail(alloc, OUT_OF_MEMORY, errors),
-    }
+    inspect_file(rt, alloc, wish, writer, errors, shows_progress)
 }
 
 // The same of the archive in that folder, if it can be done with one.
@@ -374,6 +325,6 @@ pub(crate) fn tell_error<W: Write, E: Write>(
     let mut output = Watched::over(writer);
     match tell_words(alloc, error, &mut output, errors) {
         Ok(status) => status,
-        Err(_) => unwritten(alloc, output.is_closed(), Status::Done, errors),
+        Err(_) => unwritten(alloc, output.is_closed(), errors),
     }
 }

@@ -1,17 +1,27 @@
 //! Why a command of `derbyfig` ends early.
-ghost use Rattle.std.specs.Prelude.{◌≡◌};
-ghost use Rattle.program_ends.specs.Status.{of_ledger, of_opening};
-ghost use Rattle.program_front.specs.Statuses.{status_of, of_copy};
+ghost use Rattle.std.specs.Prelude.{◌≡◌, ◌≢◌};
+ghost use Rattle.program_front.specs.Status.{of_ledger, of_opening};
+ghost use Rattle.program_front.specs.Statuses.{
+  status_of,
+  of_copy,
+  of_office,
+  of_control,
+  of_archive,
+  of_counters,
+  of_inspection,
+};
 
-use archive_engine::ArchiveFault;
+use crate::status::Status;
+use archive_engine::{ArchiveFault, FolderFault};
 use console_engine::ScriptFault;
-use file_device::FileFault;
+use file_device::{DeviceRefusal, FileFault};
 use journal_recovery::{MigrateRefusal, OpenRefusal};
 use ledger_file::{CopyRefusal, FormatRefusal, LedgerRefusal, PartFault};
-use ledger_inspection::BookFault;
+use ledger_inspection::InspectionFault;
+use line_lock::OfficeRefusal;
+use live_office::LiveRefusal;
 use office_counters::CountersFault;
 use office_engine::{ControlFault, OfficeFault};
-use program_ends::Status;
 use thiserror::Error;
 
 /// Why a command of `derbyfig` ended before it was done.
@@ -50,9 +60,9 @@ pub enum Fault<'a> {
     /// The counters of a ledger can't be taken along.
     #[error("{0}")]
     Counters(#[from] CountersFault<'a>),
-    /// An archive isn't a sound book, so no ledger is made of it.
+    /// A ledger, or several as one book, wasn't inspected to its end; or an archive that is to be restored isn't sound.
     #[error("{0}")]
-    Book(#[from] BookFault<'a>),
+    Inspection(#[from] InspectionFault<'a>),
 }
 
 impl<'a> Fault<'a> {
@@ -64,21 +74,25 @@ impl<'a> Fault<'a> {
         ensures { result ≡ status_of self.entry }
     {
         match self {
-            Fault::Script(fault) => fault.status(),
+            Fault::Script(fault) => Status::from(fault),
             Fault::Ledger { refusal, .. } => Status::from(refusal),
-            Fault::Office(fault) => fault.status(),
-            Fault::Control(fault) => fault.status(),
-            Fault::Archive(fault) => fault.status(),
-            Fault::Book(fault) => fault.status(),
+            Fault::Unread { .. } => Status::Failed,
             Fault::NoLedger { refusal, .. } => Status::from(refusal),
-            Fault::Counters(fault) if fault.cause.is_refusal() => Status::Refused,
-            Fault::Counters(_) | Fault::Unread { .. } => Status::Failed,
+            Fault::Office(fault) => of_office(fault),
+            Fault::Control(fault) => of_control(fault),
+            Fault::Archive(fault) => of_archive(fault),
+            Fault::Counters(fault) => of_counters(fault),
+            Fault::Inspection(fault) => of_inspection(fault),
         }
     }
 
     // Of a path where there is no ledger. Out of memory is told as such.
     pub(crate) fn of_ledger(path: &'a str, refusal: LedgerRefusal) -> Fault<'a>
-        ensures { status_of result ≡ of_ledger refusal }
+        ensures status { status_of result ≡ of_ledger refusal }
+        ensures memory { refusal ≡ LedgerRefusal.Device (DeviceRefusal.File FileFault.Memory)
+            → result ≡ Fault.Script ScriptFault.Memory }
+        ensures other { refusal ≢ LedgerRefusal.Device (DeviceRefusal.File FileFault.Memory)
+            → result ≡ Fault.Ledger path.entry refusal }
     {
         if refusal.is_memory() {
             return Fault::MEMORY;
@@ -98,7 +112,9 @@ impl<'a> Fault<'a> {
 
     // Of a ledger, of the present layout or an older one, that wasn't copied from one path to another.
     pub(crate) fn of_copy(old: &'a str, path: &'a str, refusal: CopyRefusal) -> Fault<'a>
-        ensures { status_of result ≡ of_copy refusal }
+        ensures status { status_of result ≡ of_copy refusal }
+        ensures memory { refusal ≡ CopyRefusal.Copy (MigrateRefusal.Source OpenRefusal.Memory)
+            → result ≡ Fault.Script ScriptFault.Memory }
     {
         let refusal = match refusal {
             CopyRefusal::Target(refusal) => return Fault::of_ledger(path, refusal),
@@ -114,7 +130,9 @@ impl<'a> Fault<'a> {
 
     // Of a path where there is no sound ledger of the layout that is copied.
     fn of_opening(path: &'a str, refusal: OpenRefusal) -> Fault<'a>
-        ensures { status_of result ≡ of_opening refusal }
+        ensures status { status_of result ≡ of_opening refusal }
+        ensures memory { refusal ≡ OpenRefusal.Memory
+            → result ≡ Fault.Script ScriptFault.Memory }
     {
         match refusal {
             OpenRefusal::Memory => Fault::MEMORY,
@@ -124,6 +142,76 @@ impl<'a> Fault<'a> {
             },
             refusal => Fault::NoLedger { path, refusal },
         }
+    }
+}
+
+// The status for a fault of an office.
+fn of_office(fault: OfficeFault<'_>) -> Status
+    ensures { result ≡ of_office fault.entry }
+{
+    match fault {
+        OfficeFault::File { refusal, .. } => Status::from(refusal),
+        OfficeFault::NoLedger { refusal, .. } => Status::from(refusal),
+        OfficeFault::Office(LiveRefusal::Office(OfficeRefusal::Opening(refusal))) => {
+            Status::from(refusal)
+        }
+        OfficeFault::Refused(refusal) => Status::from(refusal),
+        OfficeFault::Archive(fault) => of_archive(fault),
+        OfficeFault::Counters(fault) => of_counters(fault),
+        _ => Status::Failed,
+    }
+}
+
+// The same for one of speaking at it from outside.
+fn of_control(fault: ControlFault<'_>) -> Status
+    ensures { result ≡ of_control fault.entry }
+{
+    match fault {
+        ControlFault::NotOpen(_) | ControlFault::Taken(_) => Status::Refused,
+        _ => Status::Failed,
+    }
+}
+
+// For one of an archive.
+fn of_archive(fault: ArchiveFault<'_>) -> Status
+    ensures { result ≡ of_archive fault.entry }
+{
+    match fault {
+        ArchiveFault::NoLedger { refusal, .. } => Status::from(refusal),
+        ArchiveFault::Folder {
+            fault: FolderFault::OfArchive,
+            ..
+        }
+        | ArchiveFault::Empty { .. }
+        | ArchiveFault::Foreign { .. }
+        | ArchiveFault::Missing { .. }
+        | ArchiveFault::Gap { .. }
+        | ArchiveFault::Short { .. }
+        | ArchiveFault::Other { .. }
+        | ArchiveFault::Differs { .. } => Status::Refused,
+        _ => Status::Failed,
+    }
+}
+
+// For one of counters.
+fn of_counters(fault: CountersFault<'_>) -> Status
+    ensures { result ≡ of_counters fault.entry }
+{
+    if fault.cause.is_refusal() {
+        Status::Refused
+    } else {
+        Status::Failed
+    }
+}
+
+// For one of an inspection.
+fn of_inspection(fault: InspectionFault<'_>) -> Status
+    ensures { result ≡ of_inspection fault.entry }
+{
+    if fault.is_refusal() {
+        Status::Refused
+    } else {
+        Status::Failed
     }
 }
 

@@ -16,19 +16,20 @@ mod console_words;
 mod derbyfig;
 mod faults;
 mod host;
-mod migration;
 mod option_table;
 mod request;
+mod running;
+mod status;
+mod telling;
 mod words;
 
 pub use archive_engine::{ArchiveFault, Archived, Archiving};
 pub use commands::VERSION;
 pub use console_engine::{LineFault, ScriptFault};
-pub use console_faults::{MigrationFault, ProgramFault, RefusedDisk};
 pub use console_program::run_program;
-pub use console_settings::{OptionConflict, Options, Plan, Target, Upgrade};
+pub use console_settings::{OptionConflict, Options};
 pub use console_words::options;
-pub use derbyfig::{run_derbyfig, run_on_device};
+pub use derbyfig::run_derbyfig;
 pub use faults::Fault;
 pub use host::{run_console, run_derbyfig_words, words_given};
 pub use ledger_file::{DeviceRefusal, DiskFault, FileFault, Formatting, LedgerRefusal};
@@ -36,6 +37,7 @@ pub use ledger_inspection::{
     BookInspection, BookTask, Date, Format, Inspection, JournalWish, Locking, Selection, Task,
 };
 pub use office_engine::{Serving, Terminal};
-pub use program_ends::Status;
-pub use request::{Copying, Request, Running};
+pub use request::{Copying, OlderLedger, Origin, Request, Running, ScriptFile};
+pub use running::run_on_device;
+pub use status::Status;
 pub use words::read_request;

@@ -1,15 +1,18 @@
 //! Options with a number, each with its name and its limits, and how options of other kinds are made.
-ghost use Rattle.std.specs.Prelude.{◌≡◌, ◌≤◌, ℕ, List, None, Some, false, IfOk, IfSome};
+ghost use Rattle.std.specs.Prelude.{◌≡◌, ◌≤◌, ℕ, List, None, Some, false, IfOk, IfSome, option_map};
+ghost use Rattle.std.specs.Int.NonZero.{non_zero_u64_get};
 ghost use Rattle.std.specs.Str.Parse.{digits_value, without_leading_plus};
 ghost use Rattle.clap.specs.Words.{first_value, found_of, one_text, rule_of};
 ghost use Rattle.program_front.specs.ConsoleWords.{path_option, number_option, flag_option};
 
+use crate::words::WrongWord;
 use clap::builder::ValueParser;
 use clap::{Arg, ArgAction, ArgMatches};
 use four_state::{FEWEST_STATIONS, MOST_STATIONS};
 use gate_journal::{ACCOUNTS, MOST_SLOTS};
 use ledger_file::MOST_SECTORS;
 use std::alloc::Global;
+use std::num::NonZeroU64;
 
 /// An option with a number.
 #[derive(Clone, Copy)]
@@ -87,10 +90,6 @@ pub(crate) const REFERENCE: NumberOption = NumberOption {
     ..FROM
 };
 
-/// That a number is out of its limits.
-#[derive(Clone, Copy, Debug, Drop)]
-pub(crate) struct OutOfRange;
-
 impl NumberOption {
     /// It, for a command.
     pub(crate) fn arg<'a>(self, alloc: Global, help: &'a str) -> Arg<'a>
@@ -103,7 +102,7 @@ impl NumberOption {
     }
 
     /// The number that it is given, or None if it isn't there.
-    pub(crate) fn given(self, matches: &ArgMatches<'_>) -> Result<Option<u64>, OutOfRange>
+    pub(crate) fn given(self, matches: &ArgMatches<'_>) -> Result<Option<u64>, WrongWord>
         ensures none { IfOk result (λ number. number ≡ None
             → first_value (found_of matches.now) self.name.now ≡ None) }
         ensures asked { IfOk result (λ found. IfSome found (λ number. (text : List ℕ)
@@ -117,7 +116,7 @@ impl NumberOption {
         }
         match self.number(matches) {
             Some(number) => Ok(Some(number)),
-            None => Err(OutOfRange),
+            None => Err(WrongWord::OutOfRange),
         }
     }
 
@@ -134,6 +133,16 @@ impl NumberOption {
             _ => None,
         }
     }
+}
+
+/// The same number, as one that isn't zero; none of zero.
+pub(crate) fn non_zero(number: Option<u64>) -> Option<NonZeroU64>
+    ensures same { IfSome number (λ count. 1 ≤ count)
+        → option_map non_zero_u64_get result ≡ number }
+    ensures most { IfSome number (λ count. count ≤ 1000000)
+        → IfSome result (λ slots. non_zero_u64_get slots ≤ 1000000) }
+{
+    NonZeroU64::new(number?)
 }
 
 /// An option with a value.

@@ -3,6 +3,8 @@ use archive_engine::Archiving;
 use ledger_file::Formatting;
 use ledger_inspection::{BookInspection, Inspection};
 use office_engine::Serving;
+use std::fmt;
+use std::num::NonZeroU64;
 
 /// What the words of `derbyfig` ask for.
 #[derive(Debug, Drop)]
@@ -30,14 +32,10 @@ pub enum Request<'a> {
     Status {
         counter: &'a str,
     },
-    /// To copy a ledger of an older layout.
-    Migrate(Copying<'a>),
-    /// To copy a ledger of the present one.
+    /// To copy a ledger.
     Copy(Copying<'a>),
     /// To add to an archive what it lacks of a ledger.
     Archive(Archiving<'a>),
-    /// To make a ledger that goes on where the archive in a folder ends.
-    Restore(Copying<'a>),
 }
 
 /// A ledger that is to be copied.
@@ -45,16 +43,65 @@ pub enum Request<'a> {
 pub struct Copying<'a> {
     /// The path of the ledger, or of the archive's folder, which is only read.
     pub old: &'a str,
+    pub origin: Origin,
     /// The path that the copy gets.
     pub path: &'a str,
     pub formatting: Formatting,
 }
 
+/// What a ledger is copied from.
+#[derive(Clone, Copy, Debug, PartialEq, Eq)]
+pub enum Origin {
+    /// A ledger of the present layout.
+    Ledger,
+    /// One of an older layout.
+    Older,
+    /// The archive in a folder, where the copy goes on.
+    Archive,
+}
+
+impl Origin {
+    /// Its name among the words of the command that copies from it.
+    pub(crate) fn word(self) -> &'static str {
+        match self {
+            Origin::Ledger => "LEDGER",
+            Origin::Older => "OLD",
+            Origin::Archive => "FOLDER",
+        }
+    }
+}
+
+impl fmt::Display for Origin {
+    fn fmt<W: fmt::Write>(&self, f: &mut fmt::Formatter<W>) -> fmt::Result {
+        f.write_str(self.word())
+    }
+}
+
 /// A script that is to be run.
 #[derive(Clone, Copy, Debug)]
 pub struct Running<'a> {
-    /// The path of the file or the disk that is the device; without one it is in memory.
-    pub path: Option<&'a str>,
+    /// The file or the disk that is the device; without one it is in memory.
+    pub file: Option<ScriptFile<'a>>,
     /// How many sectors the device has at least, if that is said: 1 to 4,000,039.
     pub sectors: Option<u64>,
+}
+
+/// A file or a disk that a script runs on.
+#[derive(Clone, Copy, Debug)]
+pub struct ScriptFile<'a> {
+    pub path: &'a str,
+    /// Whether it is a disk that is taken whatever it holds.
+    pub overwrite: bool,
+    /// The ledger that is copied onto it first.
+    pub older: Option<OlderLedger<'a>>,
+    /// Whether it is noted for the next office that a script may have posted.
+    pub noted: bool,
+}
+
+/// A ledger of an older layout.
+#[derive(Clone, Copy, Debug)]
+pub struct OlderLedger<'a> {
+    pub path: &'a str,
+    /// How many slots each bank of its copy gets.
+    pub slots: NonZeroU64,
 }

@@ -1,13 +1,13 @@
 //! The words of `derbyfig`.
-ghost use Rattle.std.specs.Prelude.{◌≤◌, IfOk, IfSome};
+ghost use Rattle.std.specs.Prelude.{◌≤◌, IfOk};
 ghost use Rattle.std.specs.Int.NonZero.{non_zero_u64_get};
 ghost use Rattle.program_front.specs.Requests.{IsWithin};
 
-use crate::commands::derbyfig_command;
+use crate::commands::{Verb, derbyfig_command};
 use crate::option_table::{
-    ACCOUNT, AT, FORMAT, FROM, OutOfRange, REFERENCE, SECONDS, SECTORS, SLOTS, STATIONS,
+    ACCOUNT, AT, FORMAT, FROM, REFERENCE, SECONDS, SECTORS, SLOTS, STATIONS, non_zero,
 };
-use crate::request::{Copying, Request, Running};
+use crate::request::{Copying, Origin, Request, Running, ScriptFile};
 use archive_engine::Archiving;
 use clap::error::ErrorKind;
 use clap::{ArgMatches, Error};
@@ -18,7 +18,6 @@ use ledger_inspection::{
 use office_counters::{is_name, name_of};
 use office_engine::{CounterFolder, Serving, TERMINAL};
 use std::alloc::{AllocError, AllocFailed, Global};
-use std::num::NonZeroU64;
 use thiserror::Error as Sentence;
 
 /// What the words ask for, of which the first is the program's name; or what `clap` answers to wrong words, to the wish
@@ -41,35 +40,24 @@ pub fn read_request<'a>(alloc: Global, words: &'a [&'a str]) -> Result<Request<'
     }
 }
 
-// What is wrong with words that `clap` let through.
+/// What is wrong with words that `clap` let through.
 #[derive(Clone, Copy, Debug, PartialEq, Eq, Drop, Sentence)]
-enum WrongWord {
+pub(crate) enum WrongWord {
     #[error("out of memory")]
     Memory,
-    #[error("there is no such command")]
-    NoCommand,
-    #[error("there is no such format")]
-    NoFormat,
+    // `clap` refuses such words by the table of commands
+    #[error("the words are those of no command")]
+    Undeclared,
     #[error("a date has the form YYYY-MM-DD, and is a day of the calendar")]
     NoDate,
     #[error("a number is out of range")]
     OutOfRange,
-    #[error("NEW is OLD; take another path")]
-    NewIsOld,
-    #[error("NEW is LEDGER; take another path")]
-    NewIsLedger,
-    #[error("NEW is FOLDER; take another path")]
-    NewIsFolder,
+    #[error("NEW is {0}; take another path")]
+    NewIs(Origin),
     #[error("a counter's name has 1 to 64 letters, digits, - and _: give it one by NAME=PATH")]
     NoName,
     #[error("two counters have the same name: give one another by NAME=PATH")]
     SameName,
-}
-
-impl From<OutOfRange> for WrongWord {
-    fn from(_: OutOfRange) -> WrongWord {
-        WrongWord::OutOfRange
-    }
 }
 
 impl<T: Drop> From<AllocFailed<T>> for WrongWord {
@@ -81,35 +69,45 @@ impl<T: Drop> From<AllocFailed<T>> for WrongWord {
 fn requested<'a>(alloc: Global, matches: &ArgMatches<'a>) -> Result<Request<'a>, WrongWord>
     ensures within { IfOk result IsWithin }
 {
-    let (name, options) = matches.subcommand().ok_or(WrongWord::NoCommand)?;
-    match name {
-        "run" => running(options),
-        "serve" => serving(alloc, options),
-        "close" => closing(options),
-        "status" => Ok(Request::Status {
+    let (name, options) = matches.subcommand().ok_or(WrongWord::Undeclared)?;
+    match Verb::named(name).ok_or(WrongWord::Undeclared)? {
+        Verb::Run => running(options),
+        Verb::Serve => serving(alloc, options),
+        Verb::Close => closing(options),
+        Verb::Status => Ok(Request::Status {
             counter: path(options, "COUNTER")?,
         }),
-        "format" => making(options),
-        "migrate" => Ok(Request::Migrate(copying(options, "OLD", WrongWord::NewIsOld)?)),
-        "copy" => Ok(Request::Copy(copying(options, "LEDGER", WrongWord::NewIsLedger)?)),
-        "archive" => archiving(options),
-        "restore" => Ok(Request::Restore(copying(options, "FOLDER", WrongWord::NewIsFolder)?)),
-        _ => inspection(alloc, name, options),
+        Verb::Check => {
+            let quiet = options.get_flag("quiet");
+            looking(alloc, options, BookTask::Check { quiet })
+        }
+        Verb::Journal => looking(alloc, options, printing(options)?),
+        Verb::Balances => looking(alloc, options, balancing(options)?),
+        Verb::Map => mapping(options),
+        Verb::Format => making(options),
+        Verb::Copy => copying(options, Origin::Ledger),
+        Verb::Archive => archiving(options),
+        Verb::Restore => copying(options, Origin::Archive),
+        Verb::Migrate => copying(options, Origin::Older),
     }
 }
 
 // A path that has to be there.
 fn path<'a>(options: &ArgMatches<'a>, name: &str) -> Result<&'a str, WrongWord> {
-    options.get_str(name).ok_or(WrongWord::NoCommand)
+    options.get_str(name).ok_or(WrongWord::Undeclared)
 }
 
 fn running<'a>(options: &ArgMatches<'a>) -> Result<Request<'a>, WrongWord>
     ensures within { IfOk result IsWithin }
 {
-    Ok(Request::Run(Running {
-        path: options.get_str("FILE"),
-        sectors: SECTORS.given(options)?,
-    }))
+    let file = options.get_str("FILE").map(|path| ScriptFile {
+        path,
+        overwrite: false,
+        older: None,
+        noted: true,
+    });
+    let sectors = SECTORS.given(options)?;
+    Ok(Request::Run(Running { file, sectors }))
 }
 
 fn serving<'a>(alloc: Global, options: &ArgMatches<'a>) -> Result<Request<'a>, WrongWord>
@@ -118,7 +116,7 @@ fn serving<'a>(alloc: Global, options: &ArgMatches<'a>) -> Result<Request<'a>, W
     let path = path(options, "FILE")?;
     let sectors = SECTORS.given(options)?;
     let stations = STATIONS.given(options)?;
-    let format = slots(FORMAT.given(options)?);
+    let format = non_zero(FORMAT.given(options)?);
     let terminal = options.get_flag("terminal");
     Ok(Request::Serve(Serving {
         path,
@@ -158,23 +156,16 @@ fn add_counter<'a>(
     word: &'a str,
     has_terminal: bool,
 ) -> Result<(), WrongWord> {
-    let counter = counter(word)?;
-    let is_terminal = has_terminal && counter.name == TERMINAL;
-    if is_terminal || counters.iter().any(|other| other.name == counter.name) {
+    let (name, folder) = name_of(word);
+    if !is_name(name) {
+        return Err(WrongWord::NoName);
+    }
+    let is_terminal = has_terminal && name == TERMINAL;
+    if is_terminal || counters.iter().any(|other| other.name == name) {
         return Err(WrongWord::SameName);
     }
-    counters.push(counter)?;
+    counters.push(CounterFolder { name, folder })?;
     Ok(())
-}
-
-// The counter of a word.
-fn counter(word: &str) -> Result<CounterFolder<'_>, WrongWord> {
-    let (name, folder) = name_of(word);
-    if is_name(name) {
-        Ok(CounterFolder { name, folder })
-    } else {
-        Err(WrongWord::NoName)
-    }
 }
 
 // How long an office may take to close, unless that is said.
@@ -197,41 +188,30 @@ fn making<'a>(options: &ArgMatches<'a>) -> Result<Request<'a>, WrongWord>
     })
 }
 
-// The slots that are asked for, of which there is one at least.
-fn slots(number: Option<u64>) -> Option<NonZeroU64>
-    ensures most { IfSome number (λ count. count ≤ 1000000)
-        → IfSome result (λ slots. non_zero_u64_get slots ≤ 1000000) }
-{
-    NonZeroU64::new(number?)
-}
-
 fn formatting(options: &ArgMatches<'_>) -> Result<Formatting, WrongWord>
     ensures slots { IfOk result (λ formatting. non_zero_u64_get formatting.slots ≤ 1000000) }
 {
     Ok(Formatting {
-        slots: slots(SLOTS.given(options)?).ok_or(WrongWord::OutOfRange)?,
+        slots: non_zero(SLOTS.given(options)?).ok_or(WrongWord::OutOfRange)?,
         sectors: 0,
         overwrite: options.get_flag("overwrite"),
     })
 }
 
-// The ledger that has this name among the words, to be copied, unless it would be copied onto itself.
-fn copying<'a>(
-    options: &ArgMatches<'a>,
-    ledger: &str,
-    onto_itself: WrongWord,
-) -> Result<Copying<'a>, WrongWord>
-    ensures slots { IfOk result (λ copying. non_zero_u64_get copying.formatting.slots ≤ 1000000) }
+// What is to be copied, but not onto itself.
+fn copying<'a>(options: &ArgMatches<'a>, origin: Origin) -> Result<Request<'a>, WrongWord>
+    ensures within { IfOk result IsWithin }
 {
-    let (old, path) = (path(options, ledger)?, path(options, "NEW")?);
+    let (old, path) = (path(options, origin.word())?, path(options, "NEW")?);
     if old == path {
-        return Err(onto_itself);
+        return Err(WrongWord::NewIs(origin));
     }
-    Ok(Copying {
+    Ok(Request::Copy(Copying {
         old,
+        origin,
         path,
         formatting: formatting(options)?,
-    })
+    }))
 }
 
 fn archiving<'a>(options: &ArgMatches<'a>) -> Result<Request<'a>, WrongWord>
@@ -243,49 +223,54 @@ fn archiving<'a>(options: &ArgMatches<'a>) -> Result<Request<'a>, WrongWord>
     }))
 }
 
-fn inspection<'a>(
+fn looking<'a>(
     alloc: Global,
-    name: &str,
     options: &ArgMatches<'a>,
+    task: BookTask,
 ) -> Result<Request<'a>, WrongWord>
     ensures within { IfOk result IsWithin }
 {
-    let task = task(name, options)?;
-    let locking = if options.get_flag("unlocked") {
-        Locking::Unlocked
-    } else {
-        Locking::Shared
-    };
-    let paths = texts(alloc, options, "FILE")?;
-    let before = at(name, options)?;
-    if let (Some(path), None) = (sole(paths.as_slice()), before) {
+    let locking = locking(options);
+    let paths = files(alloc, options)?;
+    if let (Some(path), None) = (sole(paths.as_slice()), before(&task)) {
         return Ok(Request::Inspect(Inspection {
             path,
             locking,
-            task,
+            task: alone(&task),
         }));
     }
-    match BookTask::of(task) {
-        Some(task) => Ok(Request::Book(BookInspection {
-            paths,
-            locking,
-            task: task.before(before),
-        })),
-        None => Err(WrongWord::NoCommand),
+    Ok(Request::Book(BookInspection {
+        paths,
+        locking,
+        task,
+    }))
+}
+
+fn mapping<'a>(options: &ArgMatches<'a>) -> Result<Request<'a>, WrongWord>
+    ensures within { IfOk result IsWithin }
+{
+    Ok(Request::Inspect(Inspection {
+        path: path(options, "FILE")?,
+        locking: locking(options),
+        task: Task::Map,
+    }))
+}
+
+fn locking(options: &ArgMatches<'_>) -> Locking {
+    if options.get_flag("unlocked") {
+        Locking::Unlocked
+    } else {
+        Locking::Shared
     }
 }
 
-// All that have this name among the words.
-fn texts<'a>(
-    alloc: Global,
-    options: &ArgMatches<'a>,
-    name: &str,
-) -> Result<Vec<&'a str>, WrongWord> {
-    let mut texts = Vec::new(alloc);
-    if let Some(given) = options.get_strs(name) {
-        texts.extend_from_slice(given).or(Err(WrongWord::Memory))?;
+// The files among the words.
+fn files<'a>(alloc: Global, options: &ArgMatches<'a>) -> Result<Vec<&'a str>, WrongWord> {
+    let mut files = Vec::new(alloc);
+    if let Some(given) = options.get_strs("FILE") {
+        files.extend_from_slice(given).or(Err(WrongWord::Memory))?;
     }
-    Ok(texts)
+    Ok(files)
 }
 
 // The path, if it is one.
@@ -296,31 +281,37 @@ fn sole<'a>(paths: &[&'a str]) -> Option<&'a str> {
     }
 }
 
-// Before which record balances are asked for.
-fn at(name: &str, options: &ArgMatches<'_>) -> Result<Option<u64>, WrongWord> {
-    if name != "balances" {
-        return Ok(None);
+// Before which record balances are asked for, which is asked of a book.
+fn before(task: &BookTask) -> Option<u64> {
+    match *task {
+        BookTask::Balances { at, .. } => at,
+        BookTask::Check { .. } | BookTask::Journal(_) => None,
     }
-    Ok(AT.given(options)?)
 }
 
-fn task(name: &str, options: &ArgMatches<'_>) -> Result<Task, WrongWord> {
-    match name {
-        "check" => Ok(Task::Check {
-            quiet: options.get_flag("quiet"),
-        }),
-        "journal" => Ok(Task::Journal(JournalWish {
-            selection: selection(options)?,
-            format: format(options)?,
-            date: date(options)?,
-        })),
-        "balances" => Ok(Task::Balances {
-            format: format(options)?,
-            date: date(options)?,
-        }),
-        "map" => Ok(Task::Map),
-        _ => Err(WrongWord::NoCommand),
+// The same task for one ledger alone.
+fn alone(task: &BookTask) -> Task {
+    match *task {
+        BookTask::Check { quiet } => Task::Check { quiet },
+        BookTask::Journal(wish) => Task::Journal(wish),
+        BookTask::Balances { format, date, .. } => Task::Balances { format, date },
     }
+}
+
+fn printing(options: &ArgMatches<'_>) -> Result<BookTask, WrongWord> {
+    Ok(BookTask::Journal(JournalWish {
+        selection: selection(options)?,
+        format: format(options)?,
+        date: date(options)?,
+    }))
+}
+
+fn balancing(options: &ArgMatches<'_>) -> Result<BookTask, WrongWord> {
+    Ok(BookTask::Balances {
+        format: format(options)?,
+        date: date(options)?,
+        at: AT.given(options)?,
+    })
 }
 
 fn selection(options: &ArgMatches<'_>) -> Result<Selection, WrongWord> {
@@ -342,8 +333,8 @@ fn account(options: &ArgMatches<'_>) -> Result<Option<u32>, WrongWord> {
 }
 
 fn format(options: &ArgMatches<'_>) -> Result<Format, WrongWord> {
-    let name = options.get_str("as").ok_or(WrongWord::NoFormat)?;
-    Format::named(name).ok_or(WrongWord::NoFormat)
+    let name = options.get_str("as").ok_or(WrongWord::Undeclared)?;
+    Format::named(name).ok_or(WrongWord::Undeclared)
 }
 
 fn date(options: &ArgMatches<'_>) -> Result<Date, WrongWord> {

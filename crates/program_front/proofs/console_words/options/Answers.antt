@@ -1,5 +1,6 @@
-use Rattle.std.proofs.Common.{◌≡◌, ◌∙◌, List, ℕ, Option, Some, None, refl, sym, ap, map, codes}
+use Rattle.std.proofs.Common.{◌≡◌, ◌∙◌, ◌≤◌, List, ℕ, Option, Some, None, refl, sym, ap, map, codes}
 use Rattle.std.specs.Prelude.{IfSome, option_map}
+use Rattle.std.specs.Int.NonZero.{non_zero_u64_get}
 use Rattle.std.specs.Str.Parse.{digits_value, without_leading_plus}
 use Rattle.std.proofs.lemmas.List.{length-map}
 use Rattle.clap.specs.Words.{App, Text, found_of, first_value, is_simple, matches_of, first_of, one_of, one_text, rows_of}
@@ -7,6 +8,11 @@ use Rattle.clap.proofs.WalkLemmas.{one_text-rows, first_value-rows}
 use Rattle.program_front.specs.ConsoleWords.{AskForSlots, console}
 use Rattle.program_front.proofs.ConsoleWordsLemmas.{console_is_simple, default_sectors, default_device}
 use Rattle.program_front.proofs.console_words.options.Goals as goal
+
+-- a number within the limits of slots isn't zero
+at_least : (number : Option ℕ) → IfSome number (λ slots. (1 ≤ slots) × (slots ≤ 1000000)) → IfSome number (λ slots. 1 ≤ slots)
+at_least None within = within
+at_least (Some slots) within = within.0
 
 -- the slots, by what was found of them
 slots_are : (words : List Text) (slots : Option ℕ) (value text : Option Text) → value ≡ first_of (codes "slots") (matches_of console words) → text ≡ one_of (codes "slots") (matches_of console words)
@@ -55,8 +61,9 @@ returns-clause-slots c =
     let rows_are : rows_of (found_of c.in_ok-matches.matches) ≡ matches_of console words =
     (c.in_ok-matches.ensures.ok.2 (ap is_simple c.in_ok-command.ensures.words ∙ console_is_simple)).0 ∙ ap (λ (a : App). matches_of a words) c.in_ok-command.ensures.words in
     let found = found_of c.in_ok-matches.matches in
-    slots_are words c.in-Ok.slots (first_value found (codes "slots")) (one_text found (codes "slots")) (first_value-rows found (codes "slots") ∙ ap (first_of (codes "slots")) rows_are)
-    (one_text-rows found (codes "slots") ∙ ap (one_of (codes "slots")) rows_are) c.in-Ok.ensures.none c.in-Ok.ensures.asked
+    let same : option_map non_zero_u64_get c.non_zero.result ≡ c.in-Ok.slots = c.non_zero.ensures.same (at_least c.in-Ok.slots c.in-Ok.ensures.within) in
+    rw same (slots_are words c.in-Ok.slots (first_value found (codes "slots")) (one_text found (codes "slots")) (first_value-rows found (codes "slots") ∙ ap (first_of (codes "slots")) rows_are)
+    (one_text-rows found (codes "slots") ∙ ap (one_of (codes "slots")) rows_are) c.in-Ok.ensures.none c.in-Ok.ensures.asked)
 
 pub returns-clause-default : goal.returns-clause-default
 returns-clause-default c = λ one.

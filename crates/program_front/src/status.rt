@@ -1,10 +1,11 @@
 //! The statuses that programs end with.
 ghost use Rattle.std.specs.Prelude.{◌≡◌, ◌≤◌};
-ghost use Rattle.program_ends.specs.Status.{code_of, console_code_of};
+ghost use Rattle.program_front.specs.Status.{code_of, console_code_of};
 
+use console_engine::ScriptFault;
 use file_device::{DeviceRefusal, DiskFault};
 use gate_journal::FormatRefusal;
-use journal_recovery::{MigrateRefusal, OpenRefusal};
+use journal_recovery::OpenRefusal;
 use ledger_file::LedgerRefusal;
 use turn_clerk::TurnRefusal;
 
@@ -51,7 +52,7 @@ impl Status {
 /// Where memory or the device fails, nothing is known; every other refusal says that there is no ledger.
 impl From<OpenRefusal> for Status {
     ghost use Rattle.std.specs.Prelude.{◌≡◌};
-    ghost use Rattle.program_ends.specs.Status.{of_opening};
+    ghost use Rattle.program_front.specs.Status.{of_opening};
 
     ghost from_gives = { λ refusal status. status ≡ of_opening refusal };
 
@@ -69,7 +70,7 @@ impl From<OpenRefusal> for Status {
 /// A device that fails is no matter of rules.
 impl From<FormatRefusal> for Status {
     ghost use Rattle.std.specs.Prelude.{◌≡◌};
-    ghost use Rattle.program_ends.specs.Status.{of_format};
+    ghost use Rattle.program_front.specs.Status.{of_format};
 
     ghost from_gives = { λ refusal status. status ≡ of_format refusal };
 
@@ -81,26 +82,10 @@ impl From<FormatRefusal> for Status {
     }
 }
 
-/// The older ledger's refusal is that of its opening.
-impl From<MigrateRefusal> for Status {
-    ghost use Rattle.std.specs.Prelude.{◌≡◌};
-    ghost use Rattle.program_ends.specs.Status.{of_migration};
-
-    ghost from_gives = { λ refusal status. status ≡ of_migration refusal };
-
-    fn from(refusal: MigrateRefusal) -> Status {
-        match refusal {
-            MigrateRefusal::Source(refusal) => Status::from(refusal),
-            MigrateRefusal::TooManySlots | MigrateRefusal::TooSmall => Status::Refused,
-            MigrateRefusal::Target => Status::Failed,
-        }
-    }
-}
-
 /// An exhausted journal is one that a rule refuses a turn.
 impl From<TurnRefusal> for Status {
     ghost use Rattle.std.specs.Prelude.{◌≡◌};
-    ghost use Rattle.program_ends.specs.Status.{of_turn};
+    ghost use Rattle.program_front.specs.Status.{of_turn};
 
     ghost from_gives = { λ refusal status. status ≡ of_turn refusal };
 
@@ -118,7 +103,7 @@ impl From<TurnRefusal> for Status {
 /// A disk that can't be had fails, one that isn't taken is refused.
 impl From<DiskFault> for Status {
     ghost use Rattle.std.specs.Prelude.{◌≡◌};
-    ghost use Rattle.program_ends.specs.Status.{of_disk};
+    ghost use Rattle.program_front.specs.Status.{of_disk};
 
     ghost from_gives = { λ refusal status. status ≡ of_disk refusal };
 
@@ -133,7 +118,7 @@ impl From<DiskFault> for Status {
 /// A file that can't be had fails.
 impl From<DeviceRefusal> for Status {
     ghost use Rattle.std.specs.Prelude.{◌≡◌};
-    ghost use Rattle.program_ends.specs.Status.{of_device};
+    ghost use Rattle.program_front.specs.Status.{of_device};
 
     ghost from_gives = { λ refusal status. status ≡ of_device refusal };
 
@@ -148,7 +133,7 @@ impl From<DeviceRefusal> for Status {
 /// A path where nothing is fails, and what is there and isn't taken is refused.
 impl From<LedgerRefusal> for Status {
     ghost use Rattle.std.specs.Prelude.{◌≡◌};
-    ghost use Rattle.program_ends.specs.Status.{of_ledger};
+    ghost use Rattle.program_front.specs.Status.{of_ledger};
 
     ghost from_gives = { λ refusal status. status ≡ of_ledger refusal };
 
@@ -161,6 +146,21 @@ impl From<LedgerRefusal> for Status {
             | LedgerRefusal::Part(_)
             | LedgerRefusal::Held(_)
             | LedgerRefusal::TooSmall { .. } => Status::Refused,
+        }
+    }
+}
+
+/// A line that is none of the grammar, and a script over its limit, are refused.
+impl From<ScriptFault> for Status {
+    ghost use Rattle.std.specs.Prelude.{◌≡◌};
+    ghost use Rattle.program_front.specs.Status.{of_script};
+
+    ghost from_gives = { λ fault status. status ≡ of_script fault };
+
+    fn from(fault: ScriptFault) -> Status {
+        match fault {
+            ScriptFault::Line { .. } | ScriptFault::TooLong => Status::Refused,
+            ScriptFault::Read | ScriptFault::Write | ScriptFault::Memory => Status::Failed,
         }
     }
 }

@@ -1,5 +1,5 @@
 //! What a program tells on standard error.
-ghost use Rattle.std.specs.Prelude.{◌≡◌, ◌≢◌, ◌⊎◌, Ok, IfOk, IsOk};
+ghost use Rattle.std.specs.Prelude.{◌≡◌, ◌≢◌, ◌⊎◌, true, false, Ok, IfOk, IsOk};
 ghost use Rattle.clap.specs.Values.{kind_of};
 ghost use Rattle.clap.specs.declared.error.kind.ErrorKind.TheVariants.{DisplayHelp, DisplayVersion, OutOfMemory};
 
@@ -12,10 +12,10 @@ use std::fmt;
 use std::io::Write;
 
 /// What is told if there is no memory.
-pub const OUT_OF_MEMORY: &str = "out of memory";
+pub(crate) const OUT_OF_MEMORY: &str = "out of memory";
 
 /// Tells something on a line of its own. A fault of `errors` is ignored.
-pub fn tell<L: fmt::Display + Drop, E: Write>(alloc: Global, line: L, errors: &mut E) {
+pub(crate) fn tell<L: fmt::Display + Drop, E: Write>(alloc: Global, line: L, errors: &mut E) {
     let _ = match format!(in alloc; "{line}\n") {
         Ok(text) => write_all(errors, text.as_bytes()),
         Err(_) => write_all(errors, b"out of memory\n"),
@@ -23,7 +23,11 @@ pub fn tell<L: fmt::Display + Drop, E: Write>(alloc: Global, line: L, errors: &m
 }
 
 /// Tells a failure.
-pub fn fail<L: fmt::Display + Drop, E: Write>(alloc: Global, line: L, errors: &mut E) -> Status
+pub(crate) fn fail<L: fmt::Display + Drop, E: Write>(
+    alloc: Global,
+    line: L,
+    errors: &mut E,
+) -> Status
     ensures { result ≡ Status.Failed }
 {
     tell(alloc, line, errors);
@@ -31,7 +35,7 @@ pub fn fail<L: fmt::Display + Drop, E: Write>(alloc: Global, line: L, errors: &m
 }
 
 /// Tells that the words of the command line don't go together. Without memory for that it failed.
-pub fn tell_wrong<L: fmt::Display + Drop, E: Write>(
+pub(crate) fn tell_wrong<L: fmt::Display + Drop, E: Write>(
     alloc: Global,
     line: L,
     errors: &mut E,
@@ -49,7 +53,7 @@ pub fn tell_wrong<L: fmt::Display + Drop, E: Write>(
 ///
 /// # Errors
 /// The output that was asked for can't be written.
-pub fn tell_words<W: Write, E: Write>(
+pub(crate) fn tell_words<W: Write, E: Write>(
     alloc: Global,
     error: Error,
     writer: &mut W,
@@ -73,4 +77,17 @@ pub fn tell_words<W: Write, E: Write>(
     }
     write_all(writer, text.as_bytes())?;
     Ok(Status::Done)
+}
+
+/// How a program ends that couldn't write its output to the end: well if the output's reader went away, since it has
+/// what it wanted; else it tells that, and failed.
+pub(crate) fn unwritten<E: Write>(alloc: Global, is_closed: bool, errors: &mut E) -> Status
+    ensures closed { is_closed ≡ true → result ≡ Status.Done }
+    ensures failed { is_closed ≡ false → result ≡ Status.Failed }
+{
+    if is_closed {
+        Status::Done
+    } else {
+        fail(alloc, WriteFault, errors)
+    }
 }

@@ -14,8 +14,10 @@ use Rattle.file_device.specs.declared.refusal.DiskFault.{DiskFault}
 use Rattle.file_device.specs.declared.refusal.DiskFault.TheVariants as disk
 use Rattle.ledger_file.specs.declared.refusal.LedgerRefusal.{LedgerRefusal}
 use Rattle.ledger_file.specs.declared.refusal.LedgerRefusal.TheVariants as ledger
-use Rattle.program_ends.specs.declared.status.Status.{Status}
-use Rattle.program_ends.specs.declared.status.Status.TheVariants.{Done, Refused, WrongWords, Failed}
+use Rattle.console_engine.specs.declared.faults.ScriptFault.{ScriptFault}
+use Rattle.console_engine.specs.declared.faults.ScriptFault.TheVariants as script
+use Rattle.program_front.specs.declared.status.Status.{Status}
+use Rattle.program_front.specs.declared.status.Status.TheVariants.{Done, Refused, WrongWords, Failed}
 
 -- the status as a number, of `derbyfig`
 abbrev pub code_of : Status → ℕ
@@ -41,6 +43,7 @@ abbrev pub of_format : FormatRefusal → Status
 of_format format.Device = Failed
 of_format _ = Refused
 
+-- the older ledger's refusal is that of its opening
 abbrev pub of_migration : MigrateRefusal → Status
 of_migration (migration.Source refusal) = of_opening refusal
 of_migration migration.Target = Failed
@@ -68,3 +71,9 @@ of_ledger (ledger.Device refusal) = of_device refusal
 of_ledger (ledger.Format refusal) = of_format refusal
 of_ledger ledger.Missing = Failed
 of_ledger _ = Refused
+
+-- a line that is none of the grammar, and a script over its limit, are refused by a rule
+abbrev pub of_script : ScriptFault → Status
+of_script (script.Line line cause) = Refused
+of_script script.TooLong = Refused
+of_script _ = Failed

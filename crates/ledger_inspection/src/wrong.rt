@@ -1,31 +1,14 @@
-//! What is told of a ledger that isn't sound.
+//! What is wrong with a ledger that isn't sound.
 use device_drawing::Place;
 use ledger_reading::OpenRefusal;
 use std::fmt;
 
-/// What is wrong with the ledger in a file, and where.
-#[derive(Clone, Copy, Debug)]
-pub struct Damage<'a> {
-    /// The path of the file.
-    pub path: &'a str,
-    /// Why there is no ledger.
-    pub refusal: OpenRefusal,
-    /// Where the first byte is that is wrong, if it is known.
-    pub place: Option<Place>,
-}
-
-/// The path, the cause, and the place.
-impl fmt::Display for Damage<'_> {
-    fn fmt<W: fmt::Write>(&self, f: &mut fmt::Formatter<W>) -> fmt::Result {
-        let (refusal, place) = (self.refusal, self.place);
-        write!(f, "{}: {}", self.path, Wrong { refusal, place })
-    }
-}
-
 /// What is wrong, and where.
 #[derive(Clone, Copy, Debug, PartialEq, Eq)]
 pub struct Wrong {
+    /// Why there is no ledger.
     pub refusal: OpenRefusal,
+    /// Where the first byte is that is wrong, if it is known.
     pub place: Option<Place>,
 }
 

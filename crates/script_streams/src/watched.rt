@@ -1,10 +1,4 @@
 //! An output of which it is known whether its reader went away.
-ghost use Rattle.std.specs.Prelude.{◌≡◌, true, false};
-
-use crate::status::Status;
-use crate::telling::fail;
-use script_streams::WriteFault;
-use std::alloc::Global;
 use std::io;
 use std::io::{ErrorKind, Write};
 
@@ -50,18 +44,5 @@ impl<W: Write> Write for Watched<'_, W> {
         let answer = self.writer.flush();
         self.note(&answer);
         answer
-    }
-}
-
-/// How a program ends that couldn't write its output to the end: as `done` where the output's reader went away, since
-/// it has what it wanted; else it tells that, and failed.
-pub fn unwritten<E: Write>(alloc: Global, is_closed: bool, done: Status, errors: &mut E) -> Status
-    ensures closed { is_closed ≡ true → result ≡ done }
-    ensures failed { is_closed ≡ false → result ≡ Status.Failed }
-{
-    if is_closed {
-        done
-    } else {
-        fail(alloc, WriteFault, errors)
     }
 }
