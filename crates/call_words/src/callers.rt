@@ -1,6 +1,7 @@
 //! An office whose seats have threads of their own.
 ghost use Rattle.sector_device.specs.MemoryDevice.{memory_device_state};
 ghost use Rattle.sector_device.specs.Wrapped.{with_failures};
+ghost use Rattle.journal_recovery.specs.State.{State};
 ghost use Rattle.line_lock.specs.OpenedOn.{Names};
 
 use crate::bench::Bench;
@@ -63,7 +64,8 @@ fn call_in<L: Count + OpenedOn + Send + Sync, R: Threads + Wait + Sync>(
     work: Work,
     told: &mut Told,
 ) -> Scene
-    requires { Names L.name L.parts L.device L.line blank (with_failures (memory_device_state device.inner) device.failures) line }
+    requires named { Names L.name L.parts L.device L.line blank (with_failures (memory_device_state device.inner) device.failures) line }
+    requires begins { (found : State) → L.begins found }
 {
     let (office, seats) = match Office::<Bench, L>::open(hand.alloc, device, line, blank) {
         Ok(opened) => opened,

@@ -1,6 +1,7 @@
 //! The words of a clerk.
 use crate::bench::Bench;
 use crate::console::{Hand, Scene};
+use crate::copies::tell_batches;
 use crate::devices::set_fault;
 use crate::entries::read_entries;
 use crate::lines::read_line;
@@ -23,8 +24,54 @@ pub fn open_clerk(device: Bench, hand: &mut Hand, said: &mut Said<'_>, told: &mu
     }
 }
 
-/// A word of a clerk.
-pub fn ask(
+/// A word of a clerk, which goes on behind it.
+pub fn run(
+    clerk: Clerk<Bench>,
+    hand: &mut Hand,
+    name: &str,
+    said: &mut Said<'_>,
+    told: &mut Told,
+) -> Clerk<Bench> {
+    match name {
+        "anew" => return begin_anew(clerk, said, told),
+        "catch_up" => return lend(clerk, hand, told),
+        _ => {}
+    }
+    let mut clerk = clerk;
+    ask(&mut clerk, hand, name, said, told);
+    clerk
+}
+
+// `anew N X UP`: begins anew on that line.
+fn begin_anew(clerk: Clerk<Bench>, said: &mut Said<'_>, told: &mut Told) -> Clerk<Bench> {
+    let Some(line) = read_line(said, told) else {
+        return clerk;
+    };
+    match clerk.begin_anew(line) {
+        Ok(clerk) => {
+            told.ledger(clerk.next(), clerk.ledger());
+            clerk
+        }
+        Err(clerk) => {
+            told.line("not begun: it is faulted");
+            clerk
+        }
+    }
+}
+
+// `catch_up`: lends the device to the archive, which adds what it lacks, and tells its batches.
+fn lend(clerk: Clerk<Bench>, hand: &mut Hand, told: &mut Told) -> Clerk<Bench> {
+    let Some(archive) = &mut hand.archive else {
+        told.line("not asked: no archive");
+        return clerk;
+    };
+    let clerk = clerk.lend(archive);
+    tell_batches(archive, told);
+    clerk
+}
+
+// A word of a clerk that stays in hand.
+fn ask(
     clerk: &mut Clerk<Bench>,
     hand: &mut Hand,
     name: &str,
@@ -49,6 +96,7 @@ fn tell(clerk: &Clerk<Bench>, name: &str, said: &mut Said<'_>, told: &mut Told) 
     match name {
         "ledger" => told.ledger(clerk.next(), clerk.ledger()),
         "line" => told.line_of(&clerk.line()),
+        "room" => told.named("slots, free", &(clerk.slots(), clerk.room())),
         "history" => tell_history(clerk, told),
         "moves" => told.value(&clerk.moves()),
         "opening" => opening(clerk, said, told),

@@ -225,10 +225,7 @@ impl Scene {
                 listings::ask(&mut listing, hand, name, said, told);
                 Scene::Listing(listing)
             }
-            Scene::Clerk(mut clerk) => {
-                clerks::ask(&mut clerk, hand, name, said, told);
-                Scene::Clerk(clerk)
-            }
+            Scene::Clerk(clerk) => Scene::Clerk(clerks::run(clerk, hand, name, said, told)),
             Scene::Stacked(mut stacked) => {
                 stacked::ask(&mut stacked, hand, name, said, told);
                 Scene::Stacked(stacked)

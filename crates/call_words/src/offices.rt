@@ -112,7 +112,7 @@ impl<R: Wait> OfficeWork<Bench> for Playing<'_, R> {
     }
 }
 
-// `fault ..`, or what the seat of a station is asked for.
+// `fault ..`, `room`, or what the seat of a station is asked for.
 fn at_seat<L: Count + OpenedOn, R: Wait>(
     rt: &R,
     office: &Office<Bench, L>,
@@ -122,9 +122,10 @@ fn at_seat<L: Count + OpenedOn, R: Wait>(
     said: &mut Said<'_>,
     told: &mut Told,
 ) {
-    if name == "fault" {
-        set_fault(hand, said, told);
-        return;
+    match name {
+        "fault" => return set_fault(hand, said, told),
+        "room" => return told.value(&office.room(rt)),
+        _ => {}
     }
     match seats.get_mut(said.station() as usize) {
         Some(seat) => ask(rt, office, seat, hand, name, said, told),

@@ -15,7 +15,7 @@ use std::alloc::{AllocError, Global};
 use std::sync::Wait;
 use std::sync::atomic::{AtomicU64, Ordering};
 use std::thread::Threads;
-use turn_clerk::Turn;
+use turn_clerk::{Clerk, Turn};
 
 // Sends stations home once so many turns were taken in all.
 #[derive(Drop)]
@@ -111,11 +111,11 @@ fn live<R: Threads + Wait + Sync>(
         turns,
         taken: AtomicU64::new(0),
     };
-    let office = Adjourned {
-        device,
-        line,
-        desks,
+    let clerk = match Clerk::open(hand.alloc, device, line) {
+        Ok(clerk) => clerk,
+        Err(refused) => return Scene::Device(told.handed_back(refused)),
     };
+    let office = Adjourned { clerk, desks };
     match run_spans(rt, hand.alloc, office, &gate, archive, moves) {
         Ok(Life { clerk, .. }) => {
             tell_batches(archive, told);

@@ -13,6 +13,7 @@ use std::test::Fail;
 use std::thread::Threads;
 use std::time::Clock;
 use test_scenes::{formatted, line};
+use turn_clerk::Clerk;
 
 // Who keeps no archive, makes one copy, and sees a client at each other counter of three.
 #[derive(Drop)]
@@ -139,8 +140,10 @@ fn kept<R: Files + Threads + Wait + Clock + Sync + Send + Clone + Drop + 'static
     };
     let mut counters = Vec::new(alloc);
     counters.push(counter).or(Err("no memory for a counter"))?;
-    let (device, keeper) = (formatted(alloc, 4)?, Sample { copies: 0 });
-    match keep_open(rt, alloc, device, line, counters, moves, keeper) {
+    let Ok(clerk) = Clerk::open(alloc, formatted(alloc, 4)?, line) else {
+        return Err(Fail::from("the ledger isn't opened"));
+    };
+    match keep_open(rt, alloc, clerk, counters, moves, Sample { copies: 0 }) {
         Ok((closed, _)) => Ok((answers, is_over(&closed, line.stations() as usize, moves))),
         Err((_, refusal)) => Err(Fail::from(refusal)),
     }

@@ -1,10 +1,23 @@
-//! An example for each library, as its user would write it.
+//! An example for each library, as its user would write it. Beside them stands what a console can't show: threads whose
+//! order matters, as what is done beside a sync that is under way, or between two steps of a station; offices that are
+//! closed twice or not at all; what is told if somebody else writes a device; and the texts of refusals.
+//!
+//! But for those of `beside`, `clients` and `moments`, which need threads at once, a test holds whatever thread runs
+//! when.
 #![tactic(auto)]
 
 #[cfg(test)]
 mod archives;
 #[cfg(test)]
+mod beside;
+#[cfg(test)]
+mod changed;
+#[cfg(test)]
 mod clerks;
+#[cfg(test)]
+mod clients;
+#[cfg(test)]
+mod closing;
 #[cfg(test)]
 mod counters;
 #[cfg(test)]
@@ -16,9 +29,13 @@ mod devices;
 #[cfg(test)]
 mod drawings;
 #[cfg(test)]
+mod example;
+#[cfg(test)]
 mod faults;
 #[cfg(test)]
 mod files;
+#[cfg(test)]
+mod flags;
 #[cfg(test)]
 mod grammar;
 #[cfg(test)]
@@ -26,16 +43,28 @@ mod journals;
 #[cfg(test)]
 mod ledgers;
 #[cfg(test)]
+mod limits;
+#[cfg(test)]
 mod lines;
 #[cfg(test)]
 mod listings;
 #[cfg(test)]
+mod moments;
+#[cfg(test)]
 mod offices;
 #[cfg(test)]
+mod opened;
+#[cfg(test)]
 mod recovery;
+#[cfg(test)]
+mod refusals;
+#[cfg(test)]
+mod runs;
 #[cfg(test)]
 mod scripts;
 #[cfg(test)]
 mod streams;
 #[cfg(test)]
 mod sweeps;
+#[cfg(test)]
+mod waiting;

@@ -9,4 +9,5 @@ abbrev pub ghosts-call_in-L-OpenedOn : goal.ghosts-call_in-L-OpenedOn
 ghosts-call_in-L-OpenedOn g a = record {
   device = with_failures (memory_device_state a.device.inner) a.device.failures;
   line = a.line;
+  begins = λ _. Unit {0};
 }

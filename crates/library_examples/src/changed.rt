@@ -1,5 +1,5 @@
 //! What is told if somebody else writes the device between two readings.
-use crate::devices::opened;
+use crate::opened::opened;
 use journal_recovery::{Cause, MigrateRefusal, OpenRefusal, migrate};
 use ledger_reading::{ReadRefusal, look};
 use sector_device::{MemoryDevice, Sector};

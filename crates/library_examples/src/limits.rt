@@ -1,7 +1,7 @@
 //! Calls beyond any number at which a body might have given up.
 ghost use Rattle.file_device.specs.RealFile.{unknown_sectors};
 
-use crate::devices::found_on;
+use crate::opened::found_on;
 use gate_journal::format;
 use sector_device::{Device, DeviceFault, Sector};
 use std::test::Fail;

@@ -1,5 +1,6 @@
 //! Closing: what is missing, and what is handed back. Who closes an office twice, or not at all, opens it by hand.
 ghost use Rattle.sector_device.specs.MemoryDevice.{memory_device_state};
+ghost use Rattle.journal_recovery.specs.State.{State};
 ghost use Rattle.line_lock.specs.OpenedOn.{Names};
 
 use line_lock::{Blank, CloseRefusal, Closing, Count, Line, Office, OpenedOn, Seat};
@@ -27,7 +28,8 @@ fn act_in<L: Count + OpenedOn, R: Abort + Wait>(
     blank: Blank,
     closes: bool,
 ) -> Result<(), Fail>
-    requires { Names L.name L.parts L.device L.line blank (memory_device_state device) line }
+    requires named { Names L.name L.parts L.device L.line blank (memory_device_state device) line }
+    requires begins { (found : State) → L.begins found }
 {
     match Office::<MemoryDevice, L>::open(alloc, device, line, blank) {
         Ok((office, seats)) => {
