@@ -8,9 +8,9 @@
 # which repeat what they weren't told, and looks that nothing stands twice. Fills pipes before anybody reads them: of a
 # counter, of a terminal, of a script, and with answers of which nobody heard. Lets two counters ask at once, one of them
 # so that its answers fill the pipe. Slows or holds it, and wishes meanwhile.
-# Looks under strace whether a posting is told behind its last sync. Words: the built derbyfig, and those of
-# checks/offices/check.py, as --kills 100. Needed beside the toolchain: Python and `strace`. The files are made below
-# the folder BENCH_FOLDER, /var/tmp without it.
+# Looks under strace whether a posting is told behind its last sync, and what an office reads of its ledger. Words: the
+# built derbyfig, and those of checks/offices/check.py, as --kills 100. Needed beside the toolchain: Python and `strace`.
+# The files are made below the folder BENCH_FOLDER, /var/tmp without it.
 set -euo pipefail
 program=$(realpath "${1:?the first word is the built derbyfig}")
 command -v strace > /dev/null || { echo "strace is missing (package strace)"; exit 1; }

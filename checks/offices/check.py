@@ -17,6 +17,7 @@ import locks
 import names
 import order
 import pieces
+import reading
 import refusals
 import retries
 import talking
@@ -52,6 +53,7 @@ CASES = (
     refusals.without_threads,
     refusals.closed_streams,
     order.syncs_before_it_tells,
+    reading.reads_its_ledger_once,
     waiting.asks_for_nothing,
     waiting.asks_questions_alone,
     waiting.late_threads,

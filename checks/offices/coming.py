@@ -182,6 +182,8 @@ def tells_how_it_stands(case):
         office.opened(one, other)
         require_told(0, 5, 3, 0, 5)
         require_same(other.ask("deposit 1 5"), ["posted 5 0"], "a posting")
+        require_told(1, 6, 2, 0, 5)
+        require_same(other.ask("archive"), ["archived 6"], "what is added to the archive")
         require_told(1, 6, 2, 0, 6)
         require_same(case.close(control), (0, "closed\n", ""), "closing")
         office.closed()

@@ -3,15 +3,17 @@
 //! The crate `program_front` does all of it; here it is handed the words and the streams of the system.
 #![tactic(auto)]
 
-use program_front::{Terminal, run_derbyfig_words, words_given};
+use program_front::{FileLocks, Surroundings, run_derbyfig_words, words_given};
 use std::io::IsTerminal;
 use std::process::ExitCode;
 
 fn main(rt: HostRuntime) -> ExitCode {
     let given = words_given(&rt);
-    let terminal = Terminal {
+    let surroundings = Surroundings {
         input: rt.stdin(),
         output: rt.stdout(),
+        // a thread of the office looks at them, for which the type of the runtime has to be known here
+        locks: FileLocks(rt),
     };
     let (mut output, mut errors) = (rt.stdout(), rt.stderr());
     // on a terminal on which nothing else is printed
@@ -20,7 +22,7 @@ fn main(rt: HostRuntime) -> ExitCode {
         &rt,
         rt.alloc(),
         given,
-        terminal,
+        surroundings,
         &mut output,
         &mut errors,
         shows,

@@ -1,6 +1,6 @@
 //! An office in memory that stays open for one counter, whose lines are written out and whose answers come by a pipe.
 use live_office::{
-    Closed, Counter, CounterCopyRefusal, Identity, Keeper, Kept, Kind, Seen, keep_open,
+    Clients, Closed, Counter, CounterCopyRefusal, Identity, Keeper, Kept, Kind, Seen, keep_open,
 };
 use office_day::{End, Line};
 use sector_device::{Device, MemoryDevice};
@@ -15,7 +15,7 @@ use std::time::Clock;
 use test_scenes::{formatted, line};
 use turn_clerk::Clerk;
 
-// Who keeps no archive, makes one copy, and sees a client at each other counter of three.
+// Who keeps no archive, and makes one copy.
 #[derive(Drop)]
 struct Sample {
     copies: u64,
@@ -34,11 +34,21 @@ impl<D: Device> Keeper<D> for Sample {
         (device, Err(CounterCopyRefusal::Occupied))
     }
 
+    fn kept(&self) -> Kept {
+        Kept::NoArchive
+    }
+
     fn last(&mut self, _station: u8) -> Option<Seen> {
         None
     }
+}
 
-    fn clients(&mut self, _station: u8) -> u64 {
+// Who sees a client at each other counter of three.
+#[derive(Drop)]
+struct Two;
+
+impl Clients for Two {
+    fn others(&mut self, _station: u8) -> u64 {
         2
     }
 }
@@ -143,7 +153,7 @@ fn kept<R: Files + Threads + Wait + Clock + Sync + Send + Clone + Drop + 'static
     let Ok(clerk) = Clerk::open(alloc, formatted(alloc, 4)?, line) else {
         return Err(Fail::from("the ledger isn't opened"));
     };
-    match keep_open(rt, alloc, clerk, counters, moves, Sample { copies: 0 }) {
+    match keep_open(rt, alloc, clerk, counters, Two, moves, Sample { copies: 0 }) {
         Ok((closed, _)) => Ok((answers, is_over(&closed, line.stations() as usize, moves))),
         Err((_, refusal)) => Err(Fail::from(refusal)),
     }

@@ -53,7 +53,6 @@ is_answer response.NoArchive = false
 is_answer (response.Copied next) = false
 is_answer (response.NoCopy refusal) = false
 is_answer (response.Standing standing) = false
-is_answer (response.NoStanding refusal) = false
 is_answer response.Name = false
 is_answer response.Closed = false
 is_answer (response.Wrong wrong) = false
@@ -84,7 +83,6 @@ judged_of response.NoArchive = []
 judged_of (response.Copied next) = []
 judged_of (response.NoCopy refusal) = []
 judged_of (response.Standing standing) = []
-judged_of (response.NoStanding refusal) = []
 judged_of response.Name = []
 judged_of response.Closed = []
 judged_of (response.Wrong wrong) = []
@@ -144,7 +142,6 @@ IsResponseTo (Asked request.Copy) (response.NoCopy refusal) = Unit {0}
 IsResponseTo (Asked request.Archive) (response.Archived next) = Unit {0}
 IsResponseTo (Asked request.Archive) response.NoArchive = Unit {0}
 IsResponseTo (Asked request.Status) (response.Standing standing) = Unit {0}
-IsResponseTo (Asked request.Status) (response.NoStanding refusal) = Unit {0}
 IsResponseTo (Asked request.Name) response.Name = Unit {0}
 IsResponseTo (Asked request.Help) response.Help = Unit {0}
 IsResponseTo (Asked request.Close) response.Closing = Unit {0}
@@ -177,6 +174,7 @@ IsQuestionOf (Asked (request.Find reference)) search own (question.Find named fi
 IsQuestionOf (Asked (request.Post entry)) search own (question.Latest limit first) = ((limit ≡ reference_of entry) ⊎ (limit ≡ 2 ^ 64 - 1)) × (first ≡ own)
 IsQuestionOf (Asked request.Last) search own (question.Latest limit first) = (limit ≡ 2 ^ 64 - 1) × (first ≡ own)
 IsQuestionOf (Asked (request.First reference)) search own (question.Latest limit first) = (limit ≡ 2 ^ 64 - 1) × (first ≡ own)
+IsQuestionOf (Asked request.Status) search own question.Room = Unit {0}
 IsQuestionOf _ search own _ = ⊥
 
 -- the same of the message that is handled next, if there is one

@@ -42,5 +42,5 @@ pub use messages::{Message, WrongLine};
 pub use open_office::{Closed, LiveRefusal, keep_open};
 pub use recess::{CounterCopyRefusal, Keeper, Kept};
 pub use responses::{Judgement, REQUESTS, Response};
-pub use standing::{Standing, StandingRefusal};
+pub use standing::{Clients, Standing};
 pub use turn_ledger::Entry;

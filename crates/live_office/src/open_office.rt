@@ -12,6 +12,7 @@ use crate::opening::{Begun, begin};
 use crate::recess::{Granting, Keeper};
 use crate::scheduler::Scheduler;
 use crate::session::Session;
+use crate::standing::Clients;
 use crate::wakers::Wakers;
 use office_day::{
     Adjourned, Audit, Clerk, Device, Feed, Left, Life, OfficeRefusal, StationDay, all_reconciled,
@@ -93,12 +94,14 @@ pub fn keep_open<
     R: Threads + Wait + Clock + Sync + Send + Clone + Drop + 'static,
     I: Read + Send + Drop + 'static,
     O: Write + Send + Drop + 'static,
+    C: Clients + Send + Drop + 'static,
     K: Keeper<D> + Drop,
 >(
     rt: &R,
     alloc: Global,
     clerk: Clerk<D>,
     counters: Vec<Counter<I, O>>,
+    clients: C,
     moves: u64,
     keeper: K,
 ) -> Result<(Closed<D>, K), (D, LiveRefusal)>
@@ -107,7 +110,8 @@ pub fn keep_open<
         (K.archive keeper) (K.archive both.1)) }
     ensures left { IfErr result (λ e. HandsBack D.state moves (rest_of clerk) e.0 e.1) }
 {
-    let begun = match begin(rt, alloc, clerk.line().stations(), counters) {
+    let (stations, kept) = (clerk.line().stations(), keeper.kept());
+    let begun = match begin(rt, alloc, stations, kept, counters, clients) {
         Ok(begun) => begun,
         Err(unserved) => return Err((clerk.into_device(), LiveRefusal::from(unserved))),
     };
@@ -119,7 +123,6 @@ pub fn keep_open<
     } = begun;
     let mut recess = Granting {
         rt,
-        alloc,
         scheduler: &*scheduler,
         keeper,
     };

@@ -6,8 +6,10 @@ ghost use Rattle.office_day.specs.HandedIn.{IsFresh};
 
 use crate::counter::{Counter, Unserved, begin_session, empty_session};
 use crate::dispatcher::{SameFeeds, dispatch};
+use crate::recess::Kept;
 use crate::scheduler::Scheduler;
 use crate::session::{CAPACITY, Session};
+use crate::standing::Clients;
 use crate::wakers::Wakers;
 use station_desk::{Desk, Feed, desk};
 use std::alloc::{AllocError, Global};
@@ -62,18 +64,26 @@ impl Attended {
     }
 }
 
-/// Begins to attend to the counters, at as many stations.
+/// Begins to attend to the counters, at as many stations, of an office whose archive is so far.
 pub(crate) fn begin<
     R: Threads + Wait + Send + Clone + Drop + 'static,
     I: Read + Send + Drop + 'static,
     O: Write + Send + Drop + 'static,
->(rt: &R, alloc: Global, stations: u8, counters: Vec<Counter<I, O>>) -> Result<Begun, Unserved>
+    C: Clients + Send + Drop + 'static,
+>(
+    rt: &R,
+    alloc: Global,
+    stations: u8,
+    kept: Kept,
+    counters: Vec<Counter<I, O>>,
+    clients: C,
+) -> Result<Begun, Unserved>
     ensures together { IfOk result (λ begun. AllZip AreTogether
         (map (λ session. session.postings.feed) begun.dispatcher.promise.0.value.items) begun.desks.items) }
     ensures fresh { IfOk result (λ begun. All IsFresh begun.desks.items) }
     ensures as_many { IfOk result (λ begun. length begun.desks.items ≡ stations) }
 {
-    let scheduler = new_scheduler(alloc, stations)?;
+    let scheduler = new_scheduler(alloc, stations, kept)?;
     let Attended {
         sessions,
         desks,
@@ -81,7 +91,11 @@ pub(crate) fn begin<
     } = seat_all(rt, alloc, stations, counters, &scheduler)?;
     let promise = SameFeeds(Snapshot::of(&sessions));
     let (own, theirs) = (rt.clone()?, Arc::try_clone(&scheduler)?);
-    match spawn_with(rt, promise, move || dispatch(&own, &theirs, sessions)) {
+    match spawn_with(
+        rt,
+        promise,
+        move || dispatch(&own, &theirs, sessions, clients),
+    ) {
         Ok(dispatcher) => Ok(Begun {
             scheduler,
             dispatcher,
@@ -92,8 +106,8 @@ pub(crate) fn begin<
     }
 }
 
-fn new_scheduler(alloc: Global, stations: u8) -> Result<Arc<Scheduler>, AllocError> {
-    Ok(Arc::new(alloc, Scheduler::new(alloc, stations)?)?)
+fn new_scheduler(alloc: Global, stations: u8, kept: Kept) -> Result<Arc<Scheduler>, AllocError> {
+    Ok(Arc::new(alloc, Scheduler::new(alloc, stations, kept)?)?)
 }
 
 // A session for each station, with its counter where it has one, and its desk.

@@ -1,16 +1,13 @@
 //! What a live office does between two spans.
-ghost use Rattle.std.specs.Prelude.{◌≡◌, ◌⊎◌, ◌↔◌, ℕ, true, false, Ok, Err};
+ghost use Rattle.std.specs.Prelude.{◌≡◌, ◌⊎◌, ◌↔◌, ℕ, true, false};
 ghost use Rattle.sector_device.specs.Crash.{WasLookedAt};
 ghost use Rattle.office_day.specs.Archive.{Archive, WasKept, next_of};
-ghost use Rattle.live_office.specs.declared.standing.Standing.{Standing};
-ghost use Rattle.live_office.specs.Standing.{HasRoom, CantBeRead, archived_of};
+ghost use Rattle.live_office.specs.Standing.{archived_of};
 
 use crate::look::Seen;
 use crate::scheduler::Scheduler;
-use crate::standing::{Standing, StandingRefusal, measure};
 use office_day::{Device, Recess};
 use sector_device::Look;
-use std::alloc::Global;
 use std::sync::Wait;
 
 /// Why there is no copy. The first that holds.
@@ -40,7 +37,19 @@ pub enum Kept {
     Failed,
 }
 
-/// Who keeps the archive of an office, looks into it, makes copies of its ledger, and sees which counters have clients.
+impl Kept {
+    /// Below which number all batches are in the archive, if that is known.
+    pub(crate) fn archived(self) -> Option<u64>
+        ensures { result ≡ archived_of self }
+    {
+        match self {
+            Kept::UpTo(next) => Some(next),
+            Kept::NoArchive | Kept::Failed => None,
+        }
+    }
+}
+
+/// Who keeps the archive of an office, looks into it, and makes copies of its ledger.
 pub trait Keeper<D: Device> {
     ghost use Rattle.office_day.specs.Archive.{no_archive};
 
@@ -57,6 +66,9 @@ pub trait Keeper<D: Device> {
         ensures failed { ((archive self.new).failed ≡ true)
             ↔ (((archive self.old).failed ≡ true) ⊎ (result.1 ≡ Kept.Failed)) };
 
+    /// How far the archive is, as it was kept last.
+    fn kept(&self) -> Kept;
+
     /// Makes a copy of the ledger on the device. All batches below the number are in it. The device is only looked at
     /// and handed back.
     ///
@@ -70,10 +82,6 @@ pub trait Keeper<D: Device> {
     /// in it. None without an archive, or if it can't be read.
     fn last(&mut self, station: u8) -> Option<Seen>
         ensures archive { archive self.new ≡ archive self.old };
-
-    /// How many counters have a client, but for that of this station.
-    fn clients(&mut self, station: u8) -> u64
-        ensures archive { archive self.new ≡ archive self.old };
 }
 
 /// What a counter wants of a recess.
@@ -83,8 +91,6 @@ pub(crate) enum Wish {
     Copy,
     /// The station's last posting in the archive.
     Last,
-    /// How the office stands.
-    Standing,
 }
 
 /// What came of it.
@@ -93,7 +99,6 @@ pub(crate) enum Came {
     Archive(Kept),
     Copy(Result<u64, CounterCopyRefusal>),
     Last(Option<Seen>),
-    Standing(Result<Standing, StandingRefusal>),
 }
 
 /// A live office between two spans: its archive is kept, and copies are made that were asked for. If the archive can't
@@ -101,7 +106,6 @@ pub(crate) enum Came {
 #[derive(Drop)]
 pub(crate) struct Granting<'a, R, K> {
     pub rt: &'a R,
-    pub alloc: Global,
     pub scheduler: &'a Scheduler,
     pub keeper: K,
 }
@@ -116,46 +120,11 @@ impl<R: Wait, K> Granting<'_, R, K> {
             (K.archive self.old.keeper) (K.archive self.new.keeper) }
     {
         let (device, kept) = self.keeper.keep(device);
+        self.scheduler.note_kept(self.rt, kept);
         if kept == Kept::Failed {
             self.scheduler.cut_off();
         }
         (device, kept)
-    }
-
-    // How the office stands. If its archive can't be kept it closes, and that is what comes of the wish.
-    fn stand<D: Device>(&mut self, device: D, station: u8, kept: Kept) -> (D, Came)
-    where
-        K: Keeper<D>,
-        ensures looked { WasLookedAt (D.state device) (D.state result.0) }
-        ensures archive { K.archive self.new.keeper ≡ K.archive self.old.keeper }
-        ensures room { (standing : Standing) → result.1 ≡ Came.Standing (Ok standing)
-            → (D.state device).honest → HasRoom standing.next standing.free (D.state device).reads }
-        ensures archived { (standing : Standing) → result.1 ≡ Came.Standing (Ok standing)
-            → standing.archived ≡ archived_of kept }
-        ensures failed { (result.1 ≡ Came.Archive kept) ↔ (kept ≡ Kept.Failed) }
-        ensures device { (D.state device).honest
-            → result.1 ≡ Came.Standing (Err StandingRefusal.Device)
-            → CantBeRead (D.state device) (D.state result.0) }
-    {
-        let archived = match kept {
-            Kept::UpTo(next) => Some(next),
-            Kept::NoArchive => None,
-            Kept::Failed => return (device, Came::Archive(kept)),
-        };
-        let (device, measured) = measure(self.alloc, device);
-        let (next, free) = match measured {
-            Ok(room) => room,
-            Err(refusal) => return (device, Came::Standing(Err(refusal))),
-        };
-        let (turns, clients) = (self.scheduler.turns(), self.keeper.clients(station));
-        let standing = Standing {
-            next,
-            free,
-            turns,
-            clients,
-            archived,
-        };
-        (device, Came::Standing(Ok(standing)))
     }
 
     // Does what a station wants, if it wants anything, and tells it what came of that.
@@ -175,7 +144,6 @@ impl<R: Wait, K> Granting<'_, R, K> {
                 (device, Came::Copy(copied))
             }
             Wish::Last => (device, Came::Last(self.keeper.last(station))),
-            Wish::Standing => self.stand(device, station, kept),
         };
         self.scheduler.tell(self.rt, station, came);
         device

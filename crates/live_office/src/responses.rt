@@ -7,7 +7,7 @@ ghost use Rattle.live_office.specs.Conversation.{is_answer, told_of_balance, IsO
 use crate::look::Seen;
 use crate::messages::WrongLine;
 use crate::recess::CounterCopyRefusal;
-use crate::standing::{Standing, StandingRefusal};
+use crate::standing::Standing;
 use line_lock::{BalanceRefusal, FindRefusal};
 use station_desk::{Answer, Outcome};
 use std::fmt;
@@ -102,8 +102,6 @@ pub enum Response {
     NoCopy(CounterCopyRefusal),
     /// How the office stands.
     Standing(Standing),
-    /// Why that isn't told.
-    NoStanding(StandingRefusal),
     /// By what the counter is known, which its writer tells.
     Name,
     /// The office closed before the question was answered.
@@ -196,7 +194,6 @@ impl fmt::Display for Response {
             Response::Copied { next } => write!(f, "copied {next}"),
             Response::NoCopy(refusal) => write!(f, "refused {refusal:?}"),
             Response::Standing(standing) => write!(f, "{standing}"),
-            Response::NoStanding(refusal) => write!(f, "refused {refusal:?}"),
             Response::Name => f.write_str("name"),
             Response::Closed => f.write_str("refused Closed"),
             Response::Wrong(wrong) => write!(f, "wrong {wrong}"),

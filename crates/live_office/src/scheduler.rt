@@ -3,7 +3,7 @@
 //! Nobody asks for a turn while no request waits. While the line may still be healing each station may ask after each
 //! turn; from then on one station alone is privileged, and which one follows from the last move, so that it alone is
 //! woken.
-use crate::recess::{Came, Wish};
+use crate::recess::{Came, Kept, Wish};
 use four_state::Rule;
 use station_desk::{Errand, Gate, Question, Report, Turn};
 use std::alloc::{AllocError, Global};
@@ -90,6 +90,8 @@ pub(crate) struct Scheduler {
     has_worked: AtomicBool,
     // The stations gave up waiting for each other.
     abandoned: AtomicBool,
+    // How far the archive is, as it was kept last.
+    kept: Mutex<Kept>,
     // The archive can't be kept: nobody takes a turn any more.
     cut_off: AtomicBool,
     // The office's life is over.
@@ -98,8 +100,8 @@ pub(crate) struct Scheduler {
 }
 
 impl Scheduler {
-    /// For a line of so many stations.
-    pub(crate) fn new(alloc: Global, stations: u8) -> Result<Scheduler, AllocError> {
+    /// For a line of so many stations, and an archive that is so far.
+    pub(crate) fn new(alloc: Global, stations: u8, kept: Kept) -> Result<Scheduler, AllocError> {
         let mut wakers = Vec::with_capacity(alloc, stations as usize)?;
         for _ in 0..stations {
             wakers.push(Waker::new())?;
@@ -120,6 +122,7 @@ impl Scheduler {
             late: AtomicU64::new(0),
             has_worked: AtomicBool::new(false),
             abandoned: AtomicBool::new(false),
+            kept: Mutex::new(kept),
             cut_off: AtomicBool::new(false),
             over: AtomicBool::new(false),
             dispatcher: Parker::new(),
@@ -189,6 +192,16 @@ impl Scheduler {
     /// How many stations there are.
     pub(crate) fn stations(&self) -> u8 {
         u8::try_from(self.wakers.len()).unwrap_or(u8::MAX)
+    }
+
+    /// The archive is so far now.
+    pub(crate) fn note_kept<R: Wait>(&self, rt: &R, kept: Kept) {
+        *self.kept.lock(rt) = kept;
+    }
+
+    /// How far the archive is, as it was kept last.
+    pub(crate) fn kept<R: Wait>(&self, rt: &R) -> Kept {
+        *self.kept.lock(rt)
     }
 
     /// Nobody takes a turn any more.

@@ -16,6 +16,7 @@ use crate::recess::{Came, Kept, Wish};
 use crate::responses::Response;
 use crate::scheduler::Scheduler;
 use crate::search::{Search, Step};
+use crate::standing::{Clients, Standing};
 use crate::wakers::Wakers;
 use rtrb::{Consumer, Producer};
 use script_grammar::Request;
@@ -119,11 +120,16 @@ impl Session {
     }
 
     /// Hands on the answers that have come, and takes what the counter has said, as far as there is room.
-    pub(crate) fn attend<R: Wait>(&mut self, rt: &R, scheduler: &Scheduler)
+    pub(crate) fn attend<R: Wait, C: Clients>(
+        &mut self,
+        rt: &R,
+        scheduler: &Scheduler,
+        clients: &mut C,
+    )
         ensures { StandsAt self.old.postings.feed self.new.postings.feed }
     {
         self.collect();
-        self.take_messages(rt, scheduler);
+        self.take_messages(rt, scheduler, clients);
     }
 
     // Hands on the answers that have come.
@@ -142,18 +148,23 @@ impl Session {
     }
 
     // Takes what the counter has said, one message after another.
-    fn take_messages<R: Wait>(&mut self, rt: &R, scheduler: &Scheduler)
+    fn take_messages<R: Wait, C: Clients>(&mut self, rt: &R, scheduler: &Scheduler, clients: &mut C)
         ensures { StandsAt self.old.postings.feed self.new.postings.feed }
     {
         for _ in 0..CAPACITY {
-            if !self.take_next(rt, scheduler) {
+            if !self.take_next(rt, scheduler, clients) {
                 return;
             }
         }
     }
 
     // Takes the next message, if there is one that can be handled now; false if not.
-    fn take_next<R: Wait>(&mut self, rt: &R, scheduler: &Scheduler) -> bool
+    fn take_next<R: Wait, C: Clients>(
+        &mut self,
+        rt: &R,
+        scheduler: &Scheduler,
+        clients: &mut C,
+    ) -> bool
         ensures { StandsAt self.old.postings.feed self.new.postings.feed }
     {
         if self.responses.slots() <= self.postings.unanswered {
@@ -162,7 +173,7 @@ impl Session {
         let Some(message) = self.next_message(scheduler) else {
             return false;
         };
-        if !self.handle(rt, scheduler, message) {
+        if !self.handle(rt, scheduler, clients, message) {
             return false;
         }
         self.next = None;
@@ -197,7 +208,13 @@ impl Session {
     }
 
     // Handles a message, for whose response there is a place; false if that can't be done yet.
-    fn handle<R: Wait>(&mut self, rt: &R, scheduler: &Scheduler, message: Message) -> bool
+    fn handle<R: Wait, C: Clients>(
+        &mut self,
+        rt: &R,
+        scheduler: &Scheduler,
+        clients: &mut C,
+        message: Message,
+    ) -> bool
         requires place { self.old.postings.unanswered < known_free self.old.responses }
         requires next { self.old.next ≡ Some message }
         ensures feed { StandsAt self.old.postings.feed self.new.postings.feed }
@@ -222,7 +239,7 @@ impl Session {
             }
             Message::Asked(Request::Copy) => self.tell_copied(rt, scheduler),
             Message::Asked(Request::Archive) => self.tell_archived(rt, scheduler),
-            Message::Asked(Request::Status) => self.tell_standing(rt, scheduler),
+            Message::Asked(Request::Status) => self.tell_standing(rt, scheduler, clients),
             Message::Asked(Request::Name) => self.respond(Response::Name),
             Message::Asked(Request::Help) => self.respond(Response::Help),
             Message::Asked(Request::Close) => self.close(scheduler),
@@ -355,8 +372,7 @@ impl Session {
         match self.what_came(rt, scheduler, Wish::Archive) {
             Some(Came::Archive(Kept::UpTo(next))) => self.respond(Response::Archived { next }),
             Some(Came::Archive(Kept::NoArchive)) => self.respond(Response::NoArchive),
-            Some(Came::Archive(Kept::Failed) | Came::Copy(_) | Came::Last(_) | Came::Standing(_))
-            | None => false,
+            Some(Came::Archive(Kept::Failed) | Came::Copy(_) | Came::Last(_)) | None => false,
         }
     }
 
@@ -371,24 +387,29 @@ impl Session {
         match self.what_came(rt, scheduler, Wish::Copy) {
             Some(Came::Copy(Ok(next))) => self.respond(Response::Copied { next }),
             Some(Came::Copy(Err(refusal))) => self.respond(Response::NoCopy(refusal)),
-            Some(Came::Archive(_) | Came::Last(_) | Came::Standing(_)) | None => false,
+            Some(Came::Archive(_) | Came::Last(_)) | None => false,
         }
     }
 
-    // Tells how the office stands; false if that isn't known yet, and where its archive can't be kept, so that it
-    // closes.
-    fn tell_standing<R: Wait>(&mut self, rt: &R, scheduler: &Scheduler) -> bool
+    // Tells how the office stands; false if that isn't known yet.
+    fn tell_standing<R: Wait, C: Clients>(
+        &mut self,
+        rt: &R,
+        scheduler: &Scheduler,
+        clients: &mut C,
+    ) -> bool
         requires place { self.old.postings.unanswered < known_free self.old.responses }
         requires behind { self.old.postings.unanswered ≡ 0 }
         requires next { self.old.next ≡ Some (Asked Status) }
         ensures feed { self.new.postings.feed ≡ self.old.postings.feed }
         ensures next { self.new.next ≡ self.old.next }
     {
-        match self.what_came(rt, scheduler, Wish::Standing) {
-            Some(Came::Standing(Ok(standing))) => self.respond(Response::Standing(standing)),
-            Some(Came::Standing(Err(refusal))) => self.respond(Response::NoStanding(refusal)),
-            Some(Came::Archive(_) | Came::Copy(_) | Came::Last(_)) | None => false,
-        }
+        let Some(Report::Room(room)) = self.report(rt, scheduler, Question::Room) else {
+            return false;
+        };
+        let (kept, turns) = (scheduler.kept(rt), scheduler.turns());
+        let others = clients.others(self.station);
+        self.respond(Response::Standing(Standing::new(room, kept, turns, others)))
     }
 
     // Tells what comes of a step of a search, if anything.

@@ -1,14 +1,12 @@
 //! How a live office stands.
-ghost use Rattle.std.specs.Prelude.{◌≡◌, IfOk, Err};
-ghost use Rattle.sector_device.specs.Crash.{WasLookedAt};
-ghost use Rattle.live_office.specs.Standing.{HasRoom, CantBeRead};
+ghost use Rattle.std.specs.Prelude.{◌≡◌};
+ghost use Rattle.live_office.specs.Standing.{archived_of};
 
-use journal_recovery::{OpenRefusal, Recovered, recover};
-use office_day::Device;
-use std::alloc::Global;
+use crate::recess::Kept;
+use station_desk::Room;
 use std::fmt;
 
-/// How an office stands between two spans.
+/// How an office stands.
 #[derive(Clone, Copy, Debug, PartialEq, Eq)]
 pub struct Standing {
     /// The number of the next batch.
@@ -21,6 +19,25 @@ pub struct Standing {
     pub clients: u64,
     /// All batches below this number are in the archive, if there is one.
     pub archived: Option<u64>,
+}
+
+impl Standing {
+    /// Of an office whose ledger has this room, whose archive is so far, with so many turns taken and other clients.
+    pub(crate) fn new(room: Room, kept: Kept, turns: u64, clients: u64) -> Standing
+        ensures next { result.next ≡ room.next }
+        ensures free { result.free ≡ room.free }
+        ensures turns { result.turns ≡ turns }
+        ensures clients { result.clients ≡ clients }
+        ensures archived { result.archived ≡ archived_of kept }
+    {
+        Standing {
+            next: room.next,
+            free: room.free,
+            turns,
+            clients,
+            archived: kept.archived(),
+        }
+    }
 }
 
 /// Its line, without the end.
@@ -38,35 +55,8 @@ impl fmt::Display for Standing {
     }
 }
 
-/// Why it isn't told. The first that holds.
-#[derive(Clone, Copy, Debug, PartialEq, Eq)]
-pub enum StandingRefusal {
-    /// Out of memory.
-    Memory,
-    /// The ledger can't be read.
-    Device,
-}
-
-/// The number of the next batch of the ledger on the device, and how many slots of its live bank are free. The device
-/// is only looked at and handed back.
-pub(crate) fn measure<D: Device>(
-    alloc: Global,
-    device: D,
-) -> (D, Result<(u64, u64), StandingRefusal>)
-    ensures looked { WasLookedAt (D.state device) (D.state result.0) }
-    ensures measured { (D.state device).honest
-        → IfOk result.1 (λ room. HasRoom room.0 room.1 (D.state device).reads) }
-    ensures memory { result.1 ≡ Err StandingRefusal.Memory → result.0 ≡ device }
-    ensures device { (D.state device).honest → result.1 ≡ Err StandingRefusal.Device
-        → CantBeRead (D.state device) (D.state result.0) }
-{
-    match recover(alloc, device) {
-        Ok(Recovered { journal, .. }) => {
-            let (next, free) = (journal.next(), journal.room());
-            (journal.into_device(), Ok((next, free)))
-        }
-        Err((device, OpenRefusal::Memory)) => (device, Err(StandingRefusal::Memory)),
-        Err((device, OpenRefusal::Device)) => (device, Err(StandingRefusal::Device)),
-        Err((device, _)) => (device, Err(StandingRefusal::Device)),
-    }
+/// Who sees which counters have clients.
+pub trait Clients {
+    /// How many counters have a client, but for that of this station.
+    fn others(&mut self, station: u8) -> u64;
 }

@@ -1,13 +1,12 @@
-//! Who keeps the archive of an office, makes copies of its ledger, and sees which counters have clients.
+//! Who keeps the archive of an office, and makes copies of its ledger.
 ghost use Rattle.std.specs.Prelude.{◌≡◌};
 ghost use Rattle.office_engine.specs.Copies.{told_as};
 ghost use Rattle.office_engine.specs.FolderArchive.{folder_archive};
 
 use crate::faults::OfficeFault;
-use crate::locks::has_client;
 use crate::looking_back::last_in_archive;
 use crate::seating::Seating;
-use crate::serving::{CounterFolder, Serving};
+use crate::serving::Serving;
 use archive_engine::{
     ArchiveFault, Folder, FolderCopyRefusal, archive_device, check_no_gap, copy_to_folder,
     open_copies,
@@ -32,9 +31,6 @@ pub(crate) struct Archivist<'a, 'r, R> {
     books: Option<&'a str>,
     // The folder of the copies.
     copies: Option<Folder<'a>>,
-    counters: &'r [CounterFolder<'a>],
-    // Their stations, once they have these.
-    seats: Vec<u8>,
     // From the batch of this number on only offices posted.
     since: u64,
     // Where it is kept which station each counter has.
@@ -42,6 +38,8 @@ pub(crate) struct Archivist<'a, 'r, R> {
     // Which file the ledger is, once it is open, and which folder the archive is.
     ledger: Option<FileNumber>,
     archive: Option<FileNumber>,
+    // How far the archive is, as it was kept last.
+    kept: Kept,
     fault: Option<OfficeFault<'a>>,
 }
 
@@ -51,7 +49,7 @@ impl<'a, 'r, R: Files<File = File> + Alloc<A = Global> + Clone + Drop> Archivist
     pub(crate) fn open(
         rt: &'r R,
         alloc: Global,
-        serving: &'r Serving<'a>,
+        serving: &Serving<'a>,
     ) -> Result<Archivist<'a, 'r, R>, OfficeFault<'a>> {
         let folder = match serving.archive {
             Some(folder) => Some(open_archive(rt, alloc, folder)?),
@@ -71,12 +69,11 @@ impl<'a, 'r, R: Files<File = File> + Alloc<A = Global> + Clone + Drop> Archivist
             folder,
             books: serving.archive,
             copies,
-            counters: serving.counters.as_slice(),
-            seats: Vec::new(alloc),
             since: 0,
             place: RosterPath::Beside(serving.path),
             ledger: None,
             archive: None,
+            kept: Kept::NoArchive,
             fault: None,
         })
     }
@@ -98,7 +95,6 @@ impl<'a, 'r, R: Files<File = File> + Alloc<A = Global> + Clone + Drop> Archivist
     pub(crate) fn learn(&mut self, seating: &Seating<'a>) -> Result<(), OfficeFault<'a>> {
         self.since = seating.since();
         self.place = seating.place;
-        self.seats = seating.seats.clone()?;
         self.ledger = number_at(self.rt, self.path);
         self.archive = match self.books {
             Some(folder) => number_at(self.rt, folder),
@@ -142,12 +138,19 @@ impl<D: Device, R: Files<File = File> + Alloc<A = Global> + Clone + Drop> Keeper
         };
         let (device, added) = archive_device(self.rt, self.alloc, self.path, device, folder);
         match added {
-            Ok(archived) => (device, Kept::UpTo(archived.next())),
+            Ok(archived) => {
+                self.kept = Kept::UpTo(archived.next());
+                (device, self.kept)
+            }
             Err(fault) => {
                 self.fault = Some(OfficeFault::from(fault));
                 (device, Kept::Failed)
             }
         }
+    }
+
+    fn kept(&self) -> Kept {
+        self.kept
     }
 
     fn copy(&mut self, device: D) -> (D, Result<u64, CounterCopyRefusal>) {
@@ -163,16 +166,6 @@ impl<D: Device, R: Files<File = File> + Alloc<A = Global> + Clone + Drop> Keeper
 
     fn last(&mut self, station: u8) -> Option<Seen> {
         last_in_archive(self.rt, self.alloc, self.books?, station, self.since)
-    }
-
-    fn clients(&mut self, station: u8) -> u64 {
-        let mut count: u64 = 0;
-        for (counter, seat) in self.counters.iter().zip(self.seats.iter()) {
-            if *seat != station && has_client(self.rt, self.alloc, counter.folder) {
-                count = count.saturating_add(1);
-            }
-        }
-        count
     }
 }
 

@@ -5,6 +5,7 @@ ghost use Rattle.office_engine.specs.Ends.{NoneFailed, NoneWasRefused, TellsRefu
 
 use crate::archivist::Archivist;
 use crate::faults::{OfficeFault, PipeFault};
+use crate::locks::{Locks, SeatedClients};
 use crate::pipes::{Side, open_pipe};
 use crate::runtime::Runtime;
 use crate::seating::Seating;
@@ -43,11 +44,12 @@ fn turns_of_span(slots: u64, has_archive: bool) -> u64
     if has_archive { slots.min(SPAN) } else { SPAN }
 }
 
-/// The streams of the terminal.
+/// What an office meets beside its files: the streams of the terminal, and who sees the locks of counters' folders.
 #[derive(Drop)]
-pub struct Terminal<I: Read, O: Write> {
+pub struct Surroundings<I: Read, O: Write, L: Locks + Copy> {
     pub input: I,
     pub output: O,
+    pub locks: L,
 }
 
 // A counter, by pipes or by the terminal.
@@ -61,25 +63,28 @@ type AnyCounter<I, O> = Counter<Source<File, I>, Target<File, O>>;
 /// [`OfficeFault`].
 pub fn serve<
     'a,
-    'r,
     R: Runtime,
     I: Read + Send + Drop + 'static,
     O: Write + Send + Drop + 'static,
+    L: Locks + Copy + Send + 'static,
     W: Write,
 >(
-    rt: &'r R,
+    rt: &R,
     alloc: Global,
-    serving: &'r Serving<'a>,
+    serving: &Serving<'a>,
     plan: Plan,
-    terminal: Terminal<I, O>,
+    surroundings: Surroundings<I, O, L>,
     writer: &mut W,
 ) -> Result<(), OfficeFault<'a>> {
-    let counters = open_counters(rt, alloc, serving, terminal)?;
-    let archivist = Archivist::open(rt, alloc, serving)?;
+    let Surroundings {
+        input,
+        output: told,
+        locks,
+    } = surroundings;
     let mut output = Output::new(alloc, writer)?;
-    let device = open_device(rt, alloc, serving, plan.formatting, &mut output)?;
-    let office = ready_office(rt, alloc, serving, plan.stations, device, archivist)?;
-    keep_on(rt, alloc, office, counters, &mut output)
+    let counters = open_counters(rt, alloc, serving, input, told)?;
+    let office = ready_office(rt, alloc, serving, plan, &mut output)?;
+    keep_on(rt, alloc, office, counters, locks, &mut output)
 }
 
 // What an office is opened on, and who keeps its archive.
@@ -92,24 +97,21 @@ struct Ready<'a, 'r, R> {
     moves: u64,
 }
 
-// Brings the archive up to the ledger on the device, reads that once more, and gives each counter its station.
-fn ready_office<'a, 'r, R: Runtime>(
+// Opens the archive and the device, brings the archive up to the ledger there, and gives each counter its station.
+fn ready_office<'a, 'r, R: Runtime, W: Write>(
     rt: &'r R,
     alloc: Global,
-    serving: &'r Serving<'a>,
-    planned: u64,
-    device: FileDevice,
-    mut archivist: Archivist<'a, 'r, R>,
+    serving: &Serving<'a>,
+    plan: Plan,
+    output: &mut Output<'_, W>,
 ) -> Result<Ready<'a, 'r, R>, OfficeFault<'a>> {
+    let mut archivist = Archivist::open(rt, alloc, serving)?;
+    let device = open_device(rt, alloc, serving, plan.formatting, output)?;
     let (device, _) = archivist.add(device)?;
     let clerk = open_clerk(alloc, serving.path, device)?;
-    let seating = Seating::begin(rt, alloc, serving, clerk.next())?;
-    let stations = seating.stations(planned);
-    if !are_threads_granted(rt, alloc, stations, seating.seats.len())? {
-        return Err(OfficeFault::Threads);
-    }
-    archivist.learn(&seating)?;
     let moves = turns_of_span(clerk.slots(), serving.archive.is_some());
+    let seating = seat(rt, alloc, serving, clerk.next(), plan, &mut archivist)?;
+    let stations = seating.stations(plan.stations);
     Ok(Ready {
         clerk: on_line_of(serving.path, clerk, stations)?,
         seating,
@@ -118,29 +120,51 @@ fn ready_office<'a, 'r, R: Runtime>(
     })
 }
 
+// Gives each counter its station, if the system grants the threads, and keeps that in the archive too.
+fn seat<'a, R: Runtime>(
+    rt: &R,
+    alloc: Global,
+    serving: &Serving<'a>,
+    next: u64,
+    plan: Plan,
+    archivist: &mut Archivist<'a, '_, R>,
+) -> Result<Seating<'a>, OfficeFault<'a>> {
+    let seating = Seating::begin(rt, alloc, serving, next)?;
+    let stations = seating.stations(plan.stations);
+    if !are_threads_granted(rt, alloc, stations, seating.seats.len())? {
+        return Err(OfficeFault::Threads);
+    }
+    archivist.learn(&seating)?;
+    Ok(seating)
+}
+
 // Keeps the office open until it is closed.
 fn keep_on<
     'a,
     R: Runtime,
     I: Read + Send + Drop + 'static,
     O: Write + Send + Drop + 'static,
+    L: Locks + Copy + Send + 'static,
     W: Write,
 >(
     rt: &R,
     alloc: Global,
     office: Ready<'a, '_, R>,
     counters: Vec<AnyCounter<I, O>>,
+    locks: L,
     output: &mut Output<'_, W>,
 ) -> Result<(), OfficeFault<'a>> {
+    let counters = seated(alloc, counters, &office.seating)?;
+    tell_opened(&office.clerk, output)?;
     let Ready {
         clerk,
         mut seating,
         archivist,
         moves,
     } = office;
-    tell_opened(&clerk, output)?;
-    let counters = seated(alloc, counters, &seating)?;
-    match keep_open(rt, alloc, clerk, counters, moves, archivist) {
+    let folders = seating.take_folders(alloc);
+    let clients = SeatedClients { locks, folders };
+    match keep_open(rt, alloc, clerk, counters, clients, moves, archivist) {
         Ok((closed, archivist)) => {
             let next = closed.clerk.next();
             let _device = end(closed, archivist, output)?;
@@ -202,7 +226,8 @@ fn open_counters<'a, R: Files<File = File>, I: Read + Drop, O: Write + Drop>(
     rt: &R,
     alloc: Global,
     serving: &Serving<'a>,
-    terminal: Terminal<I, O>,
+    input: I,
+    output: O,
 ) -> Result<Vec<AnyCounter<I, O>>, OfficeFault<'a>> {
     let mut counters = Vec::with_capacity(alloc, serving.counters.len())?;
     let mut opened = Vec::new(alloc);
@@ -210,17 +235,17 @@ fn open_counters<'a, R: Files<File = File>, I: Read + Drop, O: Write + Drop>(
         let counter = open_counter(rt, alloc, folder, serving.hello, &mut opened)?;
         counters.push(counter).or(Err(OfficeFault::Memory))?;
     }
-    if serving.terminal && counters.push(terminal_counter(alloc, terminal)).is_err() {
+    if serving.terminal
+        && counters
+            .push(terminal_counter(alloc, input, output))
+            .is_err()
+    {
         return Err(OfficeFault::Memory);
     }
     Ok(counters)
 }
 
-fn terminal_counter<I: Read, O: Write>(
-    alloc: Global,
-    terminal: Terminal<I, O>,
-) -> AnyCounter<I, O> {
-    let Terminal { input, output } = terminal;
+fn terminal_counter<I: Read, O: Write>(alloc: Global, input: I, output: O) -> AnyCounter<I, O> {
     Counter {
         station: 0,
         since: 0,

@@ -20,8 +20,9 @@ mod standing;
 
 pub use closing::close_office;
 pub use faults::{OfficeFault, PipeFault};
-pub use keeping::{SPAN, Terminal, serve, span_in_numbers};
+pub use keeping::{SPAN, Surroundings, serve, span_in_numbers};
 pub use live_office::REQUESTS;
+pub use locks::{FileLocks, Locks};
 pub use office_counters::{CountersFault, RosterFault, RosterPath};
 pub use pipes::{PipeRefusal, Side, open_pipe};
 pub use runtime::Runtime;

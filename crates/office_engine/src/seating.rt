@@ -1,5 +1,6 @@
 //! Which station each counter of an office has.
 use crate::faults::OfficeFault;
+use crate::locks::SeatedFolder;
 use crate::serving::Serving;
 use crate::standing::own_number;
 use live_office::Identity;
@@ -8,6 +9,7 @@ use office_counters::{
 };
 use std::alloc::{AllocError, Global};
 use std::fs::{File, Files};
+use std::mem;
 use std::time::Clock;
 
 /// The name of the terminal's counter.
@@ -21,6 +23,7 @@ pub(crate) struct Seating<'a> {
     roster: Roster,
     /// Those of the counters as they are asked for, and that of the terminal behind them.
     pub seats: Vec<u8>,
+    folders: Vec<SeatedFolder>,
 }
 
 impl<'a> Seating<'a> {
@@ -39,10 +42,12 @@ impl<'a> Seating<'a> {
             Ok(seats) => seats,
             Err(cause) => return Err(OfficeFault::of_counters(CountersFault { place, cause })),
         };
+        let folders = folders_of(alloc, serving, seats.as_slice())?;
         let seating = Seating {
             place,
             roster,
             seats,
+            folders,
         };
         seating.write(rt, alloc)?;
         Ok(seating)
@@ -68,6 +73,11 @@ impl<'a> Seating<'a> {
             }),
             None => Ok(Identity::nobody(alloc)),
         }
+    }
+
+    /// The folders of the counters, once.
+    pub(crate) fn take_folders(&mut self, alloc: Global) -> Vec<SeatedFolder> {
+        mem::replace(&mut self.folders, Vec::new(alloc))
     }
 
     /// Keeps the same counters in an archive.
@@ -149,4 +159,20 @@ fn seats_of(
         seats.push(roster.seat(alloc, TERMINAL)?)?;
     }
     Ok(seats)
+}
+
+// The folders of the counters that have these stations.
+fn folders_of(
+    alloc: Global,
+    serving: &Serving<'_>,
+    seats: &[u8],
+) -> Result<Vec<SeatedFolder>, AllocError> {
+    let mut folders = Vec::with_capacity(alloc, serving.counters.len())?;
+    for (counter, station) in serving.counters.iter().zip(seats.iter()) {
+        folders.push(SeatedFolder {
+            folder: counter.folder.to_owned(alloc)?,
+            station: *station,
+        })?;
+    }
+    Ok(folders)
 }

@@ -1,6 +1,6 @@
 //! Speaking at an office from outside, at one of its counters.
 use crate::faults::PipeFault;
-use crate::locks::{LockRefusal, lock_folder};
+use crate::locks::lock_folder;
 use crate::pipes::{PipeRefusal, Side, find_pipe};
 use script_streams::write_all;
 use std::alloc::Global;
@@ -29,7 +29,7 @@ pub enum ControlFault<'a> {
     /// The office was asked to close, and goes on.
     #[error("{0}: its office is still open")]
     StillOpen(&'a str),
-    /// The office was asked how it stands, and closes, or can't read its ledger.
+    /// The office was asked how it stands, and closes.
     #[error("{0}: its office doesn't tell")]
     Untold(&'a str),
 }
@@ -55,15 +55,11 @@ impl<'a> Speaker<'a> {
         if !is_held(&pipe, folder)? {
             return Err(ControlFault::NotOpen(folder));
         }
-        match lock_folder(rt, alloc, folder) {
-            Ok(lock) => Ok(Speaker {
-                folder,
-                pipe,
-                _lock: lock,
-            }),
-            Err(LockRefusal::Taken) => Err(ControlFault::Taken(folder)),
-            Err(LockRefusal::Unlocked) => Err(ControlFault::NoLock(folder)),
-        }
+        Ok(Speaker {
+            folder,
+            pipe,
+            _lock: lock_folder(rt, alloc, folder)?,
+        })
     }
 
     /// Says these lines.

@@ -21,7 +21,7 @@ use ledger_inspection::{
     inspect_file,
 };
 use office_counters::{RosterPath, is_disk, remove_roster, take_along};
-use office_engine::{Runtime, Serving, Terminal, ask_standing, close_office, serve};
+use office_engine::{Locks, Runtime, Serving, Surroundings, ask_standing, close_office, serve};
 use script_streams::Watched;
 use std::alloc::{Alloc, AllocError, Global};
 use std::fmt;
@@ -30,20 +30,21 @@ use std::io::{Read, Write};
 use std::time::Clock;
 
 /// Runs the program and gives its status, as [`Status::code`] has it. The first of the words is the program's name. A
-/// script, and what the terminal of an office says, come from the terminal's input. Answers go to the writer, what is
+/// script, and what the terminal of an office says, come from the input of the surroundings. Answers go to the writer, what is
 /// told of faults and wrong words to `errors`, of which a fault is ignored; so does the progress of long work, if it is
 /// to be shown. The call may wait.
 pub fn run_derbyfig<
     R: Runtime,
     I: Read + Send + Drop + 'static,
     O: Write + Send + Drop + 'static,
+    L: Locks + Copy + Send + 'static,
     W: Write,
     E: Write,
 >(
     rt: &R,
     alloc: Global,
     words: &[&str],
-    mut terminal: Terminal<I, O>,
+    mut surroundings: Surroundings<I, O, L>,
     writer: &mut W,
     errors: &mut E,
     shows_progress: bool,
@@ -57,11 +58,11 @@ pub fn run_derbyfig<
     let mut doing = Doing { rt, alloc, writer };
     let status = match request {
         Request::Run(running) => {
-            let run = run_on_device(rt, alloc, running, &mut terminal.input, doing.writer);
+            let run = run_on_device(rt, alloc, running, &mut surroundings.input, doing.writer);
             ended(alloc, run, errors)
         }
         Request::Serve(serving) => {
-            serve_counters(rt, alloc, &serving, terminal, doing.writer, errors)
+            serve_counters(rt, alloc, &serving, surroundings, doing.writer, errors)
         }
         Request::Inspect(wish) => {
             let is_check = matches!(wish.task, Task::Check { .. });
@@ -118,13 +119,14 @@ fn serve_counters<
     R: Runtime,
     I: Read + Send + Drop + 'static,
     O: Write + Send + Drop + 'static,
+    L: Locks + Copy + Send + 'static,
     W: Write,
     E: Write,
 >(
     rt: &R,
     alloc: Global,
     serving: &Serving<'_>,
-    terminal: Terminal<I, O>,
+    surroundings: Surroundings<I, O, L>,
     writer: &mut W,
     errors: &mut E,
 ) -> Status {
@@ -132,7 +134,7 @@ fn serve_counters<
         Ok(plan) => plan,
         Err(wrong) => return tell_wrong(alloc, wrong, errors),
     };
-    let served = serve(rt, alloc, serving, plan, terminal, writer);
+    let served = serve(rt, alloc, serving, plan, surroundings, writer);
     ended(alloc, served.map_err(Fault::from), errors)
 }
 

@@ -11,7 +11,7 @@ use crate::telling::{OUT_OF_MEMORY, fail};
 use crate::{console_program, derbyfig};
 use clap::error::ErrorKind;
 use clap::{Command, Error};
-use office_engine::{Runtime, Terminal};
+use office_engine::{Locks, Runtime, Surroundings};
 use std::alloc::{Alloc, AllocError, Global};
 use std::env::Env;
 use std::fs::{File, Files};
@@ -58,13 +58,14 @@ pub fn run_derbyfig_words<
     R: Runtime,
     I: Read + Send + Drop + 'static,
     O: Write + Send + Drop + 'static,
+    L: Locks + Copy + Send + 'static,
     W: Write,
     E: Write,
 >(
     rt: &R,
     alloc: Global,
     given: io::Result<Vec<String>>,
-    terminal: Terminal<I, O>,
+    surroundings: Surroundings<I, O, L>,
     writer: &mut W,
     errors: &mut E,
     shows_progress: bool,
@@ -76,7 +77,15 @@ pub fn run_derbyfig_words<
         Ok(words) => match as_texts(alloc, &words) {
             Ok(texts) => {
                 let texts = texts.as_slice();
-                run_derbyfig(rt, alloc, texts, terminal, writer, errors, shows_progress)
+                run_derbyfig(
+                    rt,
+                    alloc,
+                    texts,
+                    surroundings,
+                    writer,
+                    errors,
+                    shows_progress,
+                )
             }
             Err(_) => fail(alloc, OUT_OF_MEMORY, errors).code(),
         },

@@ -36,7 +36,7 @@ pub use ledger_file::{DeviceRefusal, DiskFault, FileFault, Formatting, LedgerRef
 pub use ledger_inspection::{
     BookInspection, BookTask, Date, Format, Inspection, JournalWish, Locking, Selection, Task,
 };
-pub use office_engine::{Serving, Terminal};
+pub use office_engine::{FileLocks, Serving, Surroundings};
 pub use request::{Copying, OlderLedger, Origin, Request, Running, ScriptFile};
 pub use running::run_on_device;
 pub use status::Status;

@@ -211,7 +211,7 @@ impl Session {
         self.out_of_sight = None;
         let in_archive = match came {
             Came::Last(seen) => seen,
-            Came::Archive(_) | Came::Copy(_) | Came::Standing(_) => None,
+            Came::Archive(_) | Came::Copy(_) => None,
         };
         Some(Ok(farther(since, in_archive)))
     }

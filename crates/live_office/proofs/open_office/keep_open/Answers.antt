@@ -38,7 +38,7 @@ returns-in-Ok-settled-clause-kept g c =
     let new = c.in-Ok-ended.feeds.items in
     let are : new ≡ feeds c.join.result.items = c.in-Ok-ended.ensures.feeds in
     let last : span_of life.clerk life.audit ≡ span_of closed.clerk closed.audit = λ i. span_of (sym told.clerk i) (sym told.audit i) in
-    let many = c.in-Ok.ensures.as_many ∙ c.stations.ensures.count ∙ ap stations c.line.ensures in
+    let many = c.in-Ok.ensures.as_many ∙ c.stations-stations.ensures.count ∙ ap stations c.line.ensures in
     let fed : length new ≡ length begun.desks.items =
     ap length are ∙ c.join.ensures.as_many ∙ sym (AllZip-long AreTogether old begun.desks.items c.in-Ok.ensures.together) in
     let over : AllZip IsOver new closed.conversations.items =
