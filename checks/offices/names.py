@@ -192,7 +192,7 @@ def loses_its_name(case):
             office.opened(one)
             require_same(one.ask("deposit 1 5"), ["posted 0 0"], "a posting")
             path.rename(aside)
-            one.say(b"status\n")
+            one.say(b"archive\n")
             require_same(office.status(), 3, f"the end, {office.all_said()}")
             require(office.told()[0].startswith(f"{path}: it isn't there any more"), f"{office.told()} is told")
         aside.rename(path)
