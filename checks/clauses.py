@@ -13,7 +13,7 @@ MOST_OVER_THE_PAGE = 20
 NEVER_OVER = 120
 PROOFS_NEVER_OVER = 200
 
-OF_TESTS = re.compile(r"\w+_tests|library_examples|test_scenes|call_words|call_console")
+OF_TESTS = re.compile(r"\w+_tests|library_examples|call_console")
 FUNCTION = re.compile(r"(\s*)(pub (?!\()|pub\([\w: ]+\) )?(?:const )?(?:unsafe )?fn (\w+)")
 OWNER = re.compile(r"(?:pub )?(?:unsafe )?(?:impl|trait)\b")
 PROMISES_OF_A_TRAIT = re.compile(r"(?:pub )?(?:unsafe )?(?:trait\b|impl\b.* for )")

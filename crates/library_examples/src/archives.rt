@@ -1,5 +1,6 @@
 //! Archives of a ledger with many records.
 use crate::listings::listing_of;
+use crate::scenes::deposit;
 use gate_journal::{Filling, Record, Snapshot, sectors_needed};
 use ledger_archive::{add, follow};
 use ledger_reading::{Listing, Sound, look};
@@ -7,7 +8,6 @@ use sector_device::{Device, MemoryDevice};
 use std::alloc::Global;
 use std::process::Abort;
 use std::test::Fail;
-use test_scenes::deposit;
 
 // The records of the ledger, and how many of them the first archive takes.
 const RECORDS: u64 = 3000;

@@ -1,6 +1,7 @@
 //! Threads at once: a station gathers while another one's sync is under way.
 
 use crate::runs::{feeds_and_desks, played};
+use crate::scenes::{deposit, formatted};
 use crate::waiting::{TRIES, wait_for};
 use fault_injector::{Held, HeldFlags};
 use station_desk::{Errand, Gate, Outcome};
@@ -9,7 +10,6 @@ use std::sync::atomic::{AtomicBool, AtomicU64, Ordering};
 use std::sync::{Arc, Wait};
 use std::test::Fail;
 use std::thread::yield_now;
-use test_scenes::{deposit, formatted};
 
 // How often the gate looks at most, once the sync has its leave. It lets other threads run each time, which a busy
 // machine needs.

@@ -1,14 +1,14 @@
 //! What is told if somebody else writes the device between two readings.
 use crate::opened::opened;
+use crate::scenes::{
+    FIRST, Image, LAYOUT_1, LAYOUT_3, Layout, Live, Rewritten, ZERO, body_of, deposit, second,
+    sectors_needed, withdrawal,
+};
 use journal_recovery::{Cause, MigrateRefusal, OpenRefusal, migrate};
 use ledger_reading::{ReadRefusal, look};
 use sector_device::{MemoryDevice, Sector};
 use std::alloc::Global;
 use std::test::Fail;
-use test_scenes::{
-    FIRST, Image, LAYOUT_1, LAYOUT_3, Layout, Live, Rewritten, ZERO, body_of, deposit, second,
-    sectors_needed, withdrawal,
-};
 use turn_clerk::{Entry, FindRefusal, Found};
 
 // Three records of station 0 in four slots of layout 1, each a deposit of 5 to account 1. Slot k has its body in sector

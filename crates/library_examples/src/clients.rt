@@ -1,12 +1,12 @@
 //! Clients that submit and collect while the stations take turns.
 use crate::runs::{PLACES, Remains, feeds_and_desks, played};
+use crate::scenes::{deposit, formatted};
 use crate::waiting::TRIES;
 use station_desk::{End, Errand, Feed, Gate, Outcome, Turn};
 use std::sync::Wait;
 use std::sync::atomic::{AtomicBool, AtomicU64, Ordering};
 use std::test::Fail;
 use std::thread::{Parker, Threads, join, yield_now};
-use test_scenes::{deposit, formatted};
 
 const REQUESTS: u64 = 200;
 

@@ -3,6 +3,7 @@ ghost use Rattle.sector_device.specs.MemoryDevice.{memory_device_state};
 ghost use Rattle.journal_recovery.specs.State.{State};
 ghost use Rattle.line_lock.specs.OpenedOn.{Names};
 
+use crate::scenes::{deposit, formatted, line};
 use line_lock::{Blank, CloseRefusal, Closing, Count, Line, Office, OpenedOn, Seat};
 use sector_device::MemoryDevice;
 use std::alloc::Global;
@@ -10,7 +11,6 @@ use std::marker::Brand;
 use std::process::Abort;
 use std::sync::Wait;
 use std::test::Fail;
-use test_scenes::{deposit, formatted, line};
 
 // Opens an office of two stations on an empty journal, and closes it twice, or not at all.
 fn act<R: Abort + Wait>(rt: &R, alloc: Global, closes: bool) -> Result<(), Fail> {

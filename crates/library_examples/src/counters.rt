@@ -1,4 +1,5 @@
 //! An office in memory that stays open for one counter, whose lines are written out and whose answers come by a pipe.
+use crate::scenes::{formatted, line};
 use live_office::{
     Clients, Closed, Counter, CounterCopyRefusal, Identity, Keeper, Kept, Kind, Seen, keep_open,
 };
@@ -12,7 +13,6 @@ use std::sync::Wait;
 use std::test::Fail;
 use std::thread::Threads;
 use std::time::Clock;
-use test_scenes::{formatted, line};
 use turn_clerk::Clerk;
 
 // Who keeps no archive, and makes one copy.

@@ -1,9 +1,9 @@
 //! A day of two stations that each hold a deposit.
+use crate::scenes::{deposit, formatted, line};
 use office_day::{Ask, Day, End, HeldEntries, Outcome, StationDay, run_day};
 use sector_device::MemoryDevice;
 use std::alloc::Global;
 use std::test::Fail;
-use test_scenes::{deposit, formatted, line};
 
 // How often a station that isn't privileged tries again, at most.
 const TRIES: u64 = 100_000_000;

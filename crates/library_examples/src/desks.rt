@@ -1,9 +1,9 @@
 //! The two sides of a desk: a feed at which a client asks, and the desk from which a station answers.
 use crate::clerks::opened;
+use crate::scenes::{deposit, line, withdrawal};
 use sector_device::MemoryDevice;
 use station_desk::{Answer, Desk, Entry, EntryRefusal, Feed, Outcome, TurnRefusal, desk};
 use std::test::Fail;
-use test_scenes::{deposit, line, withdrawal};
 use turn_clerk::Clerk;
 
 fn answer(ticket: u64, entry: Entry, outcome: Outcome) -> Answer {

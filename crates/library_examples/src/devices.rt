@@ -1,7 +1,7 @@
 //! What a power loss takes.
+use crate::scenes::{ZERO, has_sectors, put_sectors};
 use sector_device::{Device, MemoryDevice, Picks, SECTOR, Sector};
 use std::test::Fail;
-use test_scenes::{ZERO, has_sectors, put_sectors};
 
 const OLD: Sector = [7; SECTOR];
 

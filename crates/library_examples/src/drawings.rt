@@ -1,11 +1,11 @@
 //! Where damage is found: heads of banks, in the present layout. The device is written by the tables of the formats,
 //! and in no word of the library.
+use crate::scenes::{Image, LAYOUT_3};
 use device_drawing::{Place, locate};
 use journal_recovery::{Cause, OpenRefusal, recover};
 use sector_device::{Device, MemoryDevice, SECTOR};
 use std::alloc::Global;
 use std::test::Fail;
-use test_scenes::{Image, LAYOUT_3};
 
 /// A byte that is changed: its sector, its number there, and what it becomes.
 type Change = (u64, usize, u8);

@@ -61,6 +61,8 @@ mod refusals;
 #[cfg(test)]
 mod runs;
 #[cfg(test)]
+mod scenes;
+#[cfg(test)]
 mod scripts;
 #[cfg(test)]
 mod streams;

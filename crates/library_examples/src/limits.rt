@@ -2,10 +2,10 @@
 ghost use Rattle.file_device.specs.RealFile.{unknown_sectors};
 
 use crate::opened::found_on;
+use crate::scenes::{ZERO, body_of, deposit, head, open_gate, superblock};
 use gate_journal::format;
 use sector_device::{Device, DeviceFault, Sector};
 use std::test::Fail;
-use test_scenes::{ZERO, body_of, deposit, head, open_gate, superblock};
 
 // A device of so many sectors: a journal with 1,000,000 slots in each bank and one record, and behind its gate zeros
 // alone. It counts what is written, and keeps nothing of it.

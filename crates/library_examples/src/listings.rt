@@ -1,9 +1,9 @@
 //! What is listed of a ledger.
+use crate::scenes::{Image, LAYOUT_3, deposit, seal, transfer, withdrawal};
 use ledger_reading::{Entry, Listed, Listing, ReadRefusal, Sound, look};
 use sector_device::{Device, MemoryDevice};
 use std::alloc::Global;
 use std::test::Fail;
-use test_scenes::{Image, LAYOUT_3, deposit, seal, transfer, withdrawal};
 
 // A device of layout 3 with two slots in each bank, whose snapshot has so much in account 1, and these records.
 fn with_records(

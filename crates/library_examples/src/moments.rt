@@ -1,5 +1,6 @@
 //! What a station does when, as a gate sees it.
 use crate::runs::{Remains, feeds_and_desks, played};
+use crate::scenes::{deposit, formatted};
 use crate::waiting::{TRIES, wait_for};
 use station_desk::{End, Feed, Gate, Turn};
 use std::alloc::Global;
@@ -8,7 +9,6 @@ use std::sync::atomic::{AtomicU64, Ordering};
 use std::sync::{Mutex, Wait};
 use std::test::Fail;
 use std::thread::Threads;
-use test_scenes::{deposit, formatted};
 
 // Stands at the feed of the bottom station: submits one more deposit each time that this station has gathered, and
 // counts the answers that it finds then and when it is told of a turn, or else when the station has answered.

@@ -1,4 +1,5 @@
 //! An office that is opened, takes two turns and is closed: what its seats are answered.
+use crate::scenes::{deposit, formatted, line};
 use line_lock::{
     BalanceRefusal, Closing, Count, Found, Office, OfficeWork, OpenedOn, Rule, Seat, ToldBalance,
     Turn, TurnRefusal, WithinRefusal, with_office,
@@ -8,7 +9,6 @@ use std::alloc::Global;
 use std::process::Abort;
 use std::sync::Wait;
 use std::test::Fail;
-use test_scenes::{deposit, formatted, line};
 
 // Two turns, which are the answer, and what the seats are told before, between and after them.
 #[derive(Drop)]

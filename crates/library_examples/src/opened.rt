@@ -1,9 +1,9 @@
 //! Clerks on devices, and what devices recover to.
+use crate::scenes::line;
 use journal_recovery::{Recovered, recover};
 use sector_device::Device;
 use std::alloc::Global;
 use std::test::Fail;
-use test_scenes::line;
 use turn_clerk::Clerk;
 
 // A clerk on the device, with a line of two stations.

@@ -1,20 +1,13 @@
-//! The text of every refusal, as a person reads it.
+//! The text of each refusal that no call of the console tells: what it tells, `checks/calls/refusal_texts.py` lists.
 use file_device::{DeviceRefusal, DiskFault, FileFault, FileRefusal};
-use four_state::LineRefusal;
-use gate_journal::{
-    AppendRefusal, CheckpointRefusal, FormatRefusal, JournalCause, JournalRefusal, ReadRefusal,
-    SnapshotRefusal,
-};
-use journal_recovery::{Cause, MigrateRefusal, OpenRefusal};
-use ledger_archive::{AddRefusal, FollowRefusal};
+use gate_journal::{FormatRefusal, ReadRefusal};
+use journal_recovery::{MigrateRefusal, OpenRefusal};
+use ledger_archive::FollowRefusal;
 use ledger_file::{CopyRefusal, HeldFault, LedgerRefusal, PartFault};
-use line_lock::{BalanceRefusal, OfficeRefusal, WithinRefusal};
 use office_day::{CloseRefusal, DayRefusal, End, EndName};
-use sector_device::DeviceFault;
 use std::alloc::Global;
 use std::fmt::{Display, Write};
-use sweep_auditor::AuditRefusal;
-use turn_clerk::{EntryRefusal, FindRefusal, TurnRefusal};
+use turn_clerk::{FindRefusal, TurnRefusal};
 
 // Whether the texts of these refusals are these lines.
 fn reads<T: Display>(alloc: Global, refusals: &[T], lines: &str) -> bool {
@@ -27,131 +20,20 @@ fn reads<T: Display>(alloc: Global, refusals: &[T], lines: &str) -> bool {
     told.as_str() == lines
 }
 
-fn damaged(cause: JournalCause) -> JournalRefusal {
-    JournalRefusal::Damaged { slot: 3, cause }
-}
-
+// A seat of another office, and a record that somebody else wrote over.
 #[test]
-fn refusals_of_journals_have_texts(rt: HostRuntime) {
+fn refusals_that_no_call_tells_have_texts(rt: HostRuntime) {
     let alloc = rt.alloc();
-    let refusals = [
-        JournalRefusal::Unformatted,
-        JournalRefusal::Version(9),
-        JournalRefusal::Size,
-        damaged(JournalCause::Header),
-        damaged(JournalCause::Sequence),
-        damaged(JournalCause::Tail),
-        damaged(JournalCause::Bank),
-        JournalRefusal::Device,
-    ];
-    let lines = "the device is not formatted\n\
-        the device has version 9\n\
-        the number of slots is wrong for the device\n\
-        damage at 3: the slot's body is no record\n\
-        damage at 3: the slot's record has another sequence\n\
-        damage at 3: the slot is open behind a closed one\n\
-        damage at 3: no bank is live, or the one of this number isn't sound\n\
-        the device failed\n";
-    let told = reads(alloc, &refusals, lines);
-    assert!(rt; told && reads(alloc, &[DeviceFault], "the device failed\n"));
-}
-
-#[test]
-fn refusals_of_calls_of_a_journal_have_texts(rt: HostRuntime) {
-    use AppendRefusal::*;
-    let alloc = rt.alloc();
-    let lines = "the journal has met a device fault and must be opened again\n\
-        there are no more sequence numbers\n\
-        each slot of the live bank holds a record\n\
-        the device failed\n";
-    let told = reads(alloc, &[Faulted, Exhausted, Full, Device], lines);
-    let refusals = [
-        CheckpointRefusal::Faulted,
-        CheckpointRefusal::Exhausted,
-        CheckpointRefusal::Device,
-    ];
-    let lines = "the journal has met a device fault and must be opened again\n\
-        there are no more epochs\n\
-        the device failed\n";
-    let told = told && reads(alloc, &refusals, lines);
-    let refusals = [SnapshotRefusal::Marks, SnapshotRefusal::Device];
-    let lines = "the marks have a byte that isn't zero\n\
-        the device failed\n";
-    assert!(rt; told && reads(alloc, &refusals, lines));
-}
-
-fn day_damaged(cause: Cause) -> DayRefusal {
-    DayRefusal::Opening(OpenRefusal::Damaged { slot: 3, cause })
-}
-
-// A day's refusals tell those of recovery and of closing.
-#[test]
-fn refusals_of_recovery_and_of_a_day_have_texts(rt: HostRuntime) {
-    use DayRefusal::*;
-    let refusals = [
-        Memory,
-        Closing(CloseRefusal::SeatMissing),
-        Closing(CloseRefusal::ForeignSeat),
-        Opening(OpenRefusal::Memory),
-        Opening(OpenRefusal::Unformatted),
-        Opening(OpenRefusal::Version(9)),
-        Opening(OpenRefusal::Size),
-        day_damaged(Cause::Header),
-        day_damaged(Cause::Sequence),
-        day_damaged(Cause::Tail),
-        day_damaged(Cause::Bank),
-        day_damaged(Cause::Entry(14)),
-        day_damaged(Cause::Verdict(0)),
-        Opening(OpenRefusal::Device),
-    ];
-    let lines = "out of memory\n\
-        the seat of a station is missing\n\
-        a seat does not belong to this office\n\
-        out of memory\n\
-        it holds no ledger\n\
-        its ledger has version 9, which isn't known\n\
-        its number of slots is out of range, or it is too short for them\n\
-        damage at 3: the body of an open slot is no record\n\
-        damage at 3: the record of a slot has another sequence number\n\
-        damage at 3: a slot is open behind a closed one\n\
-        damage at 3: a bank isn't sound, or none is live\n\
-        damage at 3: place 14 of a record is no entry\n\
-        damage at 3: the entry at place 0 of a record breaks a rule of the ledger\n\
-        it can't be read\n";
-    assert!(rt; reads(rt.alloc(), &refusals, lines));
-}
-
-fn turn(refusal: TurnRefusal) -> OfficeRefusal<WithinRefusal> {
-    OfficeRefusal::Work(WithinRefusal::Turn(refusal))
-}
-
-// An office's refusals tell those of an opening, of a turn within a limit, and of closing.
-#[test]
-fn refusals_of_an_office_have_texts(rt: HostRuntime) {
-    use OfficeRefusal::*;
-    let refusals = [
-        Opening(OpenRefusal::Size),
-        Closing(CloseRefusal::SeatMissing),
-        Work(WithinRefusal::Reached),
-        turn(TurnRefusal::Faulted),
-        turn(TurnRefusal::NoStation),
-        turn(TurnRefusal::NotPrivileged),
-        turn(TurnRefusal::TooMany),
-        turn(TurnRefusal::Memory),
-        turn(TurnRefusal::Exhausted),
-        turn(TurnRefusal::Device),
-    ];
-    let lines = "its number of slots is out of range, or it is too short for them\n\
-        the seat of a station is missing\n\
-        the limit of turns is reached\n\
-        a device fault was met and the device must be opened again\n\
-        there is no such station\n\
-        it is not the station's turn\n\
-        more entries than a batch holds\n\
-        out of memory\n\
-        there are no more sequence numbers or epochs\n\
-        the device failed\n";
-    assert!(rt; reads(rt.alloc(), &refusals, lines));
+    let foreign = [DayRefusal::Closing(CloseRefusal::ForeignSeat)];
+    let told = reads(alloc, &foreign, "a seat does not belong to this office\n")
+        && reads(
+            alloc,
+            &[FindRefusal::Changed],
+            "the record is no longer there\n",
+        );
+    let lines = "the ledger wasn't read: the record is no longer there\n";
+    let changed = [FollowRefusal::Ledger(ReadRefusal::Changed)];
+    assert!(rt; told && reads(alloc, &changed, lines));
 }
 
 // What a script prints of a day's stations.
@@ -168,74 +50,6 @@ fn ends_of_stations_have_names(rt: HostRuntime) {
     ];
     let lines = "NotStarted\nReached\nStopped\nTries\nClosed\nExhausted\nDevice\n";
     assert!(rt; reads(rt.alloc(), &ends, lines));
-}
-
-#[test]
-fn refusals_of_entries_and_questions_have_texts(rt: HostRuntime) {
-    use EntryRefusal::*;
-    let alloc = rt.alloc();
-    let refusals = [ZeroAmount, NoAccount, SameAccount, Short, OverLimit, Sealed];
-    let lines = "the amount is zero\n\
-        there is no such account\n\
-        a transfer needs two accounts\n\
-        the account holds too little\n\
-        the total of all accounts would pass its limit\n\
-        the account is sealed\n";
-    let told = reads(alloc, &refusals, lines);
-    let refusals = [
-        FindRefusal::Faulted,
-        FindRefusal::Changed,
-        FindRefusal::Device,
-    ];
-    let lines = "a device fault was met and the device must be opened again\n\
-        the record is no longer there\n\
-        the device failed\n";
-    let told = told && reads(alloc, &refusals, lines);
-    let refusals = [BalanceRefusal::Faulted, BalanceRefusal::NoAccount];
-    let lines = "a device fault was met and the device must be opened again\n\
-        there is no such account\n";
-    assert!(rt; told && reads(alloc, &refusals, lines));
-}
-
-#[test]
-fn refusals_of_lines_have_texts(rt: HostRuntime) {
-    let alloc = rt.alloc();
-    let refusals = [LineRefusal::Stations, LineRefusal::Length];
-    let lines = "a line has 2 to 64 stations\n\
-        each list of bits has one bit for each station\n";
-    let told = reads(alloc, &refusals, lines);
-    let refusals = [AuditRefusal::NotEnabled { index: 7 }];
-    let lines = "the station of move 7 may not move by its rule there\n";
-    assert!(rt; told && reads(alloc, &refusals, lines));
-}
-
-#[test]
-fn refusals_of_archives_have_texts(rt: HostRuntime) {
-    let alloc = rt.alloc();
-    let refusals = [
-        FollowRefusal::Gap,
-        FollowRefusal::Short,
-        FollowRefusal::Ledger(ReadRefusal::Changed),
-        FollowRefusal::Ledger(ReadRefusal::Device),
-        FollowRefusal::Differs,
-    ];
-    let lines = "records between are lost\n\
-        it ends before the archive does\n\
-        the ledger wasn't read: the record is no longer there\n\
-        the ledger wasn't read: the device failed\n\
-        it held something else where the archive ends\n";
-    let told = reads(alloc, &refusals, lines);
-    let refusals = [
-        AddRefusal::TooManySlots,
-        AddRefusal::TooSmall,
-        AddRefusal::Ledger(ReadRefusal::Device),
-        AddRefusal::Target,
-    ];
-    let lines = "a bank has at most 1000000 slots\n\
-        the new device has too few sectors for the slots\n\
-        the ledger wasn't read: the device failed\n\
-        the new device failed\n";
-    assert!(rt; told && reads(alloc, &refusals, lines));
 }
 
 fn file(fault: FileFault) -> LedgerRefusal {

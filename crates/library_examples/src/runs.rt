@@ -1,4 +1,5 @@
 //! A run of the two stations of an office, with a gate that a test gives.
+use crate::scenes::line;
 use line_lock::Turn;
 use office_day::{Closing, Left, run_office};
 use sector_device::Device;
@@ -8,7 +9,6 @@ use std::process::Abort;
 use std::sync::Wait;
 use std::test::Fail;
 use std::thread::Threads;
-use test_scenes::line;
 
 // How many requests a feed has room for.
 pub const PLACES: u64 = 4;

@@ -3,7 +3,7 @@ use denote.Param.Send.{IsSync, sendable}
 use Rattle.std.proofs.Crossing.{crosses}
 use Rattle.line_lock.specs.contracts.office.Office as office
 use Rattle.line_lock.proofs.Sharing.{office_sync}
-use Rattle.call_words.proofs.callers.take_all_turns.Goals as goal
+use Rattle.call_console.proofs.callers.take_all_turns.Goals as goal
 
 pub for_each_mut-requires-sync-F : goal.for_each_mut-requires-sync-F
 for_each_mut-requires-sync-F g c κs within =

@@ -1,6 +1,6 @@
 //! Devices in memory that are written sector by sector.
-use crate::bytes::{balances, body_of, head, open_gate, superblock};
-use crate::places::Layout;
+use crate::scenes::bytes::{balances, body_of, head, open_gate, superblock};
+use crate::scenes::places::Layout;
 use sector_device::{Device, MemoryDevice, Sector};
 use std::alloc::Global;
 use std::test::Fail;

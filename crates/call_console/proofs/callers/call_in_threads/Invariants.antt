@@ -1,6 +1,6 @@
 use Rattle.sector_device.specs.MemoryDevice.{memory_device_state}
 use Rattle.sector_device.specs.Wrapped.{with_failures}
-use Rattle.call_words.proofs.callers.call_in_threads.Given as goal
+use Rattle.call_console.proofs.callers.call_in_threads.Given as goal
 
 abbrev pub ghosts-call_in-L-Ledger : goal.ghosts-call_in-L-Ledger
 ghosts-call_in-L-Ledger g a = record { name = a.blank.name; parts = a.blank.parts }

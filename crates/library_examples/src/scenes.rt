@@ -5,8 +5,7 @@
 //! test is used for that, so a test that compares the two can find an error in either. `places` says where sectors
 //! stand, `bytes` writes each kind of sector, and `images` whole ledgers.
 //!
-//! It is for the crates of tests alone, and has no tests of its own.
-#![tactic(auto)]
+//! It has no tests of its own.
 
 mod bytes;
 mod devices;
