@@ -1,6 +1,6 @@
-//! A console for tests: a line asks for one public call of the library, and what the call answers is printed. But for the
-//! words in an office and the three calls of a device, no word has a type parameter, so that it is proved once, as it is
-//! compiled.
+//! A console for tests: a line asks for one public call of the library, and what the call answers is printed. But for
+//! the words in an office and the three calls of a device, no word has a type parameter, so that it is proved once, as
+//! it is compiled.
 //!
 //! A [`Console`] has a device, or what stands on it, in hand. A word that isn't one of that is told, and changes
 //! nothing. What a call requires is asked first.

@@ -30,9 +30,9 @@ use std::io::{Read, Write};
 use std::time::Clock;
 
 /// Runs the program and gives its status, as [`Status::code`] has it. The first of the words is the program's name. A
-/// script, and what the terminal of an office says, come from the input of the surroundings. Answers go to the writer, what is
-/// told of faults and wrong words to `errors`, of which a fault is ignored; so does the progress of long work, if it is
-/// to be shown. The call may wait.
+/// script, and what the terminal of an office says, come from the input of the surroundings. Answers go to the writer,
+/// what is told of faults and wrong words to `errors`, of which a fault is ignored; so does the progress of long work,
+/// if it is to be shown. The call may wait.
 pub fn run_derbyfig<
     R: Runtime,
     I: Read + Send + Drop + 'static,
