@@ -67,7 +67,6 @@ TEXTS = {
         "it ends before the archive does",
         "the ledger wasn't read: the device failed",
         "it held something else where the archive ends",
-        "a bank has at most 1000000 slots",
         "the new device has too few sectors for the slots",
         "the new device failed",
     ),

@@ -2,7 +2,7 @@
 use file_device::{DeviceRefusal, DiskFault, FileFault, FileRefusal};
 use gate_journal::{FormatRefusal, ReadRefusal};
 use journal_recovery::{MigrateRefusal, OpenRefusal};
-use ledger_archive::FollowRefusal;
+use ledger_archive::{AddRefusal, FollowRefusal};
 use ledger_file::{CopyRefusal, HeldFault, LedgerRefusal, PartFault};
 use office_day::{CloseRefusal, DayRefusal, End, EndName};
 use std::alloc::Global;
@@ -20,20 +20,30 @@ fn reads<T: Display>(alloc: Global, refusals: &[T], lines: &str) -> bool {
     told.as_str() == lines
 }
 
-// A seat of another office, and a record that somebody else wrote over.
+// Want of memory, a seat of another office, a record that somebody else wrote over, and more records than a bank holds.
 #[test]
 fn refusals_that_no_call_tells_have_texts(rt: HostRuntime) {
     let alloc = rt.alloc();
-    let foreign = [DayRefusal::Closing(CloseRefusal::ForeignSeat)];
-    let told = reads(alloc, &foreign, "a seat does not belong to this office\n")
+    let refusals = [
+        DayRefusal::Memory,
+        DayRefusal::Opening(OpenRefusal::Memory),
+        DayRefusal::Closing(CloseRefusal::ForeignSeat),
+    ];
+    let lines = "out of memory\nout of memory\na seat does not belong to this office\n";
+    let told = reads(alloc, &refusals, lines)
+        && reads(alloc, &[TurnRefusal::Memory], "out of memory\n")
         && reads(
             alloc,
             &[FindRefusal::Changed],
             "the record is no longer there\n",
         );
-    let lines = "the ledger wasn't read: the record is no longer there\n";
     let changed = [FollowRefusal::Ledger(ReadRefusal::Changed)];
-    assert!(rt; told && reads(alloc, &changed, lines));
+    let lines = "the ledger wasn't read: the record is no longer there\n";
+    let many = [AddRefusal::TooManySlots];
+    assert!(rt;
+        told && reads(alloc, &changed, lines)
+            && reads(alloc, &many, "a bank has at most 1000000 slots\n")
+    );
 }
 
 // What a script prints of a day's stations.
