@@ -8,7 +8,7 @@ from office import require, require_same
 POSTINGS = 150
 
 CALL = re.compile(r"\d+ +(?P<name>\w+)\((?P<words>.*)")
-RESUMED = re.compile(r"\d+ +<\.\.\. \w+ resumed>")
+RESUMED = re.compile(r"\d+ +<\.\.\. \w+ resumed>(?P<words>.*)")
 TEXT = re.compile(r'"((?:[^"\\]|\\.)*)"')
 
 

@@ -4,6 +4,7 @@ import dataclasses
 import re
 
 from office import require, require_same
+from order import CALL, RESUMED
 
 # A span has so many turns, and a turn so many entries at most.
 SPAN = 5_000
@@ -14,8 +15,6 @@ ENTRIES = 15
 BATCHES = 500
 SLOTS = 4_000
 
-CALL = re.compile(r"(?P<thread>\d+) +(?P<name>\w+)\((?P<words>.*)")
-RESUMED = re.compile(r"(?P<thread>\d+) +<\.\.\. \w+ resumed>(?P<words>.*)")
 READ = re.compile(r", (?P<at>\d+)\) += (?P<count>\d+)$")
 
 
@@ -30,14 +29,15 @@ class Reads:
     def traced(cls, device, lines):
         reads, where, under_way = cls([], []), "opening", {}
         for line in lines:
+            thread = line.split()[0]
             if resumed := RESUMED.match(line):
-                words = under_way.pop(resumed["thread"], "") + resumed["words"]
+                words = under_way.pop(thread, "") + resumed["words"]
             elif call := CALL.match(line):
                 if call["name"] == "write" and '"opened ' in call["words"]:
                     where = "open"
                 words = call["words"] if call["name"] == "pread64" else ""
                 if words.endswith("<unfinished ...>"):
-                    under_way[call["thread"]] = words
+                    under_way[thread] = words
                     continue
             else:
                 continue
