@@ -1,71 +1,98 @@
-//! Looks at a ledger, and prints it or tells what is wrong with it.
-ghost use Rattle.std.specs.Prelude.{◌≡◌, true, false, IfErr, OnOk};
+//! Looks at ledgers, and prints them or tells what is wrong with them.
+ghost use Rattle.std.specs.Prelude.{◌≡◌, true, IfErr, OnOk};
 ghost use Rattle.ledger_inspection.specs.Faults.{is_refusal, IsOfOne};
 ghost use Rattle.ledger_inspection.specs.Verdict.{IsSound, IsRefused};
 
 use crate::faults::InspectionFault;
-use crate::inspection::Inspection;
+use crate::inspection::{Inspection, Task};
 use crate::meter::Meter;
+use crate::reading_book::read_book;
 use crate::sound_ledger::print_sound;
-use crate::unsound_ledger::print_unsound;
-use archive_engine::Part;
-use file_device::{Locking, ReadOnlyFile};
-use ledger_reading::{Device, Sound, look};
-use script_streams::{Watched, write_all};
-use std::alloc::Global;
+use crate::unsound_ledger::{answered, print_unsound};
+use archive_engine::{Part, is_folder};
+use file_device::ReadOnlyFile;
+use ledger_printing::Progress;
+use ledger_reading::{Device, look};
+use script_streams::Watched;
+use std::alloc::{Alloc, Global};
 use std::fs::{File, Files};
 use std::io::Write;
 
-/// Opens the file and does what is asked for with its ledger, as [`inspect_device`].
+/// Does what is asked for with a ledger, or with several as one book. A book is found sound, and each of its ledgers to
+/// go on where the one before ends, before anything is printed; the last one stays locked from then on. What is printed
+/// goes to the writer, and so does what `check` finds wrong, unless it is quiet. The progress of long work goes to
+/// `errors`, if it is to be shown. A writer whose reader went away has taken enough.
 ///
 /// # Errors
-/// As of [`inspect_device`], and if the file can't be looked at.
-pub fn inspect_file<'a, F: Files<File = File>, W: Write, E: Write>(
+/// [`InspectionFault`], the first that is met.
+pub fn inspect<'a, R: Files<File = File> + Alloc<A = Global> + Clone + Drop, W: Write, E: Write>(
+    rt: &R,
+    alloc: Global,
+    wish: &Inspection<'a>,
+    writer: &mut W,
+    errors: &mut E,
+    shows_progress: bool,
+) -> Result<(), InspectionFault<'a>> {
+    let mut output = Watched::over(writer);
+    let mut meter = Meter::over(alloc, errors, shows_progress);
+    let looked = match wish.paths.as_slice() {
+        [path] if is_alone(rt, path, wish.task) => {
+            inspect_file(rt, alloc, wish, path, &mut output, &mut meter)
+        }
+        _ => read_book(rt, alloc, wish, &mut output, &mut meter),
+    };
+    meter.end();
+    match looked {
+        Err(fault) if fault.is_of_reader(output.is_closed()) => Ok(()),
+        Err(fault) => Err(answered(alloc, wish.task, fault, &mut output)),
+        Ok(()) => Ok(()),
+    }
+}
+
+// Whether what is at the one path that is named is looked at alone. A folder is read as a book, and so is a ledger of
+// which earlier balances are asked for.
+fn is_alone<R: Files<File = File>>(rt: &R, path: &str, task: Task) -> bool {
+    match task {
+        Task::Map => true,
+        Task::Balances { at: Some(_), .. } => false,
+        Task::Check { .. } | Task::Journal(_) | Task::Balances { .. } => !is_folder(rt, path),
+    }
+}
+
+// Opens the file and does what is asked for with its ledger.
+fn inspect_file<'a, F: Files<File = File>, W: Write + Drop, E: Write>(
     rt: &F,
     alloc: Global,
     wish: &Inspection<'a>,
+    path: &'a str,
     writer: &mut W,
-    errors: &mut E,
-    shows_progress: bool,
+    meter: &mut Meter<'_, E>,
 ) -> Result<(), InspectionFault<'a>>
-    ensures { IfErr result (IsOfOne (Part.File wish.now.path)) }
+    ensures { IfErr result (IsOfOne (Part.File path.entry)) }
 {
-    match ReadOnlyFile::open(rt, alloc, wish.path, wish.locking) {
+    match ReadOnlyFile::open(rt, alloc, path, wish.locking) {
         Ok(device) => {
-            tell_locking(alloc, wish.path, wish.locking, errors);
-            inspect_device(alloc, wish, device, writer, errors, shows_progress)
+            meter.tell_locking(path, wish.locking);
+            inspect_device(alloc, path, wish.task, device, writer, meter)
         }
-        Err(fault) => Err(InspectionFault::of_file(Part::File(wish.path), fault)),
+        Err(fault) => Err(InspectionFault::of_file(Part::File(path), fault)),
     }
 }
 
-// Tells that what is at the path isn't locked.
-pub(crate) fn tell_locking<E: Write>(alloc: Global, path: &str, locking: Locking, errors: &mut E) {
-    if locking != Locking::Unlocked {
-        return;
-    }
-    let _ = match format!(in alloc; "{path}: it isn't locked, so what is printed may be torn\n") {
-        Ok(notice) => write_all(errors, notice.as_bytes()),
-        Err(_) => write_all(errors, b"out of memory\n"),
-    };
-}
-
-/// Does what is asked for with the ledger on a device, which is the file that the wish names. What is printed of a
-/// sound ledger goes to the writer, and so does the damage that `check` finds, unless it is quiet; the drawing of `map`
-/// goes there too. The progress of long work goes to `errors`, if it is to be shown. A writer whose reader went away
-/// has taken enough.
+/// Does what is asked for with the ledger on a device, which is the file at the path. What is printed of a sound ledger
+/// goes to the writer, and so does the drawing of one that isn't sound.
 ///
 /// # Errors
 /// [`InspectionFault`] of this ledger: it isn't sound, can't be read again, or isn't printed to its end.
-pub fn inspect_device<'a, D: Device + Drop, W: Write, E: Write>(
+pub fn inspect_device<'a, D: Device + Drop, W: Write + Drop, P: Progress>(
     alloc: Global,
-    wish: &Inspection<'a>,
+    path: &'a str,
+    task: Task,
     device: D,
     writer: &mut W,
-    errors: &mut E,
-    shows_progress: bool,
+    progress: &mut P,
 ) -> Result<(), InspectionFault<'a>>
-    ensures one { IfErr result (IsOfOne (Part.File wish.now.path)) }
+    ensures one { IfErr result (IsOfOne (Part.File path.entry)) }
 
     // On an honest device.
     ensures sound { (D.state device).honest → OnOk result (IsSound D (D.state device).reads) }
@@ -73,33 +100,10 @@ pub fn inspect_device<'a, D: Device + Drop, W: Write, E: Write>(
         → IfErr result (λ fault. is_refusal fault ≡ true → IsRefused (D.state device).reads) }
 {
     match look(alloc, device) {
-        Ok(sound) => inspect_sound(alloc, wish, sound, writer, errors, shows_progress),
-        Err((device, refusal)) => Err(print_unsound(alloc, wish, device, refusal, writer)),
+        Ok(sound) => match print_sound(alloc, task, sound, writer, progress) {
+            Ok(()) => Ok(()),
+            Err(fault) => Err(InspectionFault::of_printing(Part::File(path), fault)),
+        },
+        Err((device, refusal)) => Err(print_unsound(alloc, path, task, device, refusal, writer)),
     }
-}
-
-// Prints what is asked for of a sound ledger, and shows how far the printing is.
-fn inspect_sound<'a, D: Device + Drop, W: Write, E: Write>(
-    alloc: Global,
-    wish: &Inspection<'a>,
-    sound: Sound<D>,
-    writer: &mut W,
-    errors: &mut E,
-    shows_progress: bool,
-) -> Result<(), InspectionFault<'a>>
-    ensures one { IfErr result (IsOfOne (Part.File wish.now.path)) }
-    ensures failed { IfErr result (λ fault. is_refusal fault ≡ false) }
-{
-    let mut output = Watched::over(writer);
-    let mut meter = Meter::over(alloc, errors, shows_progress);
-    let printed = print_sound(alloc, wish.task, sound, &mut output, &mut meter);
-    meter.end();
-    let Err(fault) = printed else {
-        return Ok(());
-    };
-    let fault = InspectionFault::of_printing(Part::File(wish.path), fault);
-    if fault.is_of_reader(output.is_closed()) {
-        return Ok(());
-    }
-    Err(fault)
 }

@@ -1,13 +1,12 @@
 //! Looks at a ledger on a device or in a file, of any layout, and prints what is asked for. It never writes the file.
 //! What keeps it from that it answers as a fault, and leaves its telling to the caller.
 //!
-//! [`inspect_file`] opens a file and looks at it, and [`inspect_device`] does so with a device that is handed in.
-//! [`inspect_book`] looks at several ledgers as one, and [`check_archive`] finds an archive sound.
+//! [`inspect`] looks at a file, or at several as one book, and [`inspect_device`] at a device that is handed in.
+//! [`check_archive`] finds an archive sound.
 //!
 //! `checks/inspections.sh` has examples.
 #![tactic(auto)]
 
-mod book;
 mod book_reader;
 mod faults;
 mod inspecting;
@@ -20,14 +19,12 @@ mod unsound_ledger;
 mod wrong;
 
 pub use archive_engine::Part;
-pub use book::{BookInspection, BookTask};
 pub use device_drawing::Place;
 pub use faults::InspectionFault;
 pub use file_device::{FileFault, Locking};
-pub use inspecting::{inspect_device, inspect_file};
+pub use inspecting::{inspect, inspect_device};
 pub use inspection::{Inspection, Task};
 pub use ledger_printing::{Date, Format, JournalWish, Progress, Selection};
 pub use ledger_reading::{Cause, Device, OpenRefusal};
-pub use meter::Meter;
-pub use reading_book::{check_archive, inspect_book};
+pub use reading_book::check_archive;
 pub use wrong::Wrong;

@@ -1,4 +1,5 @@
-//! Tells on a terminal how far the printing is.
+//! What is told beside the printing: on a terminal how far it is, and that a ledger isn't locked.
+use file_device::Locking;
 use ledger_printing::Progress;
 use script_streams::write_all;
 use std::alloc::Global;
@@ -10,7 +11,7 @@ const STEP: u64 = 65_536;
 /// Tells how far the printing of a journal is, on one line that is written over, and taken away at the end. A fault of
 /// its writer is ignored.
 #[derive(Drop)]
-pub struct Meter<'a, E: Write> {
+pub(crate) struct Meter<'a, E: Write> {
     alloc: Global,
     errors: &'a mut E,
     is_shown: bool,
@@ -18,7 +19,7 @@ pub struct Meter<'a, E: Write> {
 
 impl<'a, E: Write> Meter<'a, E> {
     /// A meter that is shown, or isn't.
-    pub fn over(alloc: Global, errors: &'a mut E, is_shown: bool) -> Meter<'a, E> {
+    pub(crate) fn over(alloc: Global, errors: &'a mut E, is_shown: bool) -> Meter<'a, E> {
         Meter {
             alloc,
             errors,
@@ -26,8 +27,21 @@ impl<'a, E: Write> Meter<'a, E> {
         }
     }
 
+    /// Tells that what is at the path isn't locked, if it isn't.
+    pub(crate) fn tell_locking(&mut self, path: &str, locking: Locking) {
+        if locking != Locking::Unlocked {
+            return;
+        }
+        let _ = match format!(in self.alloc;
+            "{path}: it isn't locked, so what is printed may be torn\n"
+        ) {
+            Ok(notice) => write_all(self.errors, notice.as_bytes()),
+            Err(_) => write_all(self.errors, b"out of memory\n"),
+        };
+    }
+
     /// Takes the line away.
-    pub fn end(self) {
+    pub(crate) fn end(self) {
         if self.is_shown {
             let _ = write_all(self.errors, b"\r\x1b[K");
         }

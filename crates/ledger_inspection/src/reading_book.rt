@@ -1,57 +1,16 @@
 //! Reads ledgers as one book.
-use crate::book::{BookInspection, BookTask};
 use crate::book_reader::{Keeping, Passing, Printing};
 use crate::faults::InspectionFault;
-use crate::inspecting::tell_locking;
+use crate::inspection::{Inspection, Task};
 use crate::meter::Meter;
 use crate::shelf::{Extent, Shelf, parts_of};
-use crate::unsound_ledger::answered;
 use file_device::Locking;
 use ledger_printing::{JournalPrint, JournalWish, Progress, print_balances};
 use ledger_reading::Ledger;
-use script_streams::{Output, StreamFault, Watched};
+use script_streams::{Output, StreamFault};
 use std::alloc::{Alloc, Global};
 use std::fs::{File, Files};
 use std::io::Write;
-
-/// Does what is asked for with a book. All of it is found sound, and each ledger to go on where the one before ends,
-/// before anything is printed, and the last one stays locked from then on. What is printed goes to the writer, and so
-/// does what `check` finds wrong, unless it is quiet. The progress of long work goes to `errors`, if it is to be shown.
-/// A writer whose reader went away has taken enough.
-///
-/// # Errors
-/// [`InspectionFault`], the first that is met.
-pub fn inspect_book<
-    'a,
-    R: Files<File = File> + Alloc<A = Global> + Clone + Drop,
-    W: Write,
-    E: Write,
->(
-    rt: &R,
-    alloc: Global,
-    wish: &BookInspection<'a>,
-    writer: &mut W,
-    errors: &mut E,
-    shows_progress: bool,
-) -> Result<(), InspectionFault<'a>> {
-    for path in &wish.paths {
-        tell_locking(alloc, path, wish.locking, errors);
-    }
-    let mut output = Watched::over(writer);
-    let mut meter = Meter::over(alloc, errors, shows_progress);
-    let read = read_book(rt, alloc, wish, &mut output, &mut meter);
-    meter.end();
-    let Err(fault) = read else {
-        return Ok(());
-    };
-    match wish.task {
-        _ if fault.is_of_reader(output.is_closed()) => Ok(()),
-        BookTask::Check { quiet: false } if fault.is_refusal() => {
-            Err(answered(alloc, fault, &mut output))
-        }
-        _ => Err(fault),
-    }
-}
 
 /// Finds the archive in a folder sound, as `check` does: each of its files, and that each goes on where the one before
 /// ends.
@@ -74,19 +33,22 @@ pub fn check_archive<'a, R: Files<File = File> + Alloc<A = Global> + Clone + Dro
     Ok(())
 }
 
-// Finds all of it sound, and then prints what is asked for. The last ledger stays open, so that nobody writes it.
-fn read_book<
+/// Finds all of a book sound, and then prints what is asked for. The last ledger stays open, so that nobody writes it.
+pub(crate) fn read_book<
     'a,
     R: Files<File = File> + Alloc<A = Global> + Clone + Drop,
     W: Write + Drop,
-    P: Progress,
+    E: Write,
 >(
     rt: &R,
     alloc: Global,
-    wish: &BookInspection<'a>,
+    wish: &Inspection<'a>,
     writer: &mut W,
-    progress: &mut P,
+    meter: &mut Meter<'_, E>,
 ) -> Result<(), InspectionFault<'a>> {
+    for path in &wish.paths {
+        meter.tell_locking(path, wish.locking);
+    }
     let parts = parts_of(rt, alloc, wish.paths.as_slice())?;
     let Some(last) = parts.last() else {
         return Err(InspectionFault::Nothing);
@@ -98,7 +60,7 @@ fn read_book<
         locking: wish.locking,
     };
     let held = shelf.open(*last)?;
-    let read = shelf.read(wish.task, writer, progress);
+    let read = shelf.read(wish.task, writer, meter);
     drop(held);
     read
 }
@@ -106,22 +68,23 @@ fn read_book<
 impl<'a, R: Files<File = File>> Shelf<'a, '_, R> {
     fn read<W: Write + Drop, P: Progress>(
         &self,
-        task: BookTask,
+        task: Task,
         writer: &mut W,
         progress: &mut P,
     ) -> Result<(), InspectionFault<'a>> {
         match task {
-            BookTask::Check { quiet } => {
+            Task::Check { quiet: false } => {
                 let extent = self.walk(&mut Passing)?;
-                if !quiet {
-                    print_extent(self.alloc, &extent, writer)?;
-                }
+                print_extent(self.alloc, &extent, writer)?;
             }
-            BookTask::Balances { format, date, at } => {
+            Task::Check { quiet: true } | Task::Map => {
+                self.walk(&mut Passing)?;
+            }
+            Task::Balances { format, date, at } => {
                 let ledger = self.held(at)?;
                 print_balances(self.alloc, &ledger, format, date, writer)?;
             }
-            BookTask::Journal(wish) => self.print(wish, writer, progress)?,
+            Task::Journal(wish) => self.print(wish, writer, progress)?,
         }
         Ok(())
     }

@@ -24,7 +24,7 @@ pub(crate) fn print_sound<D: Device + Drop, W: Write + Drop, P: Progress>(
             Ok(())
         }
         Task::Journal(wish) => print_journal(alloc, sound, wish, writer, progress),
-        Task::Balances { format, date } => {
+        Task::Balances { format, date, .. } => {
             print_balances(alloc, &sound.ledger, format, date, writer)?;
             Ok(())
         }

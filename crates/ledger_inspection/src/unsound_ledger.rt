@@ -1,9 +1,9 @@
 //! What is printed of a device that holds no sound ledger.
-ghost use Rattle.std.specs.Prelude.{◌≡◌, true};
+ghost use Rattle.std.specs.Prelude.{◌≡◌, ◌≢◌, true};
 ghost use Rattle.ledger_inspection.specs.Faults.{denies_ledger, is_refusal, IsOfOne, KeepsPart};
 
-use crate::faults::InspectionFault;
-use crate::inspection::{Inspection, Task};
+use crate::faults::{InspectionFault, denies_ledger};
+use crate::inspection::Task;
 use crate::wrong::Wrong;
 use archive_engine::Part;
 use device_drawing::{DrawFault, draw, locate};
@@ -12,47 +12,53 @@ use script_streams::{StreamFault, Watched, write_all};
 use std::alloc::Global;
 use std::io::Write;
 
-/// Prints what is asked for of a device that was refused so, and tells what is wrong with it. A second look at it finds
+/// Draws a device that was refused so, if that is asked for, and tells what is wrong with it. A second look at it finds
 /// the place; if that look fails, the cause is told alone.
 pub(crate) fn print_unsound<'a, D: Device + Drop, W: Write>(
     alloc: Global,
-    wish: &Inspection<'a>,
+    path: &'a str,
+    task: Task,
     device: D,
     refusal: OpenRefusal,
     writer: &mut W,
 ) -> InspectionFault<'a>
-    ensures one { IsOfOne (Part.File wish.now.path) result }
+    ensures one { IsOfOne (Part.File path.entry) result }
     ensures refused { is_refusal result ≡ true → denies_ledger refusal ≡ true }
-    ensures quiet { wish.now.task ≡ Task.Check true → writer.new ≡ writer.old }
+    ensures quiet { task ≢ Task.Map → writer.new ≡ writer.old }
 {
     let mut device = device;
     let place = locate(&mut device, refusal).unwrap_or(None);
-    let (part, wrong) = (Part::File(wish.path), Wrong { refusal, place });
-    let unsound = InspectionFault::Unsound { part, wrong };
-    match wish.task {
-        _ if !unsound.is_refusal() => unsound,
-        Task::Check { quiet: false } => answered(alloc, unsound, writer),
-        Task::Map => draw_wrong(alloc, part, wrong, &mut device, writer),
-        Task::Check { quiet: true } | Task::Journal(_) | Task::Balances { .. } => unsound,
+    let (part, wrong) = (Part::File(path), Wrong { refusal, place });
+    match task {
+        Task::Map if denies_ledger(refusal) => {
+            draw_wrong(alloc, part, wrong, &mut device, writer)
+        }
+        _ => InspectionFault::Unsound { part, wrong },
     }
 }
 
-/// Prints what is wrong, where that was asked for. A reader that went away leaves it as it is.
+/// Prints what is wrong, if that was asked for: a rule's refusal is an answer of `check`. A reader that went away
+/// leaves it as it is.
 pub(crate) fn answered<'a, W: Write>(
     alloc: Global,
-    wrong: InspectionFault<'a>,
-    writer: &mut W,
+    task: Task,
+    fault: InspectionFault<'a>,
+    writer: &mut Watched<'_, W>,
 ) -> InspectionFault<'a>
-    ensures one { KeepsPart wrong.entry result }
-    ensures refused { is_refusal result ≡ true → result ≡ wrong.entry }
+    ensures one { KeepsPart fault.entry result }
+    ensures refused { is_refusal result ≡ true → result ≡ fault.entry }
+    ensures quiet { task ≡ Task.Check true → writer.new ≡ writer.old }
 {
-    let Ok(line) = format!(in alloc; "{wrong}\n") else {
+    match task {
+        Task::Check { quiet: false } if fault.is_refusal() => {}
+        _ => return fault,
+    }
+    let Ok(line) = format!(in alloc; "{fault}\n") else {
         return InspectionFault::Memory;
     };
-    let mut output = Watched::over(writer);
-    match write_all(&mut output, line.as_bytes()) {
-        Err(_) if !output.is_closed() => InspectionFault::Output(StreamFault::Write),
-        _ => wrong,
+    match write_all(writer, line.as_bytes()) {
+        Err(_) if !writer.is_closed() => InspectionFault::Output(StreamFault::Write),
+        _ => fault,
     }
 }
 

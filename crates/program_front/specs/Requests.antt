@@ -2,7 +2,7 @@
 use Rattle.std.specs.Prelude.{◌≤◌, ℕ, Option, IfSome}
 use Rattle.std.specs.Int.NonZero.{non_zero_u64_get}
 use Rattle.program_front.specs.declared.request.Request.{Request}
-use Rattle.program_front.specs.declared.request.Request.TheVariants.{Run, Serve, Close, Status, Inspect, Book, Format, Copy, Archive}
+use Rattle.program_front.specs.declared.request.Request.TheVariants.{Run, Serve, Close, Status, Inspect, Format, Copy, Archive}
 
 -- as many sectors as a ledger of the most slots has, and one at least
 abbrev pub AreSectors : Option ℕ → Type 0
@@ -16,7 +16,6 @@ IsWithin (Serve serving) = AreSectors serving.sectors × IfSome serving.format (
 IsWithin (Close counter seconds) = seconds ≤ 86400
 IsWithin (Status counter) = Unit {0}
 IsWithin (Inspect inspection) = Unit {0}
-IsWithin (Book inspection) = Unit {0}
 IsWithin (Format path formatting) = non_zero_u64_get formatting.slots ≤ 1000000
 IsWithin (Archive archiving) = Unit {0}
 IsWithin (Copy copying) = non_zero_u64_get copying.formatting.slots ≤ 1000000

@@ -10,20 +10,17 @@ use crate::running::{run_on_device, say};
 use crate::status::Status;
 use crate::telling::{tell, tell_words, tell_wrong, unwritten};
 use crate::words::read_request;
-use archive_engine::{Archived, Archiving, archive, is_folder, open_newest};
+use archive_engine::{Archived, Archiving, archive, open_newest};
 use clap::Error;
 use file_device::{Locking, ReadOnlyFile};
 use ledger_file::{
     CopyPlace, CopyRefusal, Formatting, format_ledger, open_for_copy, open_for_migration,
 };
-use ledger_inspection::{
-    BookInspection, BookTask, Inspection, InspectionFault, Task, check_archive, inspect_book,
-    inspect_file,
-};
+use ledger_inspection::{InspectionFault, Task, check_archive, inspect};
 use office_counters::{RosterPath, is_disk, remove_roster, take_along};
 use office_engine::{Locks, Runtime, Serving, Surroundings, ask_standing, close_office, serve};
 use script_streams::Watched;
-use std::alloc::{Alloc, AllocError, Global};
+use std::alloc::{Alloc, Global};
 use std::fmt;
 use std::fs::{File, Files};
 use std::io::{Read, Write};
@@ -67,11 +64,6 @@ pub fn run_derbyfig<
         Request::Inspect(wish) => {
             let is_check = matches!(wish.task, Task::Check { .. });
             let looked = inspect(rt, alloc, &wish, doing.writer, errors, shows_progress);
-            ended_looking(alloc, is_check, looked, errors)
-        }
-        Request::Book(wish) => {
-            let is_check = matches!(wish.task, BookTask::Check { .. });
-            let looked = inspect_book(rt, alloc, &wish, doing.writer, errors, shows_progress);
             ended_looking(alloc, is_check, looked, errors)
         }
         Request::Close { counter, seconds } => ended(alloc, doing.close(counter, seconds), errors),
@@ -280,38 +272,6 @@ impl<R: Files<File = File> + Alloc<A = Global> + Clock + Clone + Drop, W: Write>
         say(self.alloc, line, self.writer)?;
         Ok(())
     }
-}
-
-// Looks at a ledger, or at the archive in a folder.
-fn inspect<'a, R: Files<File = File> + Alloc<A = Global> + Clone + Drop, W: Write, E: Write>(
-    rt: &R,
-    alloc: Global,
-    wish: &Inspection<'a>,
-    writer: &mut W,
-    errors: &mut E,
-    shows_progress: bool,
-) -> Result<(), InspectionFault<'a>> {
-    if is_folder(rt, wish.path) {
-        if let Some(book) = book_of(alloc, wish)? {
-            return inspect_book(rt, alloc, &book, writer, errors, shows_progress);
-        }
-    }
-    inspect_file(rt, alloc, wish, writer, errors, shows_progress)
-}
-
-// The same of the archive in that folder, if it can be done with one.
-fn book_of<'a>(
-    alloc: Global,
-    wish: &Inspection<'a>,
-) -> Result<Option<BookInspection<'a>>, AllocError> {
-    let Some(task) = BookTask::of(wish.task) else {
-        return Ok(None);
-    };
-    Ok(Some(BookInspection {
-        paths: vec![in alloc; wish.path]?,
-        locking: wish.locking,
-        task,
-    }))
 }
 
 /// Writes what `clap` answers to wrong words, or to the wish for help or the version.

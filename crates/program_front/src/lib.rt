@@ -33,9 +33,7 @@ pub use derbyfig::run_derbyfig;
 pub use faults::Fault;
 pub use host::{run_console, run_derbyfig_words, words_given};
 pub use ledger_file::{DeviceRefusal, DiskFault, FileFault, Formatting, LedgerRefusal};
-pub use ledger_inspection::{
-    BookInspection, BookTask, Date, Format, Inspection, JournalWish, Locking, Selection, Task,
-};
+pub use ledger_inspection::{Date, Format, Inspection, JournalWish, Locking, Selection, Task};
 pub use office_engine::{FileLocks, Serving, Surroundings};
 pub use request::{Copying, OlderLedger, Origin, Request, Running, ScriptFile};
 pub use running::run_on_device;

@@ -1,7 +1,7 @@
 //! What `derbyfig` is asked for.
 use archive_engine::Archiving;
 use ledger_file::Formatting;
-use ledger_inspection::{BookInspection, Inspection};
+use ledger_inspection::Inspection;
 use office_engine::Serving;
 use std::fmt;
 use std::num::NonZeroU64;
@@ -13,10 +13,8 @@ pub enum Request<'a> {
     Run(Running<'a>),
     /// To keep an office open.
     Serve(Serving<'a>),
-    /// To look at a ledger, or at the book that a folder has.
+    /// To look at a ledger, or at several that are read as one book.
     Inspect(Inspection<'a>),
-    /// To look at ledgers that are read as one book.
-    Book(BookInspection<'a>),
     /// To make an empty ledger at this path.
     Format {
         path: &'a str,

@@ -12,9 +12,7 @@ use archive_engine::Archiving;
 use clap::error::ErrorKind;
 use clap::{ArgMatches, Error};
 use ledger_file::Formatting;
-use ledger_inspection::{
-    BookInspection, BookTask, Date, Format, Inspection, JournalWish, Locking, Selection, Task,
-};
+use ledger_inspection::{Date, Format, Inspection, JournalWish, Locking, Selection, Task};
 use office_counters::{is_name, name_of};
 use office_engine::{CounterFolder, Serving, TERMINAL};
 use std::alloc::{AllocError, AllocFailed, Global};
@@ -79,11 +77,11 @@ fn requested<'a>(alloc: Global, matches: &ArgMatches<'a>) -> Result<Request<'a>,
         }),
         Verb::Check => {
             let quiet = options.get_flag("quiet");
-            looking(alloc, options, BookTask::Check { quiet })
+            looking(alloc, options, Task::Check { quiet })
         }
         Verb::Journal => looking(alloc, options, printing(options)?),
         Verb::Balances => looking(alloc, options, balancing(options)?),
-        Verb::Map => mapping(options),
+        Verb::Map => looking(alloc, options, Task::Map),
         Verb::Format => making(options),
         Verb::Copy => copying(options, Origin::Ledger),
         Verb::Archive => archiving(options),
@@ -226,33 +224,14 @@ fn archiving<'a>(options: &ArgMatches<'a>) -> Result<Request<'a>, WrongWord>
 fn looking<'a>(
     alloc: Global,
     options: &ArgMatches<'a>,
-    task: BookTask,
+    task: Task,
 ) -> Result<Request<'a>, WrongWord>
     ensures within { IfOk result IsWithin }
 {
-    let locking = locking(options);
-    let paths = files(alloc, options)?;
-    if let (Some(path), None) = (sole(paths.as_slice()), before(&task)) {
-        return Ok(Request::Inspect(Inspection {
-            path,
-            locking,
-            task: alone(&task),
-        }));
-    }
-    Ok(Request::Book(BookInspection {
-        paths,
-        locking,
-        task,
-    }))
-}
-
-fn mapping<'a>(options: &ArgMatches<'a>) -> Result<Request<'a>, WrongWord>
-    ensures within { IfOk result IsWithin }
-{
     Ok(Request::Inspect(Inspection {
-        path: path(options, "FILE")?,
+        paths: files(alloc, options)?,
         locking: locking(options),
-        task: Task::Map,
+        task,
     }))
 }
 
@@ -273,41 +252,16 @@ fn files<'a>(alloc: Global, options: &ArgMatches<'a>) -> Result<Vec<&'a str>, Wr
     Ok(files)
 }
 
-// The path, if it is one.
-fn sole<'a>(paths: &[&'a str]) -> Option<&'a str> {
-    match paths {
-        [path] => Some(*path),
-        _ => None,
-    }
-}
-
-// Before which record balances are asked for, which is asked of a book.
-fn before(task: &BookTask) -> Option<u64> {
-    match *task {
-        BookTask::Balances { at, .. } => at,
-        BookTask::Check { .. } | BookTask::Journal(_) => None,
-    }
-}
-
-// The same task for one ledger alone.
-fn alone(task: &BookTask) -> Task {
-    match *task {
-        BookTask::Check { quiet } => Task::Check { quiet },
-        BookTask::Journal(wish) => Task::Journal(wish),
-        BookTask::Balances { format, date, .. } => Task::Balances { format, date },
-    }
-}
-
-fn printing(options: &ArgMatches<'_>) -> Result<BookTask, WrongWord> {
-    Ok(BookTask::Journal(JournalWish {
+fn printing(options: &ArgMatches<'_>) -> Result<Task, WrongWord> {
+    Ok(Task::Journal(JournalWish {
         selection: selection(options)?,
         format: format(options)?,
         date: date(options)?,
     }))
 }
 
-fn balancing(options: &ArgMatches<'_>) -> Result<BookTask, WrongWord> {
-    Ok(BookTask::Balances {
+fn balancing(options: &ArgMatches<'_>) -> Result<Task, WrongWord> {
+    Ok(Task::Balances {
         format: format(options)?,
         date: date(options)?,
         at: AT.given(options)?,

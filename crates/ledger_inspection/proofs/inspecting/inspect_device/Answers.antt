@@ -1,12 +1,9 @@
-use Rattle.ledger_inspection.proofs.RefusalLemmas.{no_refusal, not_of_device, not_of_memory, sound_held}
+use Rattle.ledger_inspection.proofs.RefusalLemmas.{not_of_device, not_of_memory}
 use Rattle.ledger_inspection.proofs.inspecting.inspect_device.Goals as goal
 
-pub returns-in-Ok-clause-sound : goal.returns-in-Ok-clause-sound
-returns-in-Ok-clause-sound g c = λ honest.
-    sound_held c.inspect_sound.result _ c.in-Ok.sound.journal c.in-Ok.sound.ledger (c.in-Ok.ensures.recovers honest)
-
-pub returns-in-Ok-clause-refused : goal.returns-in-Ok-clause-refused
-returns-in-Ok-clause-refused g c = λ honest. no_refusal _ c.inspect_sound.result c.inspect_sound.ensures.failed
+pub returns-in-Ok-print_sound-clause-sound : goal.returns-in-Ok-print_sound-clause-sound
+returns-in-Ok-print_sound-clause-sound g c = λ honest.
+    (c.in-Ok.sound.journal, c.in-Ok.sound.ledger, c.in-Ok.ensures.recovers honest)
 
 pub returns-in-Err-clause-refused : goal.returns-in-Err-clause-refused
 returns-in-Err-clause-refused g c = λ honest told.
