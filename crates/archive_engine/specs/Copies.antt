@@ -2,7 +2,6 @@
 use Rattle.std.specs.Prelude.{◌≡◌, ℕ}
 use Rattle.sector_device.specs.Image.{Image}
 use Rattle.file_device.specs.declared.refusal.FileFault.TheVariants as file
-use Rattle.file_device.specs.declared.refusal.DeviceRefusal.TheVariants as device
 use Rattle.journal_recovery.specs.State.{State}
 use Rattle.journal_recovery.specs.Recovery.{RecoversTo}
 use Rattle.journal_recovery.specs.declared.refusals.OpenRefusal.TheVariants as opening
@@ -15,7 +14,7 @@ use Rattle.archive_engine.specs.declared.copying.FolderCopyRefusal.TheVariants.{
 
 -- that there is no memory, that the ledger isn't read, and else that the file isn't written
 abbrev pub refusal_of : CopyRefusal → FolderCopyRefusal
-refusal_of (Target (ledger.Device (device.File file.Memory))) = Memory
+refusal_of (Target (ledger.Device file.Memory)) = Memory
 refusal_of (Copy (copying.Source opening.Memory)) = Memory
 refusal_of (Copy (copying.Source refusal)) = Ledger refusal
 refusal_of _ = Unwritten

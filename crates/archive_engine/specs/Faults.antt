@@ -5,8 +5,6 @@ use Rattle.gate_journal.specs.declared.refusals.ReadRefusal.TheVariants as read
 use Rattle.journal_recovery.specs.declared.refusals.OpenRefusal.TheVariants as opening
 use Rattle.file_device.specs.declared.refusal.FileFault.{FileFault}
 use Rattle.file_device.specs.declared.refusal.FileFault.TheVariants as file
-use Rattle.file_device.specs.declared.refusal.DeviceRefusal.{DeviceRefusal}
-use Rattle.file_device.specs.declared.refusal.DeviceRefusal.TheVariants as device
 use Rattle.archive_engine.specs.declared.faults.Part.{Part}
 use Rattle.archive_engine.specs.declared.faults.Part.TheVariants as part
 use Rattle.archive_engine.specs.declared.faults.ArchiveFault.{ArchiveFault}
@@ -17,9 +15,9 @@ abbrev pub of_file : Part → FileFault → ArchiveFault
 of_file ledger file.Memory = fault.Memory
 of_file ledger inner = fault.Unread ledger inner
 
-abbrev pub of_device : Bor (List ℕ) → DeviceRefusal → ArchiveFault
-of_device folder (device.File file.Memory) = fault.Memory
-of_device folder refusal = fault.Unmade folder refusal
+abbrev pub of_device : Bor (List ℕ) → FileFault → ArchiveFault
+of_device folder file.Memory = fault.Memory
+of_device folder inner = fault.Unmade folder inner
 
 -- a read of the ledger failed, and not one of the archive
 abbrev pub IsReadFault : ArchiveFault → Type 0

@@ -7,7 +7,7 @@ ghost use Rattle.archive_engine.specs.Copies.{IsReadFault, IsNumberOf, refusal_o
 
 use crate::faults::{ArchiveFault, FolderFault};
 use crate::folder::{Folder, are_one_folder};
-use file_device::{DeviceRefusal, FileFault};
+use file_device::FileFault;
 use journal_recovery::{MigrateRefusal, OpenRefusal, Recovered, recover};
 use ledger_file::{CopyRefusal, Formatting, LedgerRefusal, open_for_copy};
 use office_counters::{RosterPath, remove_roster, take_along};
@@ -207,7 +207,7 @@ fn refusal_of(refusal: CopyRefusal) -> FolderCopyRefusal
         ↔ (refusal ≡ CopyRefusal.Copy (MigrateRefusal.Source OpenRefusal.Device)) }
 {
     match refusal {
-        CopyRefusal::Target(LedgerRefusal::Device(DeviceRefusal::File(FileFault::Memory)))
+        CopyRefusal::Target(LedgerRefusal::Device(FileFault::Memory))
         | CopyRefusal::Copy(MigrateRefusal::Source(OpenRefusal::Memory)) => {
             FolderCopyRefusal::Memory
         }

@@ -2,7 +2,7 @@
 ghost use Rattle.std.specs.Prelude.{◌≡◌, ◌↔◌};
 ghost use Rattle.archive_engine.specs.Faults.{TellsNumbers, IsReadFault, IsElsewhere, of_file, of_device};
 
-use file_device::{DeviceRefusal, FileFault};
+use file_device::FileFault;
 use journal_recovery::OpenRefusal;
 use ledger_reading::ReadRefusal;
 use std::alloc::AllocError;
@@ -142,10 +142,10 @@ pub enum ArchiveFault<'a> {
         end: u64,
     },
     /// The ledger that is to be added can't be made.
-    #[error("{folder}/unfinished: {refusal}")]
+    #[error("{folder}/unfinished: {fault}")]
     Unmade {
         folder: &'a str,
-        refusal: DeviceRefusal,
+        fault: FileFault,
     },
     /// It can't be written.
     #[error("{folder}/unfinished: it can't be written")]
@@ -202,13 +202,13 @@ impl<'a> ArchiveFault<'a> {
     }
 
     // The ledger that is to be added can't be made.
-    pub(crate) fn of_device(folder: &'a str, refusal: DeviceRefusal) -> ArchiveFault<'a>
-        ensures told { result ≡ of_device folder.entry refusal }
+    pub(crate) fn of_device(folder: &'a str, fault: FileFault) -> ArchiveFault<'a>
+        ensures told { result ≡ of_device folder.entry fault }
         ensures elsewhere { IsElsewhere result }
     {
-        match refusal {
-            DeviceRefusal::File(FileFault::Memory) => ArchiveFault::Memory,
-            refusal => ArchiveFault::Unmade { folder, refusal },
+        match fault {
+            FileFault::Memory => ArchiveFault::Memory,
+            fault => ArchiveFault::Unmade { folder, fault },
         }
     }
 }

@@ -7,7 +7,7 @@ use crate::fail_stop::FailStop;
 use crate::locked_file::{LockedFile, Wanted};
 use crate::opening::{Making, check_length};
 use crate::read_ahead::ReadAhead;
-use crate::refusal::{DeviceRefusal, DiskFault, FileRefusal};
+use crate::refusal::{FileFault, FileRefusal};
 use crate::sector_file::SectorFile;
 use std::alloc::Global;
 use std::fs::{File, Files, OpenFile};
@@ -53,7 +53,7 @@ impl<F: DeviceFile + Drop> DeviceOn<F> {
         alloc: Global,
         path: &str,
         sectors: u64,
-    ) -> Result<DeviceOn<F>, DeviceRefusal>
+    ) -> Result<DeviceOn<F>, FileFault>
         ensures enough { IfOk result (λ device. sectors ≤ device.inner.sectors) }
         ensures fits { IfOk result (λ device. device.inner.sectors * 512 < 2 ^ 63) }
         ensures failures { IfOk result (λ device.
@@ -75,7 +75,7 @@ impl<F: DeviceFile + Drop> DeviceOn<F> {
         alloc: Global,
         path: &str,
         sectors: u64,
-    ) -> Result<DeviceOn<F>, DeviceRefusal>
+    ) -> Result<DeviceOn<F>, FileFault>
         ensures enough { IfOk result (λ device. sectors ≤ device.inner.sectors) }
         ensures fits { IfOk result (λ device. device.inner.sectors * 512 < 2 ^ 63) }
         ensures failures { IfOk result (λ device.
@@ -84,7 +84,7 @@ impl<F: DeviceFile + Drop> DeviceOn<F> {
     {
         let file = LockedFile::open(rt, alloc, path, Making::Never)?;
         if !file.is_disk() {
-            return Err(DeviceRefusal::Disk(DiskFault::NoDisk));
+            return Err(FileFault::NoDisk);
         }
         let wanted = Wanted {
             sectors,

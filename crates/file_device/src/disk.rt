@@ -3,10 +3,10 @@ ghost use Rattle.std.specs.Prelude.{◌≡◌, ◌*◌, ◌/◌, ◌<◌, ◌≤
 ghost use Rattle.file_device.specs.Disks.{BeginsAsLedger, IsZero};
 
 use crate::device_file::DeviceFile;
-use crate::disk_tables::{DeviceNumber, fault_told};
+use crate::disk_tables::{DeviceNumber, check_idle};
 use crate::locked_file::Wanted;
 use crate::opening::{SECTOR_LENGTH, check_length};
-use crate::refusal::{DeviceRefusal, DiskFault, FileFault};
+use crate::refusal::FileFault;
 use sector_device::Sector;
 use std::alloc::Global;
 use std::fs::Files;
@@ -38,14 +38,12 @@ pub(crate) fn idle_disk_sectors<R: Files>(
     rt: &R,
     alloc: Global,
     disk: Disk,
-) -> Result<u64, DeviceRefusal>
+) -> Result<u64, FileFault>
     ensures sectors { IfOk result (λ sectors. sectors ≡ disk.length / 512) }
     ensures fits { IfOk result (λ sectors. sectors * 512 < 2 ^ 63) }
 {
-    if let Some(fault) = fault_told(rt, alloc, disk.number)? {
-        return Err(DeviceRefusal::Disk(fault));
-    }
-    Ok(disk_sectors(disk.length)?)
+    check_idle(rt, alloc, disk.number)?;
+    disk_sectors(disk.length)
 }
 
 /// That a disk that is locked has as many sectors as are wanted, and holds a ledger or nothing or may be written over.
@@ -55,24 +53,24 @@ pub(crate) fn make_sure_of_disk<F: DeviceFile>(
     sectors: u64,
     wanted: Wanted,
     front: &mut [Sector],
-) -> Result<(), DeviceRefusal>
+) -> Result<(), FileFault>
     ensures enough { OnOk result (wanted.sectors ≤ sectors) }
 {
     check_sectors(sectors, wanted.sectors)?;
     if !wanted.overwrite {
         look_at_front(file, sectors, front)?;
     }
-    file.sync_all()?;
+    file.sync_all().map_err(FileFault::of_writing)?;
     Ok(())
 }
 
 // That a disk has as many sectors as are asked for.
-fn check_sectors(sectors: u64, asked: u64) -> Result<(), DeviceRefusal>
+fn check_sectors(sectors: u64, asked: u64) -> Result<(), FileFault>
     ensures enough { IsOk result ↔ (asked ≤ sectors) }
-    ensures too_small { (result ≡ Err (DeviceRefusal.Disk DiskFault.TooSmall)) ↔ (sectors < asked) }
+    ensures too_small { (result ≡ Err FileFault.DiskTooSmall) ↔ (sectors < asked) }
 {
     if sectors < asked {
-        return Err(DeviceRefusal::Disk(DiskFault::TooSmall));
+        return Err(FileFault::DiskTooSmall);
     }
     Ok(())
 }
@@ -82,14 +80,14 @@ fn look_at_front<F: DeviceFile>(
     file: &F,
     sectors: u64,
     front: &mut [Sector],
-) -> Result<(), DeviceRefusal> {
+) -> Result<(), FileFault> {
     let count = sectors.min(front.len() as u64) as usize;
     let bytes = front[..count].as_flattened_mut();
-    file.read_exact_at(bytes, 0)?;
+    file.read_exact_at(bytes, 0).map_err(FileFault::of_writing)?;
     if may_be_written(bytes) {
         return Ok(());
     }
-    Err(DeviceRefusal::Disk(DiskFault::NoLedger))
+    Err(FileFault::DiskHasNoLedger)
 }
 
 /// Whether a disk that begins with these bytes holds a ledger, or nothing where other systems keep their marks.

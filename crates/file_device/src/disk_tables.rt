@@ -1,5 +1,5 @@
 //! What the system's tables say of a disk.
-use crate::refusal::DiskFault;
+use crate::refusal::FileFault;
 use std::alloc::Global;
 use std::fs::Files;
 use std::io::ErrorKind;
@@ -34,18 +34,25 @@ impl fmt::Display for DeviceNumber {
     }
 }
 
-/// Why a block device may not be written, by what the system says of it: nobody may, or it is mounted, swapped to, or a
-/// part of another one. A system that has no such tables says nothing.
-pub(crate) fn fault_told<R: Files>(
+/// Refuses a block device that may not be written, by what the system says of it: nobody may, or it is mounted, swapped
+/// to, or a part of another one. A system that has no such tables says nothing.
+pub(crate) fn check_idle<R: Files>(
     rt: &R,
     alloc: Global,
     number: DeviceNumber,
-) -> io::Result<Option<DiskFault>> {
-    let read_only = format!(in alloc; "/sys/dev/block/{number}/ro")?;
-    if told(rt, alloc, read_only.as_str())?.as_slice() == b"1\n".as_slice() {
-        return Ok(Some(DiskFault::Denied));
+) -> Result<(), FileFault> {
+    if is_read_only(rt, alloc, number).map_err(FileFault::of_writing)? {
+        return Err(FileFault::DiskDenied);
     }
-    Ok(is_in_use(rt, alloc, number)?.then_some(DiskFault::InUse))
+    if is_in_use(rt, alloc, number).map_err(FileFault::of_writing)? {
+        return Err(FileFault::DiskInUse);
+    }
+    Ok(())
+}
+
+fn is_read_only<R: Files>(rt: &R, alloc: Global, number: DeviceNumber) -> io::Result<bool> {
+    let path = format!(in alloc; "/sys/dev/block/{number}/ro")?;
+    Ok(told(rt, alloc, path.as_str())?.as_slice() == b"1\n".as_slice())
 }
 
 fn is_in_use<R: Files>(rt: &R, alloc: Global, number: DeviceNumber) -> io::Result<bool> {

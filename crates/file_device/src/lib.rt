@@ -38,6 +38,6 @@ pub use opening::{Making, clear_of_streams};
 pub use read_ahead::ReadAhead;
 pub use read_only::ReadOnly;
 pub use read_run::ReadRun;
-pub use refusal::{DeviceRefusal, DiskFault, FileFault, FileRefusal};
+pub use refusal::{FileFault, FileRefusal};
 pub use sector_device::{Device, DeviceFault, SECTOR, Sector};
 pub use sector_file::SectorFile;

@@ -12,10 +12,10 @@ use crate::made_file::{FileNumber, MadeFile};
 use crate::opening::{
     Making, Opened, SECTOR_LENGTH, cause, check_length, open_locked, whole_sectors,
 };
-use crate::refusal::{DeviceRefusal, FileFault};
+use crate::refusal::FileFault;
 use crate::sector_file::SectorFile;
 use sector_device::{SECTOR, Sector};
-use std::alloc::Global;
+use std::alloc::{AllocError, Global};
 use std::fs::Files;
 use std::marker::Model;
 use std::os::unix::fs::FileExt;
@@ -66,18 +66,18 @@ impl<'a, F: DeviceFile + Drop> LockedFile<'a, F> {
         alloc: Global,
         path: &'a str,
         making: Making,
-    ) -> Result<LockedFile<'a, F>, DeviceRefusal>
+    ) -> Result<LockedFile<'a, F>, FileFault>
         ensures fits { IfOk result (λ file. file.sectors * 512 < 2 ^ 63) }
         ensures not_made { making ≡ Making.Never → IfOk result (λ file. file.is_new ≡ false) }
     {
-        let buffer = ReadBuffer::new(alloc).map_err(FileFault::from)?;
+        let buffer = ReadBuffer::new(alloc)?;
         let zeros = zero_sectors(alloc)?;
         let opened = match open_locked(rt, path, making) {
             Ok(opened) => opened,
             Err(fault) => return Err(cause(rt, path, fault)),
         };
-        let metadata = opened.file.metadata()?;
-        let disk = opened.file.disk(&metadata)?;
+        let metadata = opened.file.metadata().map_err(FileFault::of_writing)?;
+        let disk = opened.file.disk(&metadata).map_err(FileFault::of_writing)?;
         let sectors = match disk {
             Some(disk) => idle_disk_sectors(rt, alloc, disk)?,
             None => whole_sectors(&metadata)?,
@@ -120,10 +120,11 @@ impl<'a, F: DeviceFile + Drop> LockedFile<'a, F> {
     ///
     /// # Errors
     /// It can't be read.
-    pub fn first_sector(&self) -> Result<Sector, DeviceRefusal> {
+    pub fn first_sector(&self) -> Result<Sector, FileFault> {
         let mut bytes = [0; SECTOR];
         if self.sectors > 0 {
-            self.opened.file.read_exact_at(&mut bytes, 0)?;
+            let read = self.opened.file.read_exact_at(&mut bytes, 0);
+            read.map_err(FileFault::of_writing)?;
         }
         Ok(bytes)
     }
@@ -132,13 +133,14 @@ impl<'a, F: DeviceFile + Drop> LockedFile<'a, F> {
     ///
     /// # Errors
     /// It can't be read, or there is no memory for 128 KiB.
-    pub fn is_blank(&self, alloc: Global) -> Result<bool, DeviceRefusal> {
+    pub fn is_blank(&self, alloc: Global) -> Result<bool, FileFault> {
         let mut piece = zero_sectors(alloc)?;
         let mut at = 0;
         while at < self.sectors {
             let count = (self.sectors - at).min(PIECE as u64);
             let bytes = piece[..count as usize].as_flattened_mut();
-            self.opened.file.read_exact_at(bytes, at * SECTOR_LENGTH)?;
+            let read = self.opened.file.read_exact_at(bytes, at * SECTOR_LENGTH);
+            read.map_err(FileFault::of_writing)?;
             if !bytes.iter().all(|byte| *byte == 0) {
                 return Ok(false);
             }
@@ -156,7 +158,7 @@ impl<'a, F: DeviceFile + Drop> LockedFile<'a, F> {
         self,
         rt: &R,
         wanted: Wanted,
-    ) -> Result<DeviceOn<F>, DeviceRefusal>
+    ) -> Result<DeviceOn<F>, FileFault>
         ensures sectors { IfOk result (λ device.
             device.inner.sectors ≡ max self.entry.sectors wanted.sectors) }
         ensures disk { self.entry.is_disk ≡ true → IfOk result (λ device.
@@ -181,7 +183,7 @@ impl<'a, F: DeviceFile + Drop> LockedFile<'a, F> {
             if let Some(made) = made {
                 made.remove(rt);
             }
-            return Err(DeviceRefusal::File(fault.for_writing()));
+            return Err(fault.for_writing());
         }
         let Opened { file, .. } = opened;
         let file = SectorFile::new(file, sectors.max(wanted.sectors));
@@ -190,10 +192,10 @@ impl<'a, F: DeviceFile + Drop> LockedFile<'a, F> {
 }
 
 // So many zero sectors as a piece has.
-fn zero_sectors(alloc: Global) -> Result<Vec<Sector>, DeviceRefusal>
+fn zero_sectors(alloc: Global) -> Result<Vec<Sector>, AllocError>
     ensures { IfOk result (λ zeros. vec_len zeros ≡ 256) }
 {
-    Ok(vec![in alloc; [0; SECTOR]; PIECE].map_err(FileFault::from)?)
+    vec![in alloc; [0; SECTOR]; PIECE]
 }
 
 // Grows a file until it has so many sectors, and syncs it and the folder that has its name.

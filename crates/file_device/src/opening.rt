@@ -2,7 +2,7 @@ ghost use Rattle.std.specs.Prelude.{◌≡◌, ◌≢◌, ◌*◌, ◌%◌, ◌<
 ghost use Rattle.std.specs.Fs.{metadata_len, file_type, IsFile};
 
 use crate::device_file::DeviceFile;
-use crate::refusal::{DeviceRefusal, FileFault};
+use crate::refusal::FileFault;
 use sector_device::SECTOR;
 use std::fs::{Files, Metadata, OpenFile, OpenOptions};
 use std::io::ErrorKind;
@@ -60,14 +60,10 @@ pub(crate) fn open_locked<F: DeviceFile + Drop, R: Files<File = F>>(
 }
 
 /// Why what is at the path isn't a device, for a fault of its opening. A disk has faults of its own.
-pub(crate) fn cause<R: Files>(rt: &R, path: &str, fault: FileFault) -> DeviceRefusal {
-    let of_disk = match fault.of_disk() {
-        Some(of_disk) => of_disk,
-        None => return DeviceRefusal::File(fault),
-    };
+pub(crate) fn cause<R: Files>(rt: &R, path: &str, fault: FileFault) -> FileFault {
     match fs::metadata(rt, path) {
-        Ok(found) if found.file_type().is_block_device() => DeviceRefusal::Disk(of_disk),
-        _ => DeviceRefusal::File(fault.for_writing()),
+        Ok(found) if found.file_type().is_block_device() => fault.of_disk(),
+        _ => fault.for_writing(),
     }
 }
 

@@ -1,6 +1,6 @@
 ghost use Rattle.std.specs.Prelude.{◌≡◌};
 ghost use Rattle.file_device.specs.declared.refusal.FileFault.TheVariants.{Memory};
-ghost use Rattle.file_device.specs.Disks.{as_file, of_file};
+ghost use Rattle.file_device.specs.Disks.{as_file};
 
 use std::alloc::AllocError;
 use std::io;
@@ -20,7 +20,8 @@ pub enum FileRefusal {
     File,
 }
 
-/// Why a file can't be had: to look at it, or as a device.
+/// Why a file or a disk, which is a block device, can't be had: to look at it, or as a device. Nothing was written to a
+/// disk.
 #[derive(Clone, Copy, Debug, PartialEq, Eq, Error)]
 pub enum FileFault {
     /// There is nothing at the path.
@@ -53,37 +54,21 @@ pub enum FileFault {
     /// A call of the system failed for another reason.
     #[error("the system fails to open, lock, read or write it")]
     Failed,
-}
-
-/// Why a disk, which is a block device, didn't become a device. Nothing was written to it. Texts go on behind its path.
-#[derive(Clone, Copy, Debug, PartialEq, Eq, Error)]
-pub enum DiskFault {
-    /// It may not be read and written: by this user, or by anybody.
-    #[error("is a disk that may not be read and written")]
-    Denied,
-    /// Another program has it, or it is mounted, swapped to or a part of another device.
-    #[error("is a disk that is in use")]
-    InUse,
-    /// It has fewer sectors than were asked for.
-    #[error("is a disk with too few sectors")]
-    TooSmall,
-    /// It doesn't begin as a ledger does, nor with zeros.
-    #[error("is a disk that holds no ledger; --overwrite takes it all the same")]
-    NoLedger,
+    /// It is a disk that may not be read and written: by this user, or by anybody.
+    #[error("it is a disk that may not be read and written")]
+    DiskDenied,
+    /// It is a disk that another program has, or that is mounted, swapped to or a part of another device.
+    #[error("it is a disk that is in use")]
+    DiskInUse,
+    /// It is a disk with fewer sectors than were asked for.
+    #[error("it is a disk with too few sectors")]
+    DiskTooSmall,
+    /// It is a disk that doesn't begin as a ledger does, nor with zeros.
+    #[error("it is a disk that holds no ledger; --overwrite takes it all the same")]
+    DiskHasNoLedger,
     /// A disk was to be written over, and this is none.
-    #[error("is no disk, and --overwrite is for disks alone")]
+    #[error("it is no disk, and --overwrite is for disks alone")]
     NoDisk,
-}
-
-/// Why a file or a disk didn't become a device.
-#[derive(Clone, Copy, Debug, PartialEq, Eq, Error)]
-pub enum DeviceRefusal {
-    /// Out of memory, or a cause that no disk has of its own.
-    #[error("{0}")]
-    File(FileFault),
-    /// It is a disk, or should be one.
-    #[error("it {0}")]
-    Disk(DiskFault),
 }
 
 impl FileFault {
@@ -95,21 +80,26 @@ impl FileFault {
         }
     }
 
-    // What it is of a disk, if a disk has a fault of its own for it.
-    pub(crate) fn of_disk(self) -> Option<DiskFault> {
+    // The same of a disk.
+    pub(crate) fn of_disk(self) -> FileFault {
         match self {
-            FileFault::NotReadable | FileFault::NotWritable => Some(DiskFault::Denied),
-            FileFault::InUse => Some(DiskFault::InUse),
-            _ => None,
+            FileFault::NotReadable | FileFault::NotWritable => FileFault::DiskDenied,
+            FileFault::InUse => FileFault::DiskInUse,
+            fault => fault,
         }
+    }
+
+    // Why a call failed on what was to be written too.
+    pub(crate) fn of_writing(error: io::Error) -> FileFault {
+        FileFault::from(error).for_writing()
     }
 }
 
 impl From<AllocError> for FileFault {
     ghost from_gives = { λ _ fault. fault ≡ Memory };
 
-    fn from(_error: AllocError) -> FileFault {
-        FileFault::Memory
+    fn from(_: AllocError) -> Self {
+        Self::Memory
     }
 }
 
@@ -129,38 +119,13 @@ impl From<io::Error> for FileFault {
     }
 }
 
-impl From<FileFault> for DeviceRefusal {
-    ghost from_gives = { λ fault refusal. refusal ≡ of_file fault };
+impl From<FileFault> for FileRefusal {
+    ghost from_gives = { λ fault file. file ≡ as_file fault };
 
-    fn from(fault: FileFault) -> DeviceRefusal {
-        DeviceRefusal::File(fault)
-    }
-}
-
-impl From<io::Error> for DeviceRefusal {
-    fn from(error: io::Error) -> DeviceRefusal {
-        DeviceRefusal::File(FileFault::from(error).for_writing())
-    }
-}
-
-impl From<DeviceRefusal> for FileRefusal {
-    ghost from_gives = { λ refusal file. file ≡ as_file refusal };
-
-    fn from(refusal: DeviceRefusal) -> FileRefusal {
-        match refusal {
-            DeviceRefusal::File(FileFault::Memory) => FileRefusal::Memory,
-            DeviceRefusal::File(
-                FileFault::Missing
-                | FileFault::NoFolder
-                | FileFault::NotReadable
-                | FileFault::NotWritable
-                | FileFault::NoFile
-                | FileFault::NotSectors
-                | FileFault::InUse
-                | FileFault::NoRoom
-                | FileFault::Failed,
-            ) => FileRefusal::File,
-            DeviceRefusal::Disk(_) => FileRefusal::File,
+    fn from(fault: FileFault) -> FileRefusal {
+        match fault {
+            FileFault::Memory => FileRefusal::Memory,
+            _ => FileRefusal::File,
         }
     }
 }

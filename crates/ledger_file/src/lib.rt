@@ -14,7 +14,7 @@ mod plan;
 mod refusal;
 
 pub use copying::{CopyPlace, open_for_copy, open_for_migration};
-pub use file_device::{DeviceRefusal, DiskFault, FileDevice, FileFault, Making};
+pub use file_device::{FileDevice, FileFault, Making};
 pub use gate_journal::FormatRefusal;
 pub use journal_recovery::MigrateRefusal;
 pub use opening::{Formatting, MOST_SECTORS, format_ledger, open_for_script, open_ledger};

@@ -4,7 +4,7 @@ ghost use Rattle.std.specs.Int.NonZero.{non_zero_u64_get};
 
 use crate::plan::{check_formatting, sectors_planned};
 use crate::refusal::LedgerRefusal;
-use file_device::{DeviceFile, DeviceOn, DeviceRefusal, LockedFile, MadeFile, Making, Wanted};
+use file_device::{DeviceFile, DeviceOn, FileFault, LockedFile, MadeFile, Making, Wanted};
 use gate_journal::{FirstSector, FormatRefusal, MOST_SLOTS, format, sectors_needed};
 use std::alloc::Global;
 use std::fs::Files;
@@ -66,7 +66,7 @@ pub fn open_for_script<F: DeviceFile + Drop, R: Files<File = F>>(
     path: &str,
     asked: u64,
     making: Making,
-) -> Result<DeviceOn<F>, DeviceRefusal>
+) -> Result<DeviceOn<F>, FileFault>
     ensures fits { IfOk result (λ device. device.inner.sectors * 512 < 2 ^ 63) }
     ensures failures { IfOk result (λ device.
         (device.inner.failures ≡ 0) × (device.refused ≡ 0)) }

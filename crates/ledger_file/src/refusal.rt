@@ -4,7 +4,7 @@ ghost use Rattle.ledger_file.specs.declared.refusal.CopyRefusal.TheVariants.{Tar
 ghost use Rattle.ledger_file.specs.Refusals.{IsToldAs};
 
 use crate::plan::{HeldFault, PartFault};
-use file_device::{DeviceRefusal, FileFault};
+use file_device::FileFault;
 use gate_journal::FormatRefusal;
 use journal_recovery::MigrateRefusal;
 use thiserror::Error;
@@ -14,7 +14,7 @@ use thiserror::Error;
 pub enum LedgerRefusal {
     /// It can't be had as a device.
     #[error("{0}")]
-    Device(DeviceRefusal),
+    Device(FileFault),
     /// There is nothing at the path.
     #[error("there is no such file; derbyfig format makes a ledger there")]
     Missing,
@@ -49,24 +49,20 @@ pub enum CopyRefusal {
 impl LedgerRefusal {
     /// Whether there was no memory.
     pub fn is_memory(self) -> bool
-        ensures { IsTrue result
-            ↔ (self ≡ LedgerRefusal.Device (DeviceRefusal.File FileFault.Memory)) }
+        ensures { IsTrue result ↔ (self ≡ LedgerRefusal.Device FileFault.Memory) }
     {
-        match self {
-            LedgerRefusal::Device(DeviceRefusal::File(fault)) => fault == FileFault::Memory,
-            _ => false,
-        }
+        matches!(self, LedgerRefusal::Device(FileFault::Memory))
     }
 }
 
 /// A missing file is reported as one that could be made.
-impl From<DeviceRefusal> for LedgerRefusal {
+impl From<FileFault> for LedgerRefusal {
     ghost from_gives = { IsToldAs };
 
-    fn from(refusal: DeviceRefusal) -> LedgerRefusal {
-        match refusal {
-            DeviceRefusal::File(FileFault::Missing) => LedgerRefusal::Missing,
-            refusal => LedgerRefusal::Device(refusal),
+    fn from(fault: FileFault) -> LedgerRefusal {
+        match fault {
+            FileFault::Missing => LedgerRefusal::Missing,
+            fault => LedgerRefusal::Device(fault),
         }
     }
 }

@@ -1,5 +1,5 @@
 //! The text of each refusal that no call of the console tells: what it tells, `checks/calls/refusal_texts.py` lists.
-use file_device::{DeviceRefusal, DiskFault, FileFault, FileRefusal};
+use file_device::{FileFault, FileRefusal};
 use gate_journal::{FormatRefusal, ReadRefusal};
 use journal_recovery::{MigrateRefusal, OpenRefusal};
 use ledger_archive::{AddRefusal, FollowRefusal};
@@ -62,34 +62,26 @@ fn ends_of_stations_have_names(rt: HostRuntime) {
     assert!(rt; reads(rt.alloc(), &ends, lines));
 }
 
-fn file(fault: FileFault) -> LedgerRefusal {
-    LedgerRefusal::Device(DeviceRefusal::File(fault))
-}
-
-fn disk(fault: DiskFault) -> LedgerRefusal {
-    LedgerRefusal::Device(DeviceRefusal::Disk(fault))
-}
-
 #[test]
 fn refusals_of_files_have_texts(rt: HostRuntime) {
     use FileFault::*;
     let alloc = rt.alloc();
     let refusals = [
-        file(Missing),
-        file(NoFolder),
-        file(NotReadable),
-        file(NotWritable),
-        file(NoFile),
-        file(NotSectors),
-        file(InUse),
-        file(NoRoom),
-        file(Memory),
-        file(Failed),
-        disk(DiskFault::Denied),
-        disk(DiskFault::InUse),
-        disk(DiskFault::TooSmall),
-        disk(DiskFault::NoLedger),
-        disk(DiskFault::NoDisk),
+        LedgerRefusal::Device(Missing),
+        LedgerRefusal::Device(NoFolder),
+        LedgerRefusal::Device(NotReadable),
+        LedgerRefusal::Device(NotWritable),
+        LedgerRefusal::Device(NoFile),
+        LedgerRefusal::Device(NotSectors),
+        LedgerRefusal::Device(InUse),
+        LedgerRefusal::Device(NoRoom),
+        LedgerRefusal::Device(Memory),
+        LedgerRefusal::Device(Failed),
+        LedgerRefusal::Device(DiskDenied),
+        LedgerRefusal::Device(DiskInUse),
+        LedgerRefusal::Device(DiskTooSmall),
+        LedgerRefusal::Device(DiskHasNoLedger),
+        LedgerRefusal::Device(NoDisk),
     ];
     let lines = "there is no such file\n\
         there is no such folder; make it first\n\

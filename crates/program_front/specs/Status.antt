@@ -8,10 +8,8 @@ use Rattle.journal_recovery.specs.declared.migration.MigrateRefusal.{MigrateRefu
 use Rattle.journal_recovery.specs.declared.migration.MigrateRefusal.TheVariants as migration
 use Rattle.turn_clerk.specs.declared.refusals.TurnRefusal.{TurnRefusal}
 use Rattle.turn_clerk.specs.declared.refusals.TurnRefusal.TheVariants as turn
-use Rattle.file_device.specs.declared.refusal.DeviceRefusal.{DeviceRefusal}
-use Rattle.file_device.specs.declared.refusal.DeviceRefusal.TheVariants as device
-use Rattle.file_device.specs.declared.refusal.DiskFault.{DiskFault}
-use Rattle.file_device.specs.declared.refusal.DiskFault.TheVariants as disk
+use Rattle.file_device.specs.declared.refusal.FileFault.{FileFault}
+use Rattle.file_device.specs.declared.refusal.FileFault.TheVariants as file
 use Rattle.ledger_file.specs.declared.refusal.LedgerRefusal.{LedgerRefusal}
 use Rattle.ledger_file.specs.declared.refusal.LedgerRefusal.TheVariants as ledger
 use Rattle.console_engine.specs.declared.faults.ScriptFault.{ScriptFault}
@@ -55,19 +53,16 @@ of_turn turn.Device = Failed
 of_turn turn.Faulted = Failed
 of_turn _ = Refused
 
--- a disk that can't be had fails, one that isn't taken is refused
-abbrev pub of_disk : DiskFault → Status
-of_disk disk.Denied = Failed
-of_disk disk.InUse = Failed
-of_disk _ = Refused
-
-abbrev pub of_device : DeviceRefusal → Status
-of_device (device.File fault) = Failed
-of_device (device.Disk fault) = of_disk fault
+-- a file or a disk that can't be had fails, a disk that isn't taken is refused
+abbrev pub of_file : FileFault → Status
+of_file file.DiskTooSmall = Refused
+of_file file.DiskHasNoLedger = Refused
+of_file file.NoDisk = Refused
+of_file _ = Failed
 
 -- a path where nothing is fails, and what is there and isn't taken is refused
 abbrev pub of_ledger : LedgerRefusal → Status
-of_ledger (ledger.Device refusal) = of_device refusal
+of_ledger (ledger.Device fault) = of_file fault
 of_ledger (ledger.Format refusal) = of_format refusal
 of_ledger ledger.Missing = Failed
 of_ledger _ = Refused

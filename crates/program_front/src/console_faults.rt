@@ -1,7 +1,7 @@
 //! What `turn_console` tells of why it ends early.
 use crate::faults::Fault;
 use journal_recovery::OpenName;
-use ledger_file::{DeviceRefusal, FormatRefusal, LedgerRefusal, PartFault};
+use ledger_file::{FileFault, FormatRefusal, LedgerRefusal, PartFault};
 use std::fmt;
 
 /// A fault of a script, in the words of `turn_console`: why a disk is refused, but only that a file is, and by its name
@@ -28,9 +28,10 @@ fn write_refusal<W: fmt::Write>(
     f: &mut fmt::Formatter<W>,
 ) -> fmt::Result {
     match refusal {
-        LedgerRefusal::Device(DeviceRefusal::Disk(fault)) => {
-            write!(f, "device failed: {path} {fault}")
-        }
+        LedgerRefusal::Device(fault) => match told_of_disk(fault) {
+            Some(told) => write!(f, "device failed: {path} {told}"),
+            None => f.write_str("device failed"),
+        },
         LedgerRefusal::Held(_) => f.write_str("migrate refused NotEmpty"),
         LedgerRefusal::Part(PartFault::OtherVersion(version)) => {
             write!(f, "migrate refused Source Version {version}")
@@ -38,5 +39,19 @@ fn write_refusal<W: fmt::Write>(
         LedgerRefusal::Format(FormatRefusal::Device) => f.write_str("migrate refused Target"),
         LedgerRefusal::Format(refusal) => write!(f, "migrate refused {refusal:?}"),
         _ => f.write_str("device failed"),
+    }
+}
+
+// What is told of a disk behind its path.
+fn told_of_disk(fault: FileFault) -> Option<&'static str> {
+    match fault {
+        FileFault::DiskDenied => Some("is a disk that may not be read and written"),
+        FileFault::DiskInUse => Some("is a disk that is in use"),
+        FileFault::DiskTooSmall => Some("is a disk with too few sectors"),
+        FileFault::DiskHasNoLedger => {
+            Some("is a disk that holds no ledger; --overwrite takes it all the same")
+        }
+        FileFault::NoDisk => Some("is no disk, and --overwrite is for disks alone"),
+        _ => None,
     }
 }

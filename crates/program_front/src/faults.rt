@@ -14,7 +14,7 @@ ghost use Rattle.program_front.specs.Statuses.{
 use crate::status::Status;
 use archive_engine::{ArchiveFault, FolderFault};
 use console_engine::ScriptFault;
-use file_device::{DeviceRefusal, FileFault};
+use file_device::FileFault;
 use journal_recovery::{MigrateRefusal, OpenRefusal};
 use ledger_file::{CopyRefusal, FormatRefusal, LedgerRefusal, PartFault};
 use ledger_inspection::InspectionFault;
@@ -89,9 +89,9 @@ impl<'a> Fault<'a> {
     // Of a path where there is no ledger. Out of memory is told as such.
     pub(crate) fn of_ledger(path: &'a str, refusal: LedgerRefusal) -> Fault<'a>
         ensures status { status_of result ≡ of_ledger refusal }
-        ensures memory { refusal ≡ LedgerRefusal.Device (DeviceRefusal.File FileFault.Memory)
+        ensures memory { refusal ≡ LedgerRefusal.Device FileFault.Memory
             → result ≡ Fault.Script ScriptFault.Memory }
-        ensures other { refusal ≢ LedgerRefusal.Device (DeviceRefusal.File FileFault.Memory)
+        ensures other { refusal ≢ LedgerRefusal.Device FileFault.Memory
             → result ≡ Fault.Ledger path.entry refusal }
     {
         if refusal.is_memory() {

@@ -32,7 +32,7 @@ pub use console_words::options;
 pub use derbyfig::run_derbyfig;
 pub use faults::Fault;
 pub use host::{run_console, run_derbyfig_words, words_given};
-pub use ledger_file::{DeviceRefusal, DiskFault, FileFault, Formatting, LedgerRefusal};
+pub use ledger_file::{FileFault, Formatting, LedgerRefusal};
 pub use ledger_inspection::{Date, Format, Inspection, JournalWish, Locking, Selection, Task};
 pub use office_engine::{FileLocks, Serving, Surroundings};
 pub use request::{Copying, OlderLedger, Origin, Request, Running, ScriptFile};

@@ -12,7 +12,7 @@ use crate::request::{OlderLedger, Running, ScriptFile};
 use console_engine::{ScriptFault, run_script};
 use file_device::{FileDevice, Making};
 use journal_recovery::{MigrateRefusal, OpenRefusal, may_hold_postings, migrate};
-use ledger_file::{CopyRefusal, DeviceRefusal, HeldFault, LedgerRefusal, open_for_script};
+use ledger_file::{CopyRefusal, FileFault, HeldFault, LedgerRefusal, open_for_script};
 use office_counters::{RosterPath, note_script};
 use script_streams::write_all;
 use sector_device::{Device, MemoryDevice};
@@ -72,11 +72,11 @@ fn opened<'a, F: Files<File = File>>(
         Some(sectors) => open_for_script(rt, alloc, path, sectors, Making::IfMissing),
         None => open_for_script(rt, alloc, path, 0, Making::Never),
     };
-    opened.map_err(|refusal| unopened(path, refusal))
+    opened.map_err(|fault| unopened(path, fault))
 }
 
-fn unopened(path: &str, refusal: DeviceRefusal) -> Fault<'_> {
-    Fault::of_ledger(path, LedgerRefusal::from(refusal))
+fn unopened(path: &str, fault: FileFault) -> Fault<'_> {
+    Fault::of_ledger(path, LedgerRefusal::from(fault))
 }
 
 // The device that an older ledger was copied onto, which is said. The older one is opened first, so that no other file
@@ -90,8 +90,8 @@ fn upgraded<'a, F: Files<File = File>, W: Write>(
     writer: &mut W,
 ) -> Result<FileDevice, Fault<'a>> {
     let OlderLedger { path, slots } = older;
-    let old = FileDevice::open_with_cause(rt, alloc, path, 0).map_err(|refusal| unopened(
-        path, refusal,
+    let old = FileDevice::open_with_cause(rt, alloc, path, 0).map_err(|fault| unopened(
+        path, fault,
     ))?;
     let device = opened(rt, alloc, file, sectors)?;
     let (device, migrated) = migrate_onto(alloc, old, device, slots.get());

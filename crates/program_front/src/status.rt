@@ -3,7 +3,7 @@ ghost use Rattle.std.specs.Prelude.{◌≡◌, ◌≤◌};
 ghost use Rattle.program_front.specs.Status.{code_of, console_code_of};
 
 use console_engine::ScriptFault;
-use file_device::{DeviceRefusal, DiskFault};
+use file_device::FileFault;
 use gate_journal::FormatRefusal;
 use journal_recovery::OpenRefusal;
 use ledger_file::LedgerRefusal;
@@ -100,32 +100,18 @@ impl From<TurnRefusal> for Status {
     }
 }
 
-/// A disk that can't be had fails, one that isn't taken is refused.
-impl From<DiskFault> for Status {
+/// A file or a disk that can't be had fails, a disk that isn't taken is refused.
+impl From<FileFault> for Status {
     ghost use Rattle.std.specs.Prelude.{◌≡◌};
-    ghost use Rattle.program_front.specs.Status.{of_disk};
+    ghost use Rattle.program_front.specs.Status.{of_file};
 
-    ghost from_gives = { λ refusal status. status ≡ of_disk refusal };
+    ghost from_gives = { λ fault status. status ≡ of_file fault };
 
-    fn from(refusal: DiskFault) -> Status {
-        match refusal {
-            DiskFault::Denied | DiskFault::InUse => Status::Failed,
-            DiskFault::TooSmall | DiskFault::NoLedger | DiskFault::NoDisk => Status::Refused,
-        }
-    }
-}
-
-/// A file that can't be had fails.
-impl From<DeviceRefusal> for Status {
-    ghost use Rattle.std.specs.Prelude.{◌≡◌};
-    ghost use Rattle.program_front.specs.Status.{of_device};
-
-    ghost from_gives = { λ refusal status. status ≡ of_device refusal };
-
-    fn from(refusal: DeviceRefusal) -> Status {
-        match refusal {
-            DeviceRefusal::File(_) => Status::Failed,
-            DeviceRefusal::Disk(fault) => Status::from(fault),
+    fn from(fault: FileFault) -> Status {
+        match fault {
+            FileFault::DiskTooSmall | FileFault::DiskHasNoLedger | FileFault::NoDisk =>
+                Status::Refused,
+            _ => Status::Failed,
         }
     }
 }
