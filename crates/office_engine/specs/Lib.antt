@@ -1,4 +1,3 @@
 pub mod Ends
-pub mod Serving
 pub mod Copies
 pub mod FolderArchive

@@ -27,7 +27,7 @@ pub use office_counters::{CountersFault, RosterFault, RosterPath};
 pub use pipes::{PipeRefusal, Side, open_pipe};
 pub use runtime::Runtime;
 pub use seating::TERMINAL;
-pub use serving::{CounterFolder, Plan, Serving, ServingConflict};
+pub use serving::{CounterFolder, Plan, Serving};
 pub use source::{Source, Target};
 pub use speaking::ControlFault;
 pub use standing::{Told, ask_standing};

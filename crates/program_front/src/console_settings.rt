@@ -3,8 +3,8 @@ ghost use Rattle.std.specs.Prelude.{◌≡◌, ◌↔◌, ◌⊎◌, None, Some,
 ghost use Rattle.program_front.specs.ConsoleSettings.{IsPlanOf, NamesOnePath};
 
 use crate::request::{OlderLedger, Running, ScriptFile};
+use crate::wrong_words::WrongWords;
 use std::num::NonZeroU64;
-use thiserror::Error;
 
 /// What the words ask for.
 #[derive(Clone, Copy, Debug)]
@@ -21,50 +21,33 @@ pub struct Options<'a> {
     pub overwrite: bool,
 }
 
-/// Why words that are well read don't go together. The first that holds is answered.
-#[derive(Clone, Copy, Debug, PartialEq, Eq, Error)]
-pub enum OptionConflict {
-    /// There is nothing to copy onto, or nothing says how many slots it gets.
-    #[error("--migrate needs --device and --slots")]
-    MigrateAlone,
-    /// Slots are told for nothing.
-    #[error("--slots needs --migrate")]
-    SlotsAlone,
-    /// A file can't be copied onto itself.
-    #[error("--migrate needs another path")]
-    OnePath,
-    /// There is no disk to write over.
-    #[error("--overwrite needs --device")]
-    OverwriteAlone,
-}
-
 impl<'a> Options<'a> {
     /// The script that is to be run, if the options go together. What it posts isn't noted.
     ///
     /// # Errors
-    /// [`OptionConflict`], the first that holds.
-    pub fn plan(self) -> Result<Running<'a>, OptionConflict>
+    /// [`WrongWords`], the first that holds.
+    pub fn plan(self) -> Result<Running<'a>, WrongWords>
         ensures plan { IfOk result (IsPlanOf self.entry) }
-        ensures migrate_alone { (result ≡ Err OptionConflict.MigrateAlone)
+        ensures migrate_alone { (result ≡ Err WrongWords.MigrateAlone)
             ↔ (IsSome self.entry.migrate
             × ((self.entry.device ≡ None) ⊎ (self.entry.slots ≡ None))) }
-        ensures slots_alone { (result ≡ Err OptionConflict.SlotsAlone)
+        ensures slots_alone { (result ≡ Err WrongWords.SlotsAlone)
             ↔ ((self.entry.migrate ≡ None) × IsSome self.entry.slots) }
-        ensures one_path { (result ≡ Err OptionConflict.OnePath)
+        ensures one_path { (result ≡ Err WrongWords.OnePath)
             ↔ (NamesOnePath self.entry × IsSome self.entry.slots) }
-        ensures overwrite_alone { (result ≡ Err OptionConflict.OverwriteAlone)
+        ensures overwrite_alone { (result ≡ Err WrongWords.OverwriteAlone)
             ↔ (IsTrue self.entry.overwrite × (self.entry.device ≡ None)
             × (self.entry.migrate ≡ None) × (self.entry.slots ≡ None)) }
     {
         let (old, path, slots) = match (self.migrate, self.device, self.slots) {
-            (None, None, None) if self.overwrite => return Err(OptionConflict::OverwriteAlone),
+            (None, None, None) if self.overwrite => return Err(WrongWords::OverwriteAlone),
             (None, _, None) => return Ok(self.running(None)),
-            (None, _, Some(_)) => return Err(OptionConflict::SlotsAlone),
+            (None, _, Some(_)) => return Err(WrongWords::SlotsAlone),
             (Some(old), Some(path), Some(slots)) => (old, path, slots),
-            (Some(_), _, _) => return Err(OptionConflict::MigrateAlone),
+            (Some(_), _, _) => return Err(WrongWords::MigrateAlone),
         };
         if old == path {
-            return Err(OptionConflict::OnePath);
+            return Err(WrongWords::OnePath);
         }
         Ok(self.running(Some(OlderLedger { path: old, slots })))
     }

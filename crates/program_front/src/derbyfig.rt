@@ -5,6 +5,7 @@ ghost use Rattle.clap.specs.declared.error.kind.ErrorKind.TheVariants.{DisplayHe
 ghost use Rattle.program_front.specs.Statuses.{of_inspection, status_of};
 
 use crate::faults::Fault;
+use crate::office_plan::plan_office;
 use crate::request::{Copying, Origin, Request};
 use crate::running::{run_on_device, say};
 use crate::status::Status;
@@ -122,7 +123,7 @@ fn serve_counters<
     writer: &mut W,
     errors: &mut E,
 ) -> Status {
-    let plan = match serving.plan() {
+    let plan = match plan_office(serving) {
         Ok(plan) => plan,
         Err(wrong) => return tell_wrong(alloc, wrong, errors),
     };

@@ -5,7 +5,7 @@ ghost use Rattle.std.specs.Str.Parse.{digits_value, without_leading_plus};
 ghost use Rattle.clap.specs.Words.{first_value, found_of, one_text, rule_of};
 ghost use Rattle.program_front.specs.ConsoleWords.{path_option, number_option, flag_option};
 
-use crate::words::WrongWord;
+use crate::wrong_words::WrongWords;
 use clap::builder::ValueParser;
 use clap::{Arg, ArgAction, ArgMatches};
 use four_state::{FEWEST_STATIONS, MOST_STATIONS};
@@ -102,7 +102,7 @@ impl NumberOption {
     }
 
     /// The number that it is given, or None if it isn't there.
-    pub(crate) fn given(self, matches: &ArgMatches<'_>) -> Result<Option<u64>, WrongWord>
+    pub(crate) fn given(self, matches: &ArgMatches<'_>) -> Result<Option<u64>, WrongWords>
         ensures none { IfOk result (λ number. number ≡ None
             → first_value (found_of matches.now) self.name.now ≡ None) }
         ensures asked { IfOk result (λ found. IfSome found (λ number. (text : List ℕ)
@@ -116,7 +116,7 @@ impl NumberOption {
         }
         match self.number(matches) {
             Some(number) => Ok(Some(number)),
-            None => Err(WrongWord::OutOfRange),
+            None => Err(WrongWords::OutOfRange),
         }
     }
 

@@ -8,6 +8,7 @@ use crate::option_table::{
     ACCOUNT, AT, FORMAT, FROM, REFERENCE, SECONDS, SECTORS, SLOTS, STATIONS, non_zero,
 };
 use crate::request::{Copying, Origin, Request, Running, ScriptFile};
+use crate::wrong_words::WrongWords;
 use archive_engine::Archiving;
 use clap::error::ErrorKind;
 use clap::{ArgMatches, Error};
@@ -15,8 +16,7 @@ use ledger_file::Formatting;
 use ledger_inspection::{Date, Format, Inspection, JournalWish, Locking, Selection, Task};
 use office_counters::{is_name, name_of};
 use office_engine::{CounterFolder, Serving, TERMINAL};
-use std::alloc::{AllocError, AllocFailed, Global};
-use thiserror::Error as Sentence;
+use std::alloc::{AllocError, Global};
 
 /// What the words ask for, of which the first is the program's name; or what `clap` answers to wrong words, to the wish
 /// for help or the version, and if there is no memory.
@@ -30,7 +30,7 @@ pub fn read_request<'a>(alloc: Global, words: &'a [&'a str]) -> Result<Request<'
     let matches = command.try_get_matches_from_mut(words)?;
     match requested(alloc, &matches) {
         Ok(request) => Ok(request),
-        Err(WrongWord::Memory) => Err(Error::from(AllocError)),
+        Err(WrongWords::Memory) => Err(Error::from(AllocError)),
         Err(wrong) => {
             let sentence = format!(in alloc; "{wrong}")?;
             Err(command.error(ErrorKind::InvalidValue, sentence.as_str())?)
@@ -38,37 +38,11 @@ pub fn read_request<'a>(alloc: Global, words: &'a [&'a str]) -> Result<Request<'
     }
 }
 
-/// What is wrong with words that `clap` let through.
-#[derive(Clone, Copy, Debug, PartialEq, Eq, Drop, Sentence)]
-pub(crate) enum WrongWord {
-    #[error("out of memory")]
-    Memory,
-    // `clap` refuses such words by the table of commands
-    #[error("the words are those of no command")]
-    Undeclared,
-    #[error("a date has the form YYYY-MM-DD, and is a day of the calendar")]
-    NoDate,
-    #[error("a number is out of range")]
-    OutOfRange,
-    #[error("NEW is {0}; take another path")]
-    NewIs(Origin),
-    #[error("a counter's name has 1 to 64 letters, digits, - and _: give it one by NAME=PATH")]
-    NoName,
-    #[error("two counters have the same name: give one another by NAME=PATH")]
-    SameName,
-}
-
-impl<T: Drop> From<AllocFailed<T>> for WrongWord {
-    fn from(_: AllocFailed<T>) -> WrongWord {
-        WrongWord::Memory
-    }
-}
-
-fn requested<'a>(alloc: Global, matches: &ArgMatches<'a>) -> Result<Request<'a>, WrongWord>
+fn requested<'a>(alloc: Global, matches: &ArgMatches<'a>) -> Result<Request<'a>, WrongWords>
     ensures within { IfOk result IsWithin }
 {
-    let (name, options) = matches.subcommand().ok_or(WrongWord::Undeclared)?;
-    match Verb::named(name).ok_or(WrongWord::Undeclared)? {
+    let (name, options) = matches.subcommand().ok_or(WrongWords::Undeclared)?;
+    match Verb::named(name).ok_or(WrongWords::Undeclared)? {
         Verb::Run => running(options),
         Verb::Serve => serving(alloc, options),
         Verb::Close => closing(options),
@@ -91,11 +65,11 @@ fn requested<'a>(alloc: Global, matches: &ArgMatches<'a>) -> Result<Request<'a>,
 }
 
 // A path that has to be there.
-fn path<'a>(options: &ArgMatches<'a>, name: &str) -> Result<&'a str, WrongWord> {
-    options.get_str(name).ok_or(WrongWord::Undeclared)
+fn path<'a>(options: &ArgMatches<'a>, name: &str) -> Result<&'a str, WrongWords> {
+    options.get_str(name).ok_or(WrongWords::Undeclared)
 }
 
-fn running<'a>(options: &ArgMatches<'a>) -> Result<Request<'a>, WrongWord>
+fn running<'a>(options: &ArgMatches<'a>) -> Result<Request<'a>, WrongWords>
     ensures within { IfOk result IsWithin }
 {
     let file = options.get_str("FILE").map(|path| ScriptFile {
@@ -108,7 +82,7 @@ fn running<'a>(options: &ArgMatches<'a>) -> Result<Request<'a>, WrongWord>
     Ok(Request::Run(Running { file, sectors }))
 }
 
-fn serving<'a>(alloc: Global, options: &ArgMatches<'a>) -> Result<Request<'a>, WrongWord>
+fn serving<'a>(alloc: Global, options: &ArgMatches<'a>) -> Result<Request<'a>, WrongWords>
     ensures within { IfOk result IsWithin }
 {
     let path = path(options, "FILE")?;
@@ -137,7 +111,7 @@ fn counters<'a>(
     alloc: Global,
     options: &ArgMatches<'a>,
     has_terminal: bool,
-) -> Result<Vec<CounterFolder<'a>>, WrongWord> {
+) -> Result<Vec<CounterFolder<'a>>, WrongWords> {
     let mut counters = Vec::new(alloc);
     for word in options.get_strs("counter").unwrap_or(&[]) {
         add_counter(&mut counters, word, has_terminal)?;
@@ -153,14 +127,14 @@ fn add_counter<'a>(
     counters: &mut Vec<CounterFolder<'a>>,
     word: &'a str,
     has_terminal: bool,
-) -> Result<(), WrongWord> {
+) -> Result<(), WrongWords> {
     let (name, folder) = name_of(word);
     if !is_name(name) {
-        return Err(WrongWord::NoName);
+        return Err(WrongWords::NoName);
     }
     let is_terminal = has_terminal && name == TERMINAL;
     if is_terminal || counters.iter().any(|other| other.name == name) {
-        return Err(WrongWord::SameName);
+        return Err(WrongWords::SameName);
     }
     counters.push(CounterFolder { name, folder })?;
     Ok(())
@@ -169,7 +143,7 @@ fn add_counter<'a>(
 // How long an office may take to close, unless that is said.
 const PATIENCE: u64 = 60;
 
-fn closing<'a>(options: &ArgMatches<'a>) -> Result<Request<'a>, WrongWord>
+fn closing<'a>(options: &ArgMatches<'a>) -> Result<Request<'a>, WrongWords>
     ensures within { IfOk result IsWithin }
 {
     let counter = path(options, "COUNTER")?;
@@ -177,7 +151,7 @@ fn closing<'a>(options: &ArgMatches<'a>) -> Result<Request<'a>, WrongWord>
     Ok(Request::Close { counter, seconds })
 }
 
-fn making<'a>(options: &ArgMatches<'a>) -> Result<Request<'a>, WrongWord>
+fn making<'a>(options: &ArgMatches<'a>) -> Result<Request<'a>, WrongWords>
     ensures within { IfOk result IsWithin }
 {
     Ok(Request::Format {
@@ -186,23 +160,23 @@ fn making<'a>(options: &ArgMatches<'a>) -> Result<Request<'a>, WrongWord>
     })
 }
 
-fn formatting(options: &ArgMatches<'_>) -> Result<Formatting, WrongWord>
+fn formatting(options: &ArgMatches<'_>) -> Result<Formatting, WrongWords>
     ensures slots { IfOk result (λ formatting. non_zero_u64_get formatting.slots ≤ 1000000) }
 {
     Ok(Formatting {
-        slots: non_zero(SLOTS.given(options)?).ok_or(WrongWord::OutOfRange)?,
+        slots: non_zero(SLOTS.given(options)?).ok_or(WrongWords::OutOfRange)?,
         sectors: 0,
         overwrite: options.get_flag("overwrite"),
     })
 }
 
 // What is to be copied, but not onto itself.
-fn copying<'a>(options: &ArgMatches<'a>, origin: Origin) -> Result<Request<'a>, WrongWord>
+fn copying<'a>(options: &ArgMatches<'a>, origin: Origin) -> Result<Request<'a>, WrongWords>
     ensures within { IfOk result IsWithin }
 {
     let (old, path) = (path(options, origin.word())?, path(options, "NEW")?);
     if old == path {
-        return Err(WrongWord::NewIs(origin));
+        return Err(WrongWords::NewIs(origin));
     }
     Ok(Request::Copy(Copying {
         old,
@@ -212,7 +186,7 @@ fn copying<'a>(options: &ArgMatches<'a>, origin: Origin) -> Result<Request<'a>, 
     }))
 }
 
-fn archiving<'a>(options: &ArgMatches<'a>) -> Result<Request<'a>, WrongWord>
+fn archiving<'a>(options: &ArgMatches<'a>) -> Result<Request<'a>, WrongWords>
     ensures within { IfOk result IsWithin }
 {
     Ok(Request::Archive(Archiving {
@@ -225,7 +199,7 @@ fn looking<'a>(
     alloc: Global,
     options: &ArgMatches<'a>,
     task: Task,
-) -> Result<Request<'a>, WrongWord>
+) -> Result<Request<'a>, WrongWords>
     ensures within { IfOk result IsWithin }
 {
     Ok(Request::Inspect(Inspection {
@@ -244,15 +218,15 @@ fn locking(options: &ArgMatches<'_>) -> Locking {
 }
 
 // The files among the words.
-fn files<'a>(alloc: Global, options: &ArgMatches<'a>) -> Result<Vec<&'a str>, WrongWord> {
+fn files<'a>(alloc: Global, options: &ArgMatches<'a>) -> Result<Vec<&'a str>, WrongWords> {
     let mut files = Vec::new(alloc);
     if let Some(given) = options.get_strs("FILE") {
-        files.extend_from_slice(given).or(Err(WrongWord::Memory))?;
+        files.extend_from_slice(given).or(Err(WrongWords::Memory))?;
     }
     Ok(files)
 }
 
-fn printing(options: &ArgMatches<'_>) -> Result<Task, WrongWord> {
+fn printing(options: &ArgMatches<'_>) -> Result<Task, WrongWords> {
     Ok(Task::Journal(JournalWish {
         selection: selection(options)?,
         format: format(options)?,
@@ -260,7 +234,7 @@ fn printing(options: &ArgMatches<'_>) -> Result<Task, WrongWord> {
     }))
 }
 
-fn balancing(options: &ArgMatches<'_>) -> Result<Task, WrongWord> {
+fn balancing(options: &ArgMatches<'_>) -> Result<Task, WrongWords> {
     Ok(Task::Balances {
         format: format(options)?,
         date: date(options)?,
@@ -268,7 +242,7 @@ fn balancing(options: &ArgMatches<'_>) -> Result<Task, WrongWord> {
     })
 }
 
-fn selection(options: &ArgMatches<'_>) -> Result<Selection, WrongWord> {
+fn selection(options: &ArgMatches<'_>) -> Result<Selection, WrongWords> {
     let (account, reference) = (account(options)?, REFERENCE.given(options)?);
     Ok(Selection {
         from: FROM.given(options)?.unwrap_or(0),
@@ -278,20 +252,20 @@ fn selection(options: &ArgMatches<'_>) -> Result<Selection, WrongWord> {
     })
 }
 
-fn account(options: &ArgMatches<'_>) -> Result<Option<u32>, WrongWord> {
+fn account(options: &ArgMatches<'_>) -> Result<Option<u32>, WrongWords> {
     let Some(number) = ACCOUNT.given(options)? else {
         return Ok(None);
     };
-    let account = u32::try_from(number).or(Err(WrongWord::OutOfRange))?;
+    let account = u32::try_from(number).or(Err(WrongWords::OutOfRange))?;
     Ok(Some(account))
 }
 
-fn format(options: &ArgMatches<'_>) -> Result<Format, WrongWord> {
-    let name = options.get_str("as").ok_or(WrongWord::Undeclared)?;
-    Format::named(name).ok_or(WrongWord::Undeclared)
+fn format(options: &ArgMatches<'_>) -> Result<Format, WrongWords> {
+    let name = options.get_str("as").ok_or(WrongWords::Undeclared)?;
+    Format::named(name).ok_or(WrongWords::Undeclared)
 }
 
-fn date(options: &ArgMatches<'_>) -> Result<Date, WrongWord> {
-    let text = options.get_str("date").ok_or(WrongWord::NoDate)?;
-    text.parse::<Date>().or(Err(WrongWord::NoDate))
+fn date(options: &ArgMatches<'_>) -> Result<Date, WrongWords> {
+    let text = options.get_str("date").ok_or(WrongWords::NoDate)?;
+    text.parse::<Date>().or(Err(WrongWords::NoDate))
 }
