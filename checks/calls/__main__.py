@@ -16,6 +16,7 @@ import listings
 import many_turns
 import openings
 import places
+import rewritten
 import schedules
 import searches
 import stacked
@@ -23,7 +24,7 @@ import stacked
 HERE = Path(__file__).resolve().parent
 
 # What types tests, and the longest that one of them may take.
-DRIVERS = (limits, listings, many_turns, openings, places, schedules, searches, stacked)
+DRIVERS = (limits, listings, many_turns, openings, places, rewritten, schedules, searches, stacked)
 SECONDS = 30
 
 # How many lines of a difference are shown.

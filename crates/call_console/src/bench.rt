@@ -1,7 +1,6 @@
 //! The device of all tests: memory that notes its calls, and fails where its switch says so.
 ghost use Rattle.std.specs.Prelude.{◌≡◌, ◌≤◌, IsTrue, IsFalse};
 ghost use Rattle.sector_device.specs.Device.{HasCause};
-ghost use Rattle.sector_device.specs.MemoryDevice.{memory_device_state};
 ghost use Rattle.sector_device.specs.Wrapped.{one_more};
 
 use crate::switch::{Asked, Switch};
@@ -13,7 +12,29 @@ use std::sync::Arc;
 /// How many calls are noted; those behind them are not.
 const ROOM: usize = 4_096;
 
-/// A device in memory that notes its calls, and fails where its switch says so, without reaching the memory.
+/// What somebody else writes into a sector once it was read.
+#[derive(Clone, Copy)]
+struct Later {
+    at: u64,
+    bytes: Sector,
+    was_read: bool,
+}
+
+impl Later {
+    // The sector of that number is read, as these bytes: from the second time on they are those.
+    fn pass(&mut self, at: u64, read: &mut Sector) {
+        if at != self.at {
+            return;
+        }
+        if self.was_read {
+            *read = self.bytes;
+        }
+        self.was_read = true;
+    }
+}
+
+/// A device in memory that notes its calls, and fails where its switch says so, without reaching the memory. It isn't
+/// honest, since a sector may read otherwise once it was read.
 #[derive(Drop)]
 pub struct Bench {
     inner: MemoryDevice,
@@ -22,6 +43,7 @@ pub struct Bench {
     calls: Vec<Asked>,
     // What stood in each sector that is pending, at the last sync.
     before: Vec<(u64, Sector)>,
+    later: Option<Later>,
 }
 
 impl Bench {
@@ -33,6 +55,7 @@ impl Bench {
             failures: 0,
             calls: Vec::with_capacity(alloc, ROOM)?,
             before: Vec::with_capacity(alloc, sectors as usize)?,
+            later: None,
         })
     }
 
@@ -75,6 +98,15 @@ impl Bench {
         self.inner.sync()
     }
 
+    /// From its second reading on, the sector reads as these bytes.
+    pub fn put_later(&mut self, at: u64, bytes: &Sector) {
+        self.later = Some(Later {
+            at,
+            bytes: *bytes,
+            was_read: false,
+        });
+    }
+
     /// Loses power, by these picks. Its switch stays as it is.
     pub fn crash(self, picks: &Picks) -> Bench {
         let Bench {
@@ -83,6 +115,7 @@ impl Bench {
             failures,
             calls,
             mut before,
+            later,
         } = self;
         before.clear();
         Bench {
@@ -91,6 +124,7 @@ impl Bench {
             failures,
             calls,
             before,
+            later,
         }
     }
 
@@ -137,10 +171,9 @@ impl Bench {
 
 impl Device for Bench {
     ghost use Rattle.sector_device.specs.MemoryDevice.{memory_device_state};
-    ghost use Rattle.sector_device.specs.MemoryLaws.{memory_sound};
-    ghost use Rattle.sector_device.specs.Wrapped.{with_failures, sound_with_failures};
+    ghost use Rattle.call_console.specs.Bench.{foreign_state};
 
-    ghost state = { λ b. with_failures (memory_device_state b.inner) b.failures };
+    ghost state = { λ b. foreign_state (memory_device_state b.inner) b.failures };
 
     fn sectors(&self) -> u64 {
         self.inner.sectors()
@@ -150,7 +183,11 @@ impl Device for Bench {
         if self.fails(Asked::Read(at)) {
             return Err(DeviceFault);
         }
-        self.inner.read(at, into)
+        self.inner.read(at, into)?;
+        if let Some(later) = &mut self.later {
+            later.pass(at, into);
+        }
+        Ok(())
     }
 
     fn write(&mut self, at: u64, from: &Sector) -> Result<(), DeviceFault> {
@@ -169,7 +206,7 @@ impl Device for Bench {
         self.inner.sync()
     }
 
-    ghost sound = { λ b honest. sound_with_failures (memory_device_state b.inner) b.failures (memory_sound b.inner) };
+    ghost sound = { λ b honest. absurd honest };
 }
 
 impl ReadRun for Bench {

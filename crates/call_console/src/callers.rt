@@ -1,16 +1,17 @@
 //! An office whose seats have threads of their own.
 ghost use Rattle.sector_device.specs.MemoryDevice.{memory_device_state};
-ghost use Rattle.sector_device.specs.Wrapped.{with_failures};
+ghost use Rattle.call_console.specs.Bench.{foreign_state};
 ghost use Rattle.journal_recovery.specs.State.{State};
 ghost use Rattle.line_lock.specs.OpenedOn.{Names};
 
 use crate::bench::Bench;
+use crate::closings::{Ending, end};
 use crate::console::{Hand, Scene};
 use crate::lines::read_line;
 use crate::said::Said;
 use crate::stations::run_some;
 use crate::told::Told;
-use line_lock::{Blank, Closing, Count, Line, Office, OpenedOn, Seat, TurnRefusal};
+use line_lock::{Blank, Count, Line, Office, OpenedOn, Seat, TurnRefusal};
 use sector_device::Device;
 use std::alloc::AllocError;
 use std::marker::Brand;
@@ -31,7 +32,9 @@ enum Work {
 }
 
 /// `callers STATIONS XBITS UPBITS TURNS`: an office in which each seat, in a thread of its own, takes so many turns.
-/// `stations STATIONS XBITS UPBITS FIRST MOVES TRIES`: one in which some stations run. Its clerk is in hand then.
+/// `unclosed ..`: one that nobody closes then. `reclosed ..`: one that is closed without its top seat first, goes on,
+/// and is closed with all. `stations STATIONS XBITS UPBITS FIRST MOVES TRIES`: one in which some stations run. In hand
+/// is its clerk then.
 pub fn call_in_threads<R: Threads + Wait + Sync>(
     rt: &R,
     device: Bench,
@@ -44,15 +47,20 @@ pub fn call_in_threads<R: Threads + Wait + Sync>(
         return Scene::Device(device);
     };
     let work = match name {
-        "callers" => Work::Turns(said.number()),
-        _ => Work::Run {
+        "stations" => Work::Run {
             first: said.number(),
             moves: said.number(),
             tries: said.number(),
         },
+        _ => Work::Turns(said.number()),
+    };
+    let ending = match (name, work) {
+        ("unclosed", _) => Ending::Unclosed,
+        ("reclosed", Work::Turns(turns)) => Ending::Again(turns),
+        _ => Ending::Closed,
     };
     let blank = Blank::new(line.stations() as u64);
-    call_in::<Brand, R>(rt, device, hand, line, blank, work, told)
+    call_in::<Brand, R>(rt, device, hand, line, blank, (work, ending), told)
 }
 
 fn call_in<L: Count + OpenedOn + Send + Sync, R: Threads + Wait + Sync>(
@@ -61,26 +69,20 @@ fn call_in<L: Count + OpenedOn + Send + Sync, R: Threads + Wait + Sync>(
     hand: &mut Hand,
     line: Line,
     blank: Blank,
-    work: Work,
+    plan: (Work, Ending),
     told: &mut Told,
 ) -> Scene
-    requires named { Names L.name L.parts L.device L.line blank (with_failures (memory_device_state device.inner) device.failures) line }
+    requires named { Names L.name L.parts L.device L.line blank (foreign_state (memory_device_state device.inner) device.failures) line }
     requires begins { (found : State) → L.begins found }
 {
+    let (work, ending) = plan;
     let (office, seats) = match Office::<Bench, L>::open(hand.alloc, device, line, blank) {
         Ok(opened) => opened,
         Err(refused) => return Scene::Device(told.handed_back(refused)),
     };
-    let seats = match do_work(rt, &office, seats, hand, work, told) {
-        Ok(seats) => seats,
-        Err(error) => return Scene::Device(told.handed_back((office.given_up(), error))),
-    };
-    match office.close(seats) {
-        Ok(Closing { clerk, audit }) => {
-            told.audit(&audit);
-            Scene::Clerk(clerk)
-        }
-        Err((office, _, refusal)) => Scene::Device(told.handed_back((office.given_up(), refusal))),
+    match do_work(rt, &office, seats, hand, work, told) {
+        Ok(seats) => end(rt, office, seats, ending, told),
+        Err(error) => Scene::Device(told.handed_back((office.given_up(), error))),
     }
 }
 
@@ -105,13 +107,12 @@ fn do_work<L: Count + OpenedOn + Send + Sync, R: Threads + Wait + Sync>(
     }
 }
 
-// A thread for each seat asks until that has so many turns, or is refused too often.
-fn take_all_turns<D: Device + Send, L: Count + OpenedOn + Send + Sync, R: Threads + Wait + Sync>(
-    rt: &R,
-    office: &Office<D, L>,
-    seats: &mut [Seat<L>],
-    turns: u64,
-) {
+/// A thread for each seat asks until that has so many turns, or is refused too often.
+pub fn take_all_turns<
+    D: Device + Send,
+    L: Count + OpenedOn + Send + Sync,
+    R: Threads + Wait + Sync,
+>(rt: &R, office: &Office<D, L>, seats: &mut [Seat<L>], turns: u64) {
     if seats.is_empty() {
         return;
     }

@@ -193,7 +193,9 @@ fn use_device<R: Threads + Wait + Sync>(
 ) -> Scene {
     match name {
         "day" => have_day(rt, device, hand, said, told),
-        "callers" | "stations" => call_in_threads(rt, device, hand, name, said, told),
+        "callers" | "unclosed" | "reclosed" | "stations" => call_in_threads(
+            rt, device, hand, name, said, told,
+        ),
         "spans" => have_spans(rt, device, hand, said, told),
         _ => Scene::Device(device).run(hand, name, said, told),
     }

@@ -92,7 +92,7 @@ fn asked(
 fn ask(device: &mut Bench, hand: &mut Hand, name: &str, said: &mut Said<'_>, told: &mut Told) {
     match name {
         "read" | "write" | "sync" => call(device, name, said, told),
-        "put" => put(device, said, told),
+        "put" | "later" => put(device, name, said, told),
         "twin" => twin(device, hand, told),
         "sector" => show_sector(device, said, told),
         "first" => show_first(device, told),
@@ -158,8 +158,8 @@ pub fn read_sector(said: &mut Said<'_>) -> Sector {
     sector
 }
 
-// `put AT OFFSET HEX`: bytes that somebody else wrote.
-fn put(device: &mut Bench, said: &mut Said<'_>, told: &mut Told) {
+// `put AT OFFSET HEX`: bytes that somebody else wrote. `later AT OFFSET HEX`: the same, once the sector was read.
+fn put(device: &mut Bench, name: &str, said: &mut Said<'_>, told: &mut Told) {
     let (at, offset) = (said.number(), said.small());
     let Some(sector) = device.sector(at) else {
         told.line("no such sector");
@@ -167,7 +167,12 @@ fn put(device: &mut Bench, said: &mut Said<'_>, told: &mut Told) {
     };
     let mut sector = *sector;
     read_behind(&mut sector, offset as usize, said);
-    if said.is_right(told) && device.put(at, &sector).is_err() {
+    if !said.is_right(told) {
+        return;
+    }
+    if name == "later" {
+        device.put_later(at, &sector);
+    } else if device.put(at, &sector).is_err() {
         told.line("no memory");
     }
 }

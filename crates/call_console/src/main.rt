@@ -9,6 +9,7 @@
 mod bench;
 mod callers;
 mod clerks;
+mod closings;
 mod console;
 mod copies;
 mod crashes;
