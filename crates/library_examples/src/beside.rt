@@ -1,15 +1,16 @@
 //! Threads at once: a station gathers while another one's sync is under way.
 
-use crate::runs::{feeds_and_desks, played};
+use crate::runs::{Remains, feeds_and_desks, played};
 use crate::scenes::{deposit, formatted};
 use crate::waiting::{TRIES, wait_for};
 use fault_injector::{Held, HeldFlags};
-use station_desk::{Errand, Gate, Outcome};
+use station_desk::{Desk, Errand, Gate, Outcome};
 use std::alloc::Global;
+use std::process::Abort;
 use std::sync::atomic::{AtomicBool, AtomicU64, Ordering};
 use std::sync::{Arc, Wait};
 use std::test::Fail;
-use std::thread::yield_now;
+use std::thread::{Threads, yield_now};
 
 // How often the gate looks at most, once the sync has its leave. It lets other threads run each time, which a busy
 // machine needs.
@@ -71,27 +72,47 @@ impl Gate for BesideSync {
     fn answered(&self, _station: u8) {}
 }
 
-#[test]
-fn gather_runs_beside_sync(rt: HostRuntime) -> Result<(), Fail> {
-    let alloc = rt.alloc();
-    let flags = Arc::new(alloc, HeldFlags::new())?;
-    let are_down = !flags.begun.load(Ordering::SeqCst) && !flags.go.load(Ordering::SeqCst);
-    let device = Held::new(formatted(alloc, 4)?, 1, Arc::try_clone(&flags)?);
-    let gate = BesideSync {
-        flags,
+// Flags that aren't up, and nobody who has arrived.
+fn beside_sync(alloc: Global) -> Result<BesideSync, Fail> {
+    Ok(BesideSync {
+        flags: Arc::new(alloc, HeldFlags::new())?,
         arrived: AtomicU64::new(0),
         asked: AtomicBool::new(false),
         seen: AtomicBool::new(false),
-    };
+    })
+}
+
+// One turn on a device whose second sync is held.
+fn run_held<R: Abort + Threads + Wait + Sync>(
+    rt: &R,
+    alloc: Global,
+    desks: Vec<Desk>,
+    gate: &BesideSync,
+) -> Result<Remains, Fail> {
+    let flags = Arc::try_clone(&gate.flags)?;
+    let device = Held::new(formatted(alloc, 4)?, 1, flags);
+    played(rt, alloc, device, desks, gate, 1, TRIES)
+}
+
+// Whether that turn posts what the bottom station's client asked for.
+fn is_posted<R: Abort + Threads + Wait + Sync>(
+    rt: &R,
+    alloc: Global,
+    gate: &BesideSync,
+) -> Result<bool, Fail> {
     let (mut feed, _, desks) = feeds_and_desks(alloc)?;
     let _ = feed.submit(deposit(1, 5));
-    let left = played(&rt, alloc, device, desks, &gate, 1, TRIES)?;
-    let outcome = feed.answer().map(|answer| answer.outcome);
-    assert!(rt;
-        are_down
-            && left.balance == Some(5)
-            && gate.seen.load(Ordering::SeqCst)
-            && outcome == Some(Outcome::Posted(0))
-    );
+    let left = run_held(rt, alloc, desks, gate)?;
+    Ok(match feed.answer() {
+        Some(answer) => left.balance == Some(5) && answer.outcome == Outcome::Posted(0),
+        None => false,
+    })
+}
+
+#[test]
+fn gather_runs_beside_sync(rt: HostRuntime) -> Result<(), Fail> {
+    let gate = beside_sync(rt.alloc())?;
+    assert!(rt; !gate.has_begun() && !gate.flags.go.load(Ordering::SeqCst));
+    assert!(rt; is_posted(&rt, rt.alloc(), &gate)? && gate.seen.load(Ordering::SeqCst));
     Ok(())
 }

@@ -1,8 +1,10 @@
 //! Clients that submit and collect while the stations take turns.
-use crate::runs::{PLACES, Remains, feeds_and_desks, played};
-use crate::scenes::{deposit, formatted};
+use crate::runs::{PLACES, Remains, feeds_and_desks, played_in_memory};
+use crate::scenes::deposit;
 use crate::waiting::TRIES;
-use station_desk::{End, Errand, Feed, Gate, Outcome, Turn};
+use station_desk::{Desk, End, Errand, Feed, Gate, Outcome, Turn};
+use std::alloc::Global;
+use std::process::Abort;
 use std::sync::Wait;
 use std::sync::atomic::{AtomicBool, AtomicU64, Ordering};
 use std::test::Fail;
@@ -12,53 +14,76 @@ const REQUESTS: u64 = 200;
 
 const MOVES: u64 = 20_000;
 
-// How many answers a client collected: of requests that were posted, and others.
+// What a client has done: how many deposits it submitted, and how many answers it collected, of requests that were
+// posted, and others.
 #[derive(Clone, Copy)]
 struct Tally {
+    submitted: u64,
     posted: u64,
     others: u64,
 }
 
+const NOTHING: Tally = Tally {
+    submitted: 0,
+    posted: 0,
+    others: 0,
+};
+
 impl Tally {
-    fn count(&mut self, outcome: Outcome) {
-        match outcome {
+    // Submits one more deposit if there is a place for it, and collects an answer if there is one, which it tells.
+    fn go_on(&mut self, feed: &mut Feed) -> bool {
+        if self.submitted < REQUESTS && feed.submit(deposit(1, 1)).is_ok() {
+            self.submitted = self.submitted.saturating_add(1);
+        }
+        let Some(answer) = feed.answer() else {
+            return false;
+        };
+        match answer.outcome {
             Outcome::Posted(_) => self.posted = self.posted.saturating_add(1),
             Outcome::Refused(_) | Outcome::Undecided => {
                 self.others = self.others.saturating_add(1);
             }
         }
+        true
+    }
+
+    // Whether it has an answer, and has submitted more than its ring has places.
+    fn has_more(&self) -> bool {
+        self.posted > 0 && self.submitted > PLACES
     }
 }
 
-// Submits one more deposit, where there is a place for it: how many were submitted then.
-fn submit(feed: &mut Feed, submitted: u64) -> u64 {
-    if submitted < REQUESTS && feed.submit(deposit(1, 1)).is_ok() {
-        return submitted.saturating_add(1);
-    }
-    submitted
-}
-
-// Submits as many deposits as the ring has places, and then one more for each answer. It ends once the run of the
-// stations has returned and no answer is left.
+// A client, which submits as many deposits as its ring has places, and then one more for each answer. It ends once the
+// run of the stations has returned and no answer is left.
 fn work<R: Wait>(rt: &R, mut feed: Feed, pace: &Pace) -> Tally {
-    let mut tally = Tally {
-        posted: 0,
-        others: 0,
-    };
-    let mut submitted = 0;
+    let mut tally = NOTHING;
     for _ in rt.forever() {
         let has_returned = pace.has_returned.load(Ordering::SeqCst);
-        submitted = submit(&mut feed, submitted);
-        match feed.answer() {
-            Some(answer) => tally.count(answer.outcome),
-            None if has_returned => return tally,
-            None => yield_now(),
+        if !tally.go_on(&mut feed) {
+            if has_returned {
+                break;
+            }
+            yield_now();
         }
-        if tally.posted > 0 && submitted > PLACES {
+        if tally.has_more() {
             pace.submitted_more();
         }
     }
     tally
+}
+
+// Two clients, each in a thread of its own.
+fn both_work<R: Threads + Wait + Sync>(
+    rt: &R,
+    bottom: Feed,
+    top: Feed,
+    pace: &Pace,
+) -> (Tally, Tally) {
+    join(
+        rt,
+        move || work(rt, bottom, pace),
+        move || work(rt, top, pace),
+    )
 }
 
 // What the threads know of each other. Each of two stations sleeps until the other one has taken its turn. After half
@@ -134,20 +159,6 @@ impl Gate for Pace {
     }
 }
 
-// What each of two clients collected, each in a thread of its own.
-fn both_work<R: Threads + Wait + Sync>(
-    rt: &R,
-    bottom: Feed,
-    top: Feed,
-    pace: &Pace,
-) -> (Tally, Tally) {
-    join(
-        rt,
-        move || work(rt, bottom, pace),
-        move || work(rt, top, pace),
-    )
-}
-
 // All that was posted is told, and is in account 1; and a client was told of more than its ring has places for.
 fn are_told((bottom, top): (Tally, Tally), left: &Remains) -> bool {
     let wanted = Remains {
@@ -160,21 +171,28 @@ fn are_told((bottom, top): (Tally, Tally), left: &Remains) -> bool {
         && bottom.posted.max(top.posted) > PLACES
 }
 
+// The stations' run, and that it has returned.
+fn run<R: Abort + Threads + Wait + Sync>(
+    rt: &R,
+    alloc: Global,
+    desks: Vec<Desk>,
+    pace: &Pace,
+) -> Result<Remains, Fail> {
+    let left = played_in_memory(rt, alloc, 400, desks, pace, MOVES, TRIES);
+    pace.has_returned.store(true, Ordering::SeqCst);
+    left
+}
+
 #[test]
 fn clients_beside_stations(rt: HostRuntime) -> Result<(), Fail> {
     let alloc = rt.alloc();
-    let device = formatted(alloc, 400)?;
     let (bottom, top, desks) = feeds_and_desks(alloc)?;
     let pace = Pace::new();
     let (rt, pace) = (&rt, &pace);
     let (tallies, left) = join(
         rt,
         move || both_work(rt, bottom, top, pace),
-        move || {
-            let left = played(rt, alloc, device, desks, pace, MOVES, TRIES);
-            pace.has_returned.store(true, Ordering::SeqCst);
-            left
-        },
+        move || run(rt, alloc, desks, pace),
     );
     assert!(rt; are_told(tallies, &left?));
     Ok(())

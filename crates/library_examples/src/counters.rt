@@ -1,5 +1,6 @@
 //! An office in memory that stays open for one counter, whose lines are written out and whose answers come by a pipe.
-use crate::scenes::{formatted, line};
+use crate::clerks::opened;
+use crate::scenes::line;
 use live_office::{
     Clients, Closed, Counter, CounterCopyRefusal, Identity, Keeper, Kept, Kind, Seen, keep_open,
 };
@@ -8,12 +9,11 @@ use sector_device::{Device, MemoryDevice};
 use std::alloc::Global;
 use std::fs::Files;
 use std::io;
-use std::io::{PipeReader, Read};
+use std::io::{PipeReader, PipeWriter, Read};
 use std::sync::Wait;
 use std::test::Fail;
 use std::thread::Threads;
 use std::time::Clock;
-use turn_clerk::Clerk;
 
 // Who keeps no archive, and makes one copy.
 #[derive(Drop)]
@@ -127,22 +127,16 @@ last 8 2
 closing
 ";
 
-// An office of these stations with one counter, at station 0. It is closed and opened again after so many turns. The
-// answers, and whether it is over then.
-fn kept<R: Files + Threads + Wait + Clock + Sync + Send + Clone + Drop + 'static>(
-    rt: &R,
+// The one counter, at station 0. Its answers come by this pipe.
+fn north(
     alloc: Global,
-    line: Line,
-    moves: u64,
-) -> Result<(PipeReader, bool), Fail> {
-    let (answers, output) = io::pipe(rt)?;
+    output: PipeWriter,
+) -> Result<Vec<Counter<&'static [u8], PipeWriter>>, Fail> {
+    let name = "north".to_owned(alloc).or(Err("no memory for a name"))?;
     let counter = Counter {
         station: 0,
         since: 0,
-        identity: Identity {
-            name: "north".to_owned(alloc).or(Err("no memory for a name"))?,
-            ledger: 42,
-        },
+        identity: Identity { name, ledger: 42 },
         input: REQUESTS,
         output,
         kind: Kind::Pipes,
@@ -150,13 +144,35 @@ fn kept<R: Files + Threads + Wait + Clock + Sync + Send + Clone + Drop + 'static
     };
     let mut counters = Vec::new(alloc);
     counters.push(counter).or(Err("no memory for a counter"))?;
-    let Ok(clerk) = Clerk::open(alloc, formatted(alloc, 4)?, line) else {
-        return Err(Fail::from("the ledger isn't opened"));
-    };
+    Ok(counters)
+}
+
+// An office of these stations with that counter, which is closed and opened again after so many turns, and whether it
+// is over then.
+fn kept<R: Files + Threads + Wait + Clock + Sync + Send + Clone + Drop + 'static>(
+    rt: &R,
+    alloc: Global,
+    line: Line,
+    moves: u64,
+    output: PipeWriter,
+) -> Result<bool, Fail> {
+    let counters = north(alloc, output)?;
+    let clerk = opened(alloc, line)?;
     match keep_open(rt, alloc, clerk, counters, Two, moves, Sample { copies: 0 }) {
-        Ok((closed, _)) => Ok((answers, is_over(&closed, line.stations() as usize, moves))),
+        Ok((closed, _)) => Ok(is_over(&closed, line.stations() as usize, moves)),
         Err((_, refusal)) => Err(Fail::from(refusal)),
     }
+}
+
+// Whether the counter is answered in such an office.
+fn is_answered<R: Files + Threads + Wait + Clock + Sync + Send + Clone + Drop + 'static>(
+    rt: &R,
+    alloc: Global,
+    line: Line,
+    moves: u64,
+) -> Result<bool, Fail> {
+    let (mut answers, output) = io::pipe(rt)?;
+    Ok(kept(rt, alloc, line, moves, output)? && are_told(&mut answers, RESPONSES)?)
 }
 
 // Whether these are the next bytes of the answers.
@@ -194,8 +210,7 @@ fn a_counter_is_answered_in_order(rt: HostRuntime) -> Result<(), Fail> {
         (line([1, 0, 1], [1, 1, 0])?, 2),
     ];
     for (line, moves) in offices {
-        let (mut answers, is_over) = kept(&rt, alloc, line, moves)?;
-        assert!(rt; is_over && are_told(&mut answers, RESPONSES)?);
+        assert!(rt; is_answered(&rt, alloc, line, moves)?);
     }
     Ok(())
 }

@@ -1,7 +1,8 @@
 //! What a power loss takes.
-use crate::scenes::{ZERO, has_sectors, put_sectors};
 use sector_device::{Device, MemoryDevice, Picks, SECTOR, Sector};
 use std::test::Fail;
+
+const ZERO: Sector = [0; SECTOR];
 
 const OLD: Sector = [7; SECTOR];
 
@@ -9,27 +10,46 @@ const NEW: Sector = [8; SECTOR];
 
 const TORN: Sector = [9; SECTOR];
 
-// Sector 0 is written and synced, sectors 1 and 2 are written after that, and sector 3 never.
-fn write_and_sync(device: &mut MemoryDevice) -> Result<(), Fail> {
-    put_sectors(device, &[(0, OLD)])?;
-    device.sync()?;
-    put_sectors(device, &[(1, NEW), (2, OLD), (2, NEW)])
+fn write(device: &mut MemoryDevice, at: u64, bytes: &Sector) -> Result<(), Fail> {
+    if at >= device.sectors() {
+        return Err(Fail::from("no such sector"));
+    }
+    device.write(at, bytes)?;
+    Ok(())
 }
 
-// The picks, and then what sectors 0 to 3 read after the power loss.
+// Sector 0 is written and synced, sectors 1 and 2 are written after that, and sector 3 never.
+fn write_and_sync(device: &mut MemoryDevice) -> Result<(), Fail> {
+    write(device, 0, &OLD)?;
+    device.sync()?;
+    write(device, 1, &NEW)?;
+    write(device, 2, &OLD)?;
+    write(device, 2, &NEW)
+}
+
+// Whether the sectors are filled with these bytes.
+fn are_filled(device: &MemoryDevice, bytes: &[u8; 4]) -> bool {
+    for (at, byte) in bytes.iter().enumerate() {
+        if at as u64 >= device.sectors() || *device.sector(at as u64) != [*byte; SECTOR] {
+            return false;
+        }
+    }
+    true
+}
+
+// The picks, and then what sectors 0 to 3 are filled with after the power loss.
 #[test]
 fn a_power_loss_takes_the_last_pick_for_each_pending_sector(rt: HostRuntime) -> Result<(), Fail> {
-    let table: [(&[(u64, Sector)], [Sector; 4]); 3] = [
-        (&[], [OLD, NEW, NEW, ZERO]),
-        (&[(2, ZERO), (1, OLD), (2, TORN)], [OLD, OLD, TORN, ZERO]),
-        (&[(0, TORN), (3, TORN), (4, TORN)], [OLD, NEW, NEW, ZERO]),
+    let table: [(&[(u64, Sector)], [u8; 4]); 3] = [
+        (&[], [7, 8, 8, 0]),
+        (&[(2, ZERO), (1, OLD), (2, TORN)], [7, 7, 9, 0]),
+        (&[(0, TORN), (3, TORN), (4, TORN)], [7, 8, 8, 0]),
     ];
-    for (list, [first, second, third, last]) in table {
+    for (list, after) in table {
         let mut device = MemoryDevice::new(rt.alloc(), 4)?;
         write_and_sync(&mut device)?;
         let list = list.to_vec(rt.alloc())?;
-        let after = [(0, first), (1, second), (2, third), (3, last)];
-        assert!(rt; has_sectors(&device.crash(&Picks { list }), &after));
+        assert!(rt; are_filled(&device.crash(&Picks { list }), &after));
     }
     Ok(())
 }

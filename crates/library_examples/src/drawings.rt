@@ -1,6 +1,5 @@
-//! Where damage is found: heads of banks, in the present layout. The device is written by the tables of the formats,
-//! and in no word of the library.
-use crate::scenes::{Image, LAYOUT_3};
+//! Where damage is found: heads of banks, in the present layout.
+use crate::scenes::formatted;
 use device_drawing::{Place, locate};
 use journal_recovery::{Cause, OpenRefusal, recover};
 use sector_device::{Device, MemoryDevice, SECTOR};
@@ -12,11 +11,7 @@ type Change = (u64, usize, u8);
 
 // An empty ledger of four slots in each bank, with these bytes changed.
 fn changed(alloc: Global, changes: &[Change]) -> Result<MemoryDevice, Fail> {
-    let image = Image {
-        slots: 4,
-        ..LAYOUT_3
-    };
-    let mut device = image.device(alloc)?;
+    let mut device = formatted(alloc, 4)?;
     for (at, byte, value) in changes {
         if *at >= device.sectors() || *byte >= SECTOR {
             return Err(Fail::from("no such byte"));

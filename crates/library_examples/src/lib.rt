@@ -1,6 +1,6 @@
 //! An example for each library, as its user would write it. Beside them stands what a console can't show: threads whose
-//! order matters, as what is done beside a sync that is under way, or between two steps of a station; offices that are
-//! closed twice or not at all; what is told if somebody else writes a device; and the texts of refusals.
+//! order matters, as what is done beside a sync that is under way, or between two steps of a station; a device of
+//! 8,000,000 sectors; and the texts of refusals.
 //!
 //! But for those of `beside`, `clients` and `moments`, which need threads at once, a test holds whatever thread runs
 //! when.
@@ -11,13 +11,9 @@ mod archives;
 #[cfg(test)]
 mod beside;
 #[cfg(test)]
-mod changed;
-#[cfg(test)]
 mod clerks;
 #[cfg(test)]
 mod clients;
-#[cfg(test)]
-mod closing;
 #[cfg(test)]
 mod counters;
 #[cfg(test)]
@@ -52,8 +48,6 @@ mod listings;
 mod moments;
 #[cfg(test)]
 mod offices;
-#[cfg(test)]
-mod opened;
 #[cfg(test)]
 mod recovery;
 #[cfg(test)]

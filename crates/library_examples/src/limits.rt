@@ -1,10 +1,10 @@
 //! Calls beyond any number at which a body might have given up.
 ghost use Rattle.file_device.specs.RealFile.{unknown_sectors};
 
-use crate::opened::found_on;
-use crate::scenes::{ZERO, body_of, deposit, head, open_gate, superblock};
+use crate::journals::PLACE;
+use crate::recovery::recovered;
 use gate_journal::format;
-use sector_device::{Device, DeviceFault, Sector};
+use sector_device::{Device, DeviceFault, SECTOR, Sector};
 use std::test::Fail;
 
 // A device of so many sectors: a journal with 1,000,000 slots in each bank and one record, and behind its gate zeros
@@ -24,13 +24,11 @@ impl Device for Sparse {
     }
 
     fn read(&mut self, at: u64, into: &mut Sector) -> Result<(), DeviceFault> {
-        *into = match at {
-            0 => superblock(3, 1_000_000),
-            1 | 21 => open_gate(),
-            2 => head(0, 0),
-            20 => body_of(0, 0, &[deposit(1, 500)]),
-            _ => ZERO,
-        };
+        *into = [0; SECTOR];
+        into[..16].copy_from_slice(first_bytes(at));
+        if at == 20 {
+            into[32..64].copy_from_slice(PLACE);
+        }
         Ok(())
     }
 
@@ -47,6 +45,18 @@ impl Device for Sparse {
     ghost sound = { λ s honest. absurd honest };
 }
 
+// The first bytes of a sector, by the tables of the formats: a superblock of version 3, an open gate, a head, and a
+// record of one place.
+fn first_bytes(at: u64) -> &'static [u8; 16] {
+    match at {
+        0 => b"TLDG\x00\x03\x00\x00\x00\x00\x00\x00\x00\x0f\x42\x40",
+        1 | 21 => b"\xa5\x00\x00\x00\x00\x00\x00\x00\x00\x00\x00\x00\x00\x00\x00\x00",
+        2 => b"TLBK\x00\x00\x00\x00\x00\x00\x00\x00\x00\x00\x00\x00",
+        20 => b"TLB1\x00\x00\x00\x01\x00\x00\x00\x00\x00\x00\x00\x00",
+        _ => &[0; 16],
+    }
+}
+
 // As many sectors again are not used.
 fn a_million_slots() -> Sparse {
     Sparse {
@@ -58,7 +68,7 @@ fn a_million_slots() -> Sparse {
 
 #[test]
 fn a_device_of_8_000_000_sectors_is_recovered(rt: HostRuntime) -> Result<(), Fail> {
-    let found = found_on(rt.alloc(), a_million_slots())?;
+    let found = recovered(rt.alloc(), a_million_slots())?;
     assert!(rt;
         found.ledger.balance(1) == Some(500)
             && (found.journal.next(), found.journal.room()) == (1, 999_999)

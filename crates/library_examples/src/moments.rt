@@ -1,6 +1,6 @@
 //! What a station does when, as a gate sees it.
-use crate::runs::{Remains, feeds_and_desks, played};
-use crate::scenes::{deposit, formatted};
+use crate::runs::{Remains, feeds_and_desks, played_in_memory};
+use crate::scenes::deposit;
 use crate::waiting::{TRIES, wait_for};
 use station_desk::{End, Feed, Gate, Turn};
 use std::alloc::Global;
@@ -76,7 +76,7 @@ fn is_in_time<R: Abort + Threads + Wait + Sync>(
         before: AtomicU64::new(0),
         after: AtomicU64::new(0),
     };
-    let left = played(rt, alloc, formatted(alloc, 4)?, desks, &gate, 1, TRIES)?;
+    let left = played_in_memory(rt, alloc, 4, desks, &gate, 1, TRIES)?;
     let wanted = Remains {
         ends: [End::Reached; 2],
         turns: [1, 0],
@@ -154,7 +154,7 @@ fn tries_begin_anew_with_a_turn(rt: HostRuntime) -> Result<(), Fail> {
         answered: AtomicU64::new(0),
     };
     let (_, _, desks) = feeds_and_desks(alloc)?;
-    let left = played(&rt, alloc, formatted(alloc, 4)?, desks, &gate, 100, 2)?;
+    let left = played_in_memory(&rt, alloc, 4, desks, &gate, 100, 2)?;
     assert!(rt; left == gave_up([3, 2]) && gate.gathered.load(Ordering::SeqCst) == 9 + ENDED);
     Ok(())
 }
@@ -196,7 +196,7 @@ fn a_station_that_gives_up_stops_one_that_is_privileged(rt: HostRuntime) -> Resu
         ends: AtomicU64::new(0),
     };
     let (_, _, desks) = feeds_and_desks(alloc)?;
-    let left = played(&rt, alloc, formatted(alloc, 4)?, desks, &gate, 100, 0)?;
+    let left = played_in_memory(&rt, alloc, 4, desks, &gate, 100, 0)?;
     assert!(rt; left == gave_up([1, 1]));
     Ok(())
 }

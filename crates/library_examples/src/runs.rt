@@ -1,5 +1,7 @@
 //! A run of the two stations of an office, with a gate that a test gives.
-use crate::scenes::line;
+ghost use Rattle.std.specs.Prelude.{◌≤◌};
+
+use crate::scenes::{formatted, line};
 use line_lock::Turn;
 use office_day::{Closing, Left, run_office};
 use sector_device::Device;
@@ -37,6 +39,30 @@ pub fn played<D: Device + Send + Drop, G: Gate + Sync, R: Abort + Threads + Wait
         Ok((closing, left)) => Ok(of_run(&closing, left.as_slice())),
         Err((_, refusal)) => Err(Fail::from(refusal)),
     }
+}
+
+// The same on an empty journal in memory, with so many slots in each bank.
+pub fn played_in_memory<G: Gate + Sync, R: Abort + Threads + Wait + Sync>(
+    rt: &R,
+    alloc: Global,
+    slots: u64,
+    desks: Vec<Desk>,
+    gate: &G,
+    moves: u64,
+    tries: u64,
+) -> Result<Remains, Fail>
+    requires some { 1 ≤ slots }
+    requires few { slots ≤ 1000000 }
+{
+    played(
+        rt,
+        alloc,
+        formatted(alloc, slots)?,
+        desks,
+        gate,
+        moves,
+        tries,
+    )
 }
 
 fn of_run<D: Device>(closing: &Closing<D>, left: &[Left]) -> Remains {
