@@ -34,6 +34,7 @@ CASES = (
     transfers.behind_a_failed_sync,
     looks.that_only_read,
     looks.that_fail,
+    looks.that_are_copied,
     ledgers.that_grow_once_they_are_looked_at,
     ledgers.that_a_script_works_on,
     disks.of_which_a_step_fails,

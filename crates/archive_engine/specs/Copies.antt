@@ -5,18 +5,14 @@ use Rattle.file_device.specs.declared.refusal.FileFault.TheVariants as file
 use Rattle.journal_recovery.specs.State.{State}
 use Rattle.journal_recovery.specs.Recovery.{RecoversTo}
 use Rattle.journal_recovery.specs.declared.refusals.OpenRefusal.TheVariants as opening
-use Rattle.journal_recovery.specs.declared.migration.MigrateRefusal.TheVariants as copying
+use Rattle.ledger_file.specs.declared.refusal.LedgerRefusal.{LedgerRefusal}
 use Rattle.ledger_file.specs.declared.refusal.LedgerRefusal.TheVariants as ledger
-use Rattle.ledger_file.specs.declared.refusal.CopyRefusal.{CopyRefusal}
-use Rattle.ledger_file.specs.declared.refusal.CopyRefusal.TheVariants.{Target, Copy}
 use Rattle.archive_engine.specs.declared.copying.FolderCopyRefusal.{FolderCopyRefusal}
 use Rattle.archive_engine.specs.declared.copying.FolderCopyRefusal.TheVariants.{Memory, Ledger, Unwritten}
 
--- that there is no memory, that the ledger isn't read, and else that the file isn't written
-abbrev pub refusal_of : CopyRefusal → FolderCopyRefusal
-refusal_of (Target (ledger.Device file.Memory)) = Memory
-refusal_of (Copy (copying.Source opening.Memory)) = Memory
-refusal_of (Copy (copying.Source refusal)) = Ledger refusal
+-- that there is no memory, and else that the file isn't written
+abbrev pub refusal_of : LedgerRefusal → FolderCopyRefusal
+refusal_of (ledger.Device file.Memory) = Memory
 refusal_of _ = Unwritten
 
 -- a read of the ledger failed

@@ -7,9 +7,8 @@ ghost use Rattle.archive_engine.specs.Copies.{IsReadFault, IsNumberOf, refusal_o
 
 use crate::faults::{ArchiveFault, FolderFault};
 use crate::folder::{Folder, are_one_folder};
-use file_device::FileFault;
-use journal_recovery::{MigrateRefusal, OpenRefusal, Recovered, recover};
-use ledger_file::{CopyRefusal, Formatting, LedgerRefusal, open_for_copy};
+use journal_recovery::{OpenRefusal, Recovered, recover};
+use ledger_file::{Formatting, LedgerRefusal, Original, open_for_copy};
 use office_counters::{RosterPath, remove_roster, take_along};
 use sector_device::Device;
 use std::alloc::Global;
@@ -94,31 +93,46 @@ pub fn copy_to_folder<D: Device, R: Files<File = File>>(
     ensures number { (D.state device).honest
         → IfOk result.1 (λ number. IsNumberOf number (D.state device).reads) }
 {
-    let Recovered { journal, .. } = match recover(alloc, device) {
+    let Recovered { journal, ledger } = match recover(alloc, device) {
         Ok(found) => found,
         Err((device, OpenRefusal::Memory)) => return (device, Err(FolderCopyRefusal::Memory)),
         Err((device, refusal)) => return (device, Err(FolderCopyRefusal::Ledger(refusal))),
     };
-    let (number, slots) = (journal.next(), journal.slots());
-    let device = journal.into_device();
-    let (unfinished, own) = match ways(rt, alloc, folder, number) {
-        Ok(names) => names,
-        Err(refusal) => return (device, Err(refusal)),
-    };
-    let (device, copied) = copy_to(rt, alloc, device, unfinished.as_str(), slots);
-    if let Err(refusal) = copied {
-        return (device, Err(refusal));
-    }
-    match put_in_place(
+    let (next, slots) = (journal.next(), journal.slots());
+    let copied = put_copy(
+        rt,
+        alloc,
+        folder,
+        Original { ledger, next },
+        slots,
+        counters,
+    );
+    (journal.into_device(), copied)
+}
+
+// Puts a copy into the folder, with so many slots, and tells its number.
+fn put_copy<R: Files<File = File>>(
+    rt: &R,
+    alloc: Global,
+    folder: &Folder<'_>,
+    original: Original,
+    slots: u64,
+    counters: RosterPath<'_>,
+) -> Result<u64, FolderCopyRefusal>
+    ensures number { IfOk result (λ number. number ≡ original.next) }
+    ensures refused { IfErr result (λ refusal. IsReadFault refusal → ⊥) }
+{
+    let number = original.next;
+    let (unfinished, own) = ways(rt, alloc, folder, number)?;
+    copy_to(rt, alloc, original, unfinished.as_str(), slots)?;
+    put_in_place(
         rt,
         alloc,
         folder,
         (unfinished.as_str(), own.as_str()),
         counters,
-    ) {
-        Ok(()) => (device, Ok(number)),
-        Err(refusal) => (device, Err(refusal)),
-    }
+    )?;
+    Ok(number)
 }
 
 // The path under which the copy of that number is made, and its own, which nothing has.
@@ -146,31 +160,28 @@ fn ways<R: Files<File = File>>(
     }
 }
 
-// Copies the ledger to that path.
-fn copy_to<D: Device, R: Files<File = File>>(
+// Makes a copy at that path.
+fn copy_to<R: Files<File = File>>(
     rt: &R,
     alloc: Global,
-    device: D,
+    original: Original,
     path: &str,
     slots: u64,
-) -> (D, Result<(), FolderCopyRefusal>)
-    ensures call { AreCalls (D.state device) (D.state result.0) (IsErrAnd result.1 IsReadFault) }
-    ensures looks { LooksOnly (D.state device) (D.state result.0) }
+) -> Result<(), FolderCopyRefusal>
+    ensures { IfErr result (λ refusal. IsReadFault refusal → ⊥) }
 {
     let formatting = Formatting {
         slots: NonZeroU64::new(slots).unwrap_or(NonZeroU64::MIN),
         sectors: 0,
         overwrite: false,
     };
-    let (device, opened) = open_for_copy(rt, alloc, device, path, formatting);
-    let place = match opened {
+    let place = match open_for_copy(rt, alloc, original, path, formatting) {
         Ok(place) => place,
-        Err(refusal) => return (device, Err(refusal_of(refusal))),
+        Err(refusal) => return Err(refusal_of(refusal)),
     };
-    let (device, copied) = place.copy(rt, alloc, device);
-    match copied {
-        Ok(_) => (device, Ok(())),
-        Err(refusal) => (device, Err(refusal_of(CopyRefusal::Copy(refusal)))),
+    match place.write(rt) {
+        Ok(_) => Ok(()),
+        Err(refusal) => Err(refusal_of(refusal)),
     }
 }
 
@@ -200,21 +211,13 @@ fn put_in_place<R: Files<File = File>>(
     Err(FolderCopyRefusal::Unwritten)
 }
 
-// Why the ledger wasn't copied.
-fn refusal_of(refusal: CopyRefusal) -> FolderCopyRefusal
-    ensures told { result ≡ refusal_of refusal }
-    ensures read { IsReadFault result
-        ↔ (refusal ≡ CopyRefusal.Copy (MigrateRefusal.Source OpenRefusal.Device)) }
+// Why no copy was made.
+fn refusal_of(refusal: LedgerRefusal) -> FolderCopyRefusal
+    ensures { result ≡ refusal_of refusal }
 {
-    match refusal {
-        CopyRefusal::Target(LedgerRefusal::Device(FileFault::Memory))
-        | CopyRefusal::Copy(MigrateRefusal::Source(OpenRefusal::Memory)) => {
-            FolderCopyRefusal::Memory
-        }
-        CopyRefusal::Copy(MigrateRefusal::Source(refusal)) => FolderCopyRefusal::Ledger(refusal),
-        CopyRefusal::Target(_)
-        | CopyRefusal::Copy(
-            MigrateRefusal::TooManySlots | MigrateRefusal::TooSmall | MigrateRefusal::Target,
-        ) => FolderCopyRefusal::Unwritten,
+    if refusal.is_memory() {
+        FolderCopyRefusal::Memory
+    } else {
+        FolderCopyRefusal::Unwritten
     }
 }

@@ -1,3 +1,3 @@
+pub mod Originals
 pub mod Plan
 pub mod Refusals
-pub mod Sound

@@ -13,10 +13,10 @@ mod opening;
 mod plan;
 mod refusal;
 
-pub use copying::{CopyPlace, open_for_copy, open_for_migration};
+pub use copying::{CopyPlace, Original, open_for_copy};
 pub use file_device::{FileDevice, FileFault, Making};
 pub use gate_journal::FormatRefusal;
-pub use journal_recovery::MigrateRefusal;
+pub use journal_recovery::OpenRefusal;
 pub use opening::{Formatting, MOST_SECTORS, format_ledger, open_for_script, open_ledger};
 pub use plan::{HeldFault, PartFault, check_formatting, sectors_planned};
-pub use refusal::{CopyRefusal, LedgerRefusal};
+pub use refusal::LedgerRefusal;

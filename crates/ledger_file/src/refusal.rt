@@ -1,12 +1,10 @@
 ghost use Rattle.std.specs.Prelude.{◌≡◌, ◌↔◌, IsTrue};
 ghost use Rattle.ledger_file.specs.declared.refusal.LedgerRefusal.TheVariants.{Part, Held, Format};
-ghost use Rattle.ledger_file.specs.declared.refusal.CopyRefusal.TheVariants.{Target};
 ghost use Rattle.ledger_file.specs.Refusals.{IsToldAs};
 
 use crate::plan::{HeldFault, PartFault};
 use file_device::FileFault;
 use gate_journal::FormatRefusal;
-use journal_recovery::MigrateRefusal;
 use thiserror::Error;
 
 /// Why there is no ledger at a path that could be opened, or made.
@@ -33,17 +31,6 @@ pub enum LedgerRefusal {
     /// It wasn't formatted, or not to its end.
     #[error("{0}")]
     Format(FormatRefusal),
-}
-
-/// Why a ledger wasn't copied to a path.
-#[derive(Clone, Copy, Debug, PartialEq, Eq, Error)]
-pub enum CopyRefusal {
-    /// There can't be a ledger at the path.
-    #[error("{0}")]
-    Target(LedgerRefusal),
-    /// The ledger couldn't be read, or the new one not written.
-    #[error("{0}")]
-    Copy(MigrateRefusal),
 }
 
 impl LedgerRefusal {
@@ -88,13 +75,5 @@ impl From<FormatRefusal> for LedgerRefusal {
 
     fn from(refusal: FormatRefusal) -> LedgerRefusal {
         LedgerRefusal::Format(refusal)
-    }
-}
-
-impl From<LedgerRefusal> for CopyRefusal {
-    ghost from_gives = { λ inner refusal. refusal ≡ Target inner };
-
-    fn from(refusal: LedgerRefusal) -> CopyRefusal {
-        CopyRefusal::Target(refusal)
     }
 }

@@ -4,7 +4,7 @@ ghost use Rattle.std.specs.Prelude.{◌≡◌, ◌+◌, ◌≤◌};
 use crate::inspection::Task;
 use device_drawing::{DrawFault, draw};
 use ledger_printing::{PrintFault, Progress, print_balances, print_journal};
-use ledger_reading::{AnyJournal, Device, Numbers, ReadRefusal, Sound};
+use ledger_reading::{Device, Numbers, ReadRefusal, Sound};
 use script_streams::{Output, StreamFault};
 use std::alloc::Global;
 use std::io::Write;
@@ -69,18 +69,10 @@ fn print_sound_map<D: Device + Drop, W: Write>(
     writer: &mut W,
 ) -> Result<(), PrintFault> {
     let Sound { journal, .. } = sound;
-    let mut device = device_of(journal);
+    let mut device = journal.into_device();
     match draw(alloc, &mut device, None, writer) {
         Ok(()) => Ok(()),
         Err(DrawFault::Device) => Err(PrintFault::Read(ReadRefusal::Device)),
         Err(DrawFault::Stream(fault)) => Err(PrintFault::Stream(fault)),
-    }
-}
-
-// The device of a journal, of whichever layout.
-fn device_of<D: Device>(journal: AnyJournal<D>) -> D {
-    match journal {
-        AnyJournal::Present(journal) => journal.into_device(),
-        AnyJournal::Old(journal) => journal.into_device(),
     }
 }

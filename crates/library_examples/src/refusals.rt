@@ -3,7 +3,7 @@ use file_device::{FileFault, FileRefusal};
 use gate_journal::{FormatRefusal, ReadRefusal};
 use journal_recovery::{MigrateRefusal, OpenRefusal};
 use ledger_archive::{AddRefusal, FollowRefusal};
-use ledger_file::{CopyRefusal, HeldFault, LedgerRefusal, PartFault};
+use ledger_file::{HeldFault, LedgerRefusal, PartFault};
 use office_day::{CloseRefusal, DayRefusal, End, EndName};
 use std::alloc::Global;
 use std::fmt::{Display, Write};
@@ -105,7 +105,6 @@ fn refusals_of_files_have_texts(rt: HostRuntime) {
     assert!(rt; told && reads(alloc, &refusals, lines));
 }
 
-// A copy's refusals tell those of a ledger in a file, and of copying.
 #[test]
 fn refusals_of_ledgers_in_files_have_texts(rt: HostRuntime) {
     let (slots, found, needed) = (4, 54, 55);
@@ -115,25 +114,21 @@ fn refusals_of_ledgers_in_files_have_texts(rt: HostRuntime) {
         needed,
     };
     let refusals = [
-        CopyRefusal::Target(LedgerRefusal::Missing),
-        CopyRefusal::Target(LedgerRefusal::NoLedger),
-        CopyRefusal::Target(LedgerRefusal::Part(PartFault::OtherVersion(2))),
-        CopyRefusal::Target(LedgerRefusal::Part(PartFault::Unsound)),
-        CopyRefusal::Target(LedgerRefusal::Held(HeldFault::Part(part))),
-        CopyRefusal::Target(LedgerRefusal::Held(HeldFault::Ledger)),
-        CopyRefusal::Target(LedgerRefusal::Held(HeldFault::Foreign)),
-        CopyRefusal::Target(LedgerRefusal::TooSmall {
+        LedgerRefusal::Missing,
+        LedgerRefusal::NoLedger,
+        LedgerRefusal::Part(PartFault::OtherVersion(2)),
+        LedgerRefusal::Part(PartFault::Unsound),
+        LedgerRefusal::Held(HeldFault::Part(part)),
+        LedgerRefusal::Held(HeldFault::Ledger),
+        LedgerRefusal::Held(HeldFault::Foreign),
+        LedgerRefusal::TooSmall {
             slots,
             found,
             needed,
-        }),
-        CopyRefusal::Target(LedgerRefusal::Format(FormatRefusal::TooManySlots)),
-        CopyRefusal::Target(LedgerRefusal::Format(FormatRefusal::TooSmall)),
-        CopyRefusal::Target(LedgerRefusal::Format(FormatRefusal::Device)),
-        CopyRefusal::Copy(MigrateRefusal::TooManySlots),
-        CopyRefusal::Copy(MigrateRefusal::TooSmall),
-        CopyRefusal::Copy(MigrateRefusal::Source(OpenRefusal::Unformatted)),
-        CopyRefusal::Copy(MigrateRefusal::Target),
+        },
+        LedgerRefusal::Format(FormatRefusal::TooManySlots),
+        LedgerRefusal::Format(FormatRefusal::TooSmall),
+        LedgerRefusal::Format(FormatRefusal::Device),
     ];
     let lines = "there is no such file; derbyfig format makes a ledger there\n\
         it holds no ledger; derbyfig format makes one of a file without anything\n\
@@ -145,10 +140,16 @@ fn refusals_of_ledgers_in_files_have_texts(rt: HostRuntime) {
         it has 54 sectors, and a ledger of 4 slots needs 55\n\
         a bank has at most 1000000 slots\n\
         the device has too few sectors for the slots\n\
-        the device failed\n\
-        a bank has at most 1000000 slots\n\
+        the device failed\n";
+    let copying = [
+        MigrateRefusal::TooManySlots,
+        MigrateRefusal::TooSmall,
+        MigrateRefusal::Source(OpenRefusal::Unformatted),
+        MigrateRefusal::Target,
+    ];
+    let copied = "a bank has at most 1000000 slots\n\
         the new device has too few sectors for the slots\n\
         the old device wasn't read: it holds no ledger\n\
         the new device failed\n";
-    assert!(rt; reads(rt.alloc(), &refusals, lines));
+    assert!(rt; reads(rt.alloc(), &refusals, lines) && reads(rt.alloc(), &copying, copied));
 }

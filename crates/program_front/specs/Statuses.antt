@@ -1,7 +1,5 @@
 -- By which status a fault ends `derbyfig`: a rule refuses something, or something failed.
 use Rattle.std.specs.Prelude.{if◌then◌else◌}
-use Rattle.ledger_file.specs.declared.refusal.CopyRefusal.{CopyRefusal}
-use Rattle.ledger_file.specs.declared.refusal.CopyRefusal.TheVariants as copy
 use Rattle.line_lock.specs.declared.lent.OfficeRefusal.TheVariants as lent
 use Rattle.live_office.specs.declared.open_office.LiveRefusal.TheVariants as live
 use Rattle.archive_engine.specs.declared.faults.ArchiveFault.{ArchiveFault}
@@ -15,7 +13,7 @@ use Rattle.office_engine.specs.declared.speaking.ControlFault.{ControlFault}
 use Rattle.office_engine.specs.declared.speaking.ControlFault.TheVariants as control
 use Rattle.ledger_inspection.specs.Faults as inspection
 use Rattle.ledger_inspection.specs.declared.faults.InspectionFault.{InspectionFault}
-use Rattle.program_front.specs.Status.{of_ledger, of_migration, of_opening, of_script, of_turn}
+use Rattle.program_front.specs.Status.{of_ledger, of_opening, of_script, of_turn}
 use Rattle.program_front.specs.declared.status.Status.{Status}
 use Rattle.program_front.specs.declared.status.Status.TheVariants.{Refused, Failed}
 use Rattle.program_front.specs.declared.faults.Fault.{Fault}
@@ -69,8 +67,3 @@ status_of (fault.Control inner) = of_control inner
 status_of (fault.Archive inner) = of_archive inner
 status_of (fault.Counters inner) = of_counters inner
 status_of (fault.Inspection inner) = of_inspection inner
-
--- and of a ledger that wasn't copied, that of its path or of the copying
-abbrev pub of_copy : CopyRefusal → Status
-of_copy (copy.Target refusal) = of_ledger refusal
-of_copy (copy.Copy refusal) = of_migration refusal

@@ -11,13 +11,12 @@ use crate::running::{run_on_device, say};
 use crate::status::Status;
 use crate::telling::{tell, tell_words, tell_wrong, unwritten};
 use crate::words::read_request;
-use archive_engine::{Archived, Archiving, archive, open_newest};
+use archive_engine::{Archived, Archiving, archive, newest_of};
 use clap::Error;
 use file_device::{Locking, ReadOnlyFile};
-use ledger_file::{
-    CopyPlace, CopyRefusal, Formatting, format_ledger, open_for_copy, open_for_migration,
-};
+use ledger_file::{CopyPlace, Formatting, Original, format_ledger, open_for_copy};
 use ledger_inspection::{InspectionFault, Task, check_archive, inspect};
+use ledger_reading::Sound;
 use office_counters::{RosterPath, is_disk, remove_roster, take_along};
 use office_engine::{Locks, Runtime, Serving, Surroundings, ask_standing, close_office, serve};
 use script_streams::Watched;
@@ -181,60 +180,61 @@ impl<R: Files<File = File> + Alloc<A = Global> + Clock + Clone + Drop, W: Write>
             Origin::Older => ("migrated", RosterPath::Beside(copying.old)),
             Origin::Archive => ("restored", RosterPath::Inside(copying.old)),
         };
-        let ledger = self.opened_first(copying)?;
-        self.copy_ledger(ledger, counters, copying)?;
+        // whoever has it open keeps others from writing it
+        let (_file, original) = self.original(copying)?;
+        self.put_copy(original, counters, copying)?;
         self.say(format_args!("{done} {}", copying.formatting.slots))
     }
 
-    // What is to be copied, which is opened first, so that nothing is made if it isn't there. For an archive, which is
-    // all found sound, that is the newest file.
-    fn opened_first<'a>(&self, copying: Copying<'a>) -> Result<ReadOnlyFile, Fault<'a>> {
+    // What is to be copied, which is found sound first, so that nothing is made if it isn't. Of an archive, which is
+    // all found sound, it is the newest file.
+    fn original<'a>(&self, copying: Copying<'a>) -> Result<(ReadOnlyFile, Original), Fault<'a>> {
         let path = copying.old;
-        match copying.origin {
+        let (file, original) = match copying.origin {
             Origin::Archive => {
-                let newest = open_newest(self.rt, self.alloc, path)?;
+                let Sound { journal, ledger } = newest_of(self.rt, self.alloc, path)?;
                 check_archive(self.rt, self.alloc, path)?;
-                Ok(newest)
+                let next = journal.numbers().next;
+                return Ok((journal.into_device(), Original { ledger, next }));
             }
-            Origin::Ledger | Origin::Older => {
-                ReadOnlyFile::open(self.rt, self.alloc, path, Locking::Shared).map_err(
-                    |fault| Fault::of_source(path, fault),
-                )
-            }
+            Origin::Ledger => Original::read(self.alloc, self.opened(path)?),
+            Origin::Older => Original::read_older(self.alloc, self.opened(path)?),
+        };
+        match original {
+            Ok(original) => Ok((file, original)),
+            Err(refusal) => Err(Fault::of_opening(path, refusal)),
         }
     }
 
-    // Copies a ledger whose counters are kept there.
-    fn copy_ledger<'a>(
+    // A ledger that is to be copied.
+    fn opened<'a>(&self, path: &'a str) -> Result<ReadOnlyFile, Fault<'a>> {
+        ReadOnlyFile::open(self.rt, self.alloc, path, Locking::Shared).map_err(
+            |fault| Fault::of_source(path, fault),
+        )
+    }
+
+    // Puts a copy of a ledger whose counters are kept there at its path.
+    fn put_copy<'a>(
         &self,
-        ledger: ReadOnlyFile,
+        original: Original,
         counters: RosterPath<'a>,
         copying: Copying<'a>,
     ) -> Result<(), Fault<'a>> {
         let Copying {
-            old,
-            origin,
             path,
             formatting,
+            ..
         } = copying;
-        let (ledger, opened) = match origin {
-            Origin::Older => open_for_migration(self.rt, self.alloc, ledger, path, formatting),
-            Origin::Ledger | Origin::Archive => open_for_copy(
-                self.rt, self.alloc, ledger, path, formatting,
-            ),
-        };
-        let place = opened.map_err(|refusal| Fault::of_copy(old, path, refusal))?;
+        let place = open_for_copy(self.rt, self.alloc, original, path, formatting).map_err(
+            |refusal| Fault::of_ledger(path, refusal),
+        )?;
         let place = self.counters_first(place, counters, path)?;
         let is_made = place.made.is_some();
-        let (_, made) = match origin {
-            Origin::Older => place.migrate(self.rt, self.alloc, ledger),
-            Origin::Ledger | Origin::Archive => place.copy(self.rt, self.alloc, ledger),
-        };
-        match made {
+        match place.write(self.rt) {
             Ok(_) => Ok(()),
             Err(refusal) => {
                 self.forget_counters(is_made, path);
-                Err(Fault::of_copy(old, path, CopyRefusal::Copy(refusal)))
+                Err(Fault::of_ledger(path, refusal))
             }
         }
     }

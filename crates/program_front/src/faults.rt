@@ -1,9 +1,8 @@
 //! Why a command of `derbyfig` ends early.
 ghost use Rattle.std.specs.Prelude.{◌≡◌, ◌≢◌};
-ghost use Rattle.program_front.specs.Status.{of_ledger, of_opening};
+ghost use Rattle.program_front.specs.Status.{of_ledger, of_migration, of_opening};
 ghost use Rattle.program_front.specs.Statuses.{
   status_of,
-  of_copy,
   of_office,
   of_control,
   of_archive,
@@ -16,7 +15,7 @@ use archive_engine::{ArchiveFault, FolderFault};
 use console_engine::ScriptFault;
 use file_device::FileFault;
 use journal_recovery::{MigrateRefusal, OpenRefusal};
-use ledger_file::{CopyRefusal, FormatRefusal, LedgerRefusal, PartFault};
+use ledger_file::{FormatRefusal, LedgerRefusal, PartFault};
 use ledger_inspection::InspectionFault;
 use line_lock::OfficeRefusal;
 use live_office::LiveRefusal;
@@ -110,26 +109,23 @@ impl<'a> Fault<'a> {
         }
     }
 
-    // Of a ledger, of the present layout or an older one, that wasn't copied from one path to another.
-    pub(crate) fn of_copy(old: &'a str, path: &'a str, refusal: CopyRefusal) -> Fault<'a>
-        ensures status { status_of result ≡ of_copy refusal }
-        ensures memory { refusal ≡ CopyRefusal.Copy (MigrateRefusal.Source OpenRefusal.Memory)
+    // Of an older ledger that wasn't copied from one path to another.
+    pub(crate) fn of_migration(old: &'a str, path: &'a str, refusal: MigrateRefusal) -> Fault<'a>
+        ensures status { status_of result ≡ of_migration refusal }
+        ensures memory { refusal ≡ MigrateRefusal.Source OpenRefusal.Memory
             → result ≡ Fault.Script ScriptFault.Memory }
     {
         let refusal = match refusal {
-            CopyRefusal::Target(refusal) => return Fault::of_ledger(path, refusal),
-            CopyRefusal::Copy(MigrateRefusal::Source(refusal)) => {
-                return Fault::of_opening(old, refusal);
-            }
-            CopyRefusal::Copy(MigrateRefusal::TooManySlots) => FormatRefusal::TooManySlots,
-            CopyRefusal::Copy(MigrateRefusal::TooSmall) => FormatRefusal::TooSmall,
-            CopyRefusal::Copy(MigrateRefusal::Target) => FormatRefusal::Device,
+            MigrateRefusal::Source(refusal) => return Fault::of_opening(old, refusal),
+            MigrateRefusal::TooManySlots => FormatRefusal::TooManySlots,
+            MigrateRefusal::TooSmall => FormatRefusal::TooSmall,
+            MigrateRefusal::Target => FormatRefusal::Device,
         };
         Fault::of_ledger(path, LedgerRefusal::Format(refusal))
     }
 
     // Of a path where there is no sound ledger of the layout that is copied.
-    fn of_opening(path: &'a str, refusal: OpenRefusal) -> Fault<'a>
+    pub(crate) fn of_opening(path: &'a str, refusal: OpenRefusal) -> Fault<'a>
         ensures status { status_of result ≡ of_opening refusal }
         ensures memory { refusal ≡ OpenRefusal.Memory
             → result ≡ Fault.Script ScriptFault.Memory }

@@ -12,7 +12,7 @@ use crate::request::{OlderLedger, Running, ScriptFile};
 use console_engine::{ScriptFault, run_script};
 use file_device::{FileDevice, Making};
 use journal_recovery::{MigrateRefusal, OpenRefusal, may_hold_postings, migrate};
-use ledger_file::{CopyRefusal, FileFault, HeldFault, LedgerRefusal, open_for_script};
+use ledger_file::{FileFault, HeldFault, LedgerRefusal, open_for_script};
 use office_counters::{RosterPath, note_script};
 use script_streams::write_all;
 use sector_device::{Device, MemoryDevice};
@@ -95,53 +95,54 @@ fn upgraded<'a, F: Files<File = File>, W: Write>(
     ))?;
     let device = opened(rt, alloc, file, sectors)?;
     let (device, migrated) = migrate_onto(alloc, old, device, slots.get());
-    migrated.map_err(|refusal| Fault::of_copy(path, file.path, refusal))?;
+    let Some(migrated) = migrated else {
+        let held = LedgerRefusal::Held(HeldFault::Ledger);
+        return Err(Fault::of_ledger(file.path, held));
+    };
+    migrated.map_err(|refusal| Fault::of_migration(path, file.path, refusal))?;
     say(alloc, format_args!("migrated {slots}"), writer)?;
     Ok(device)
 }
 
 /// Copies the ledger of an older device onto one that holds no postings, which is handed back, and lets go of the older
-/// one. Where the other may hold postings, nothing is written to it, and nothing read of the older one.
+/// one. Where the other may hold postings, nothing is written to it, nothing read of the older one, and there is no
+/// answer.
 ///
 /// # Errors
-/// That the device holds a ledger if it may hold postings, and else as `migrate` refuses.
+/// As of [`migrate`].
 pub(crate) fn migrate_onto<D: Device + Drop, E: Device + Drop>(
     alloc: Global,
     old: D,
     device: E,
     slots: u64,
-) -> (E, Result<(), CopyRefusal>)
+) -> (E, Option<Result<(), MigrateRefusal>>)
     requires { 1 ≤ slots }
 
     // On honest devices.
     ensures not_empty { (E.state device).honest
-        → result.1 ≡ Err (CopyRefusal.Target (LedgerRefusal.Held HeldFault.Ledger))
-        → MayHoldPostings (E.state device).reads }
+        → result.1 ≡ None → MayHoldPostings (E.state device).reads }
     ensures refused { (E.state device).honest → MayHoldPostings (E.state device).reads
-        → OnOk result.1 ⊥ }
+        → IfSome result.1 (λ made. OnOk made ⊥) }
     ensures nothing_lost { (E.state device).honest → MayHoldPostings (E.state device).reads
         → LooksOnly (E.state device) (E.state result.0) }
     ensures source { (D.state old).honest → (refusal : OpenRefusal)
-        → result.1 ≡ Err (CopyRefusal.Copy (MigrateRefusal.Source refusal))
+        → result.1 ≡ Some (Err (MigrateRefusal.Source refusal))
         → refusal ≢ OpenRefusal.Memory → refusal ≢ OpenRefusal.Device
         → OldRecoveryRefuses (D.state old).reads refusal }
     ensures migrated { (D.state old).honest → (E.state device).honest
-        → OnOk result.1 (IsMigrated slots (D.state old).reads (E.state result.0)) }
+        → IfSome result.1 (λ made. OnOk made (IsMigrated slots (D.state old).reads (E.state result.0))) }
 {
     let (mut device, may_hold) = may_hold_postings(alloc, device);
     let refusal = match may_hold {
+        Ok(true) => return (device, None),
         Ok(false) => {
             let (_old, migrated) = migrate(alloc, old, &mut device, slots);
-            return match migrated {
-                Ok(()) => (device, Ok(())),
-                Err(refusal) => (device, Err(CopyRefusal::Copy(refusal))),
-            };
+            return (device, Some(migrated));
         }
-        Ok(true) => CopyRefusal::Target(LedgerRefusal::Held(HeldFault::Ledger)),
-        Err(OpenRefusal::Memory) => CopyRefusal::Copy(MigrateRefusal::Source(OpenRefusal::Memory)),
-        Err(_) => CopyRefusal::Copy(MigrateRefusal::Target),
+        Err(OpenRefusal::Memory) => MigrateRefusal::Source(OpenRefusal::Memory),
+        Err(_) => MigrateRefusal::Target,
     };
-    (device, Err(refusal))
+    (device, Some(Err(refusal)))
 }
 
 /// Says what was done on a line of its own.
