@@ -1,8 +1,8 @@
 #!/usr/bin/env bash
 # Compares which calls of the system an opening makes, one by one: for a new file, for one that grows, for one that has
-# all its sectors, for a disk, and for a file that is only read. A library that is loaded before the programs notes
-# these calls, fails one of them, or moves only a part of what is read or written. The check compares what is printed
-# then, and which bytes the file has.
+# all its sectors, for a disk, and for a file that is only read, of which a copy reads no more than it needs. A library
+# that is loaded before the programs notes these calls, fails one of them, or moves only a part of what is read or
+# written. The check compares what is printed then, and which bytes the file has.
 #
 # Prints one line for each case, and ends with status 1 if one fails. Words: the built turn_console, the built derbyfig.
 # Needed besides the toolchain: gcc, Python. The files are made below the folder BENCH_FOLDER, or below /var/tmp.
