@@ -11,7 +11,6 @@ use journal_recovery::{OpenRefusal, Recovered, recover};
 use ledger_file::{Formatting, LedgerRefusal, Original, open_for_copy};
 use office_counters::{RosterPath, remove_roster, take_along};
 use sector_device::Device;
-use std::alloc::Global;
 use std::fs;
 use std::fs::{File, Files};
 use std::num::NonZeroU64;
@@ -35,9 +34,8 @@ pub enum FolderCopyRefusal {
 ///
 /// # Errors
 /// [`ArchiveFault::Folder`], for the first [`FolderFault`] that holds, or out of memory.
-pub fn open_copies<'a, R: Files<File = File>>(
+pub fn open_copies<'a, R: Files<File = File> + AllocGlobal>(
     rt: &R,
-    alloc: Global,
     path: &'a str,
     archive: Option<&str>,
 ) -> Result<Folder<'a>, ArchiveFault<'a>>
@@ -47,7 +45,7 @@ pub fn open_copies<'a, R: Files<File = File>>(
         Ok(folder) => folder,
         Err(fault) => return Err(ArchiveFault::of_folder(path, fault)),
     };
-    let unfinished = folder.unfinished(alloc)?;
+    let unfinished = folder.unfinished(rt.alloc())?;
     if folder.can_be_written(rt, unfinished.as_str()) {
         return Ok(folder);
     }
@@ -79,9 +77,8 @@ fn folder_of_copies<'a, R: Files<File = File>>(
 ///
 /// # Errors
 /// [`FolderCopyRefusal`], the first that holds.
-pub fn copy_to_folder<D: Device, R: Files<File = File>>(
+pub fn copy_to_folder<D: Device, R: Files<File = File> + AllocGlobal>(
     rt: &R,
-    alloc: Global,
     device: D,
     folder: &Folder<'_>,
     counters: RosterPath<'_>,
@@ -93,27 +90,19 @@ pub fn copy_to_folder<D: Device, R: Files<File = File>>(
     ensures number { (D.state device).honest
         → IfOk result.1 (λ number. IsNumberOf number (D.state device).reads) }
 {
-    let Recovered { journal, ledger } = match recover(alloc, device) {
+    let Recovered { journal, ledger } = match recover(rt.alloc(), device) {
         Ok(found) => found,
         Err((device, OpenRefusal::Memory)) => return (device, Err(FolderCopyRefusal::Memory)),
         Err((device, refusal)) => return (device, Err(FolderCopyRefusal::Ledger(refusal))),
     };
     let (next, slots) = (journal.next(), journal.slots());
-    let copied = put_copy(
-        rt,
-        alloc,
-        folder,
-        Original { ledger, next },
-        slots,
-        counters,
-    );
+    let copied = put_copy(rt, folder, Original { ledger, next }, slots, counters);
     (journal.into_device(), copied)
 }
 
 // Puts a copy into the folder, with so many slots, and tells its number.
-fn put_copy<R: Files<File = File>>(
+fn put_copy<R: Files<File = File> + AllocGlobal>(
     rt: &R,
-    alloc: Global,
     folder: &Folder<'_>,
     original: Original,
     slots: u64,
@@ -123,32 +112,25 @@ fn put_copy<R: Files<File = File>>(
     ensures refused { IfErr result (λ refusal. IsReadFault refusal → ⊥) }
 {
     let number = original.next;
-    let (unfinished, own) = ways(rt, alloc, folder, number)?;
-    copy_to(rt, alloc, original, unfinished.as_str(), slots)?;
-    put_in_place(
-        rt,
-        alloc,
-        folder,
-        (unfinished.as_str(), own.as_str()),
-        counters,
-    )?;
+    let (unfinished, own) = ways(rt, folder, number)?;
+    copy_to(rt, original, unfinished.as_str(), slots)?;
+    put_in_place(rt, folder, (unfinished.as_str(), own.as_str()), counters)?;
     Ok(number)
 }
 
 // The path under which the copy of that number is made, and its own, which nothing has.
-fn ways<R: Files<File = File>>(
+fn ways<R: Files<File = File> + AllocGlobal>(
     rt: &R,
-    alloc: Global,
     folder: &Folder<'_>,
     number: u64,
 ) -> Result<(String, String), FolderCopyRefusal>
     ensures { IfErr result (λ refusal. IsReadFault refusal → ⊥) }
 {
-    let Ok(unfinished) = folder.unfinished(alloc) else {
+    let Ok(unfinished) = folder.unfinished(rt.alloc()) else {
         return Err(FolderCopyRefusal::Memory);
     };
     let volume = folder.volume(number);
-    let Ok(own) = format!(in alloc; "{volume}") else {
+    let Ok(own) = format!(in rt.alloc(); "{volume}") else {
         return Err(FolderCopyRefusal::Memory);
     };
     if fs::symlink_metadata(rt, own.as_str()).is_ok() {
@@ -161,9 +143,8 @@ fn ways<R: Files<File = File>>(
 }
 
 // Makes a copy at that path.
-fn copy_to<R: Files<File = File>>(
+fn copy_to<R: Files<File = File> + AllocGlobal>(
     rt: &R,
-    alloc: Global,
     original: Original,
     path: &str,
     slots: u64,
@@ -175,7 +156,7 @@ fn copy_to<R: Files<File = File>>(
         sectors: 0,
         overwrite: false,
     };
-    let place = match open_for_copy(rt, alloc, original, path, formatting) {
+    let place = match open_for_copy(rt, original, path, formatting) {
         Ok(place) => place,
         Err(refusal) => return Err(refusal_of(refusal)),
     };
@@ -186,9 +167,8 @@ fn copy_to<R: Files<File = File>>(
 }
 
 // Keeps the counters of a copy, and gives it its own name; else nothing is left of it.
-fn put_in_place<R: Files<File = File>>(
+fn put_in_place<R: Files<File = File> + AllocGlobal>(
     rt: &R,
-    alloc: Global,
     folder: &Folder<'_>,
     names: (&str, &str),
     counters: RosterPath<'_>,
@@ -197,7 +177,7 @@ fn put_in_place<R: Files<File = File>>(
 {
     let (unfinished, own) = names;
     let beside = RosterPath::Beside(own);
-    if take_along(rt, alloc, counters, beside).is_ok() {
+    if take_along(rt, counters, beside).is_ok() {
         if folder.put_in_place(rt, unfinished, own).is_ok() {
             return Ok(());
         }
@@ -207,7 +187,7 @@ fn put_in_place<R: Files<File = File>>(
         folder.take_away(rt, own);
     }
     folder.take_away(rt, unfinished);
-    let _ = remove_roster(rt, alloc, beside);
+    let _ = remove_roster(rt, beside);
     Err(FolderCopyRefusal::Unwritten)
 }
 

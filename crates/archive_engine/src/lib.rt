@@ -1,7 +1,7 @@
 //! The engine of an archive: a folder of ledgers, each made whole and never written again, with the records of one
 //! ledger in order.
 //!
-//! [`archive`] adds what the archive lacks of a ledger, and [`archive_device`] of one that somebody has open;
+//! [`archive`] adds what the archive lacks of a ledger, and [`archive_journal`] of one that somebody has open;
 //! [`newest_of`] opens the ledger with which it ends, and [`check_no_gap`] finds a file that is missing between
 //! others. [`copy_to_folder`] makes a copy of a ledger in a folder for such copies.
 //! `checks/books.sh` has examples.
@@ -13,7 +13,7 @@ mod faults;
 mod folder;
 mod gaps;
 
-pub use archiving::{Archived, Archiving, archive, archive_device, newest_of};
+pub use archiving::{Archived, Archiving, archive, archive_journal, newest_of};
 pub use copying::{FolderCopyRefusal, copy_to_folder, open_copies};
 pub use faults::{ArchiveFault, FolderFault, Part, Volume};
 pub use folder::{Folder, is_folder, numbers_in};

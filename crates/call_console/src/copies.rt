@@ -74,7 +74,7 @@ fn list_all(sound: Sound<Bench>, told: &mut Told) -> Scene {
     let numbers = sound.journal.numbers();
     told.value(&numbers);
     told.ledger(numbers.next, &sound.ledger);
-    match sound.list() {
+    match sound.journal.list(sound.ledger) {
         Ok(mut listing) => {
             tell_all(&mut listing, told);
             Scene::Device(listing.into_device())

@@ -23,7 +23,7 @@ pub fn open_listing(device: Bench, hand: &mut Hand, told: &mut Told) -> Scene {
 // What a device holds, or the device, if that can't be listed, which is told.
 fn listing_of(alloc: Global, device: Bench, told: &mut Told) -> Result<Listing<Bench>, Bench> {
     let listed = match look(alloc, device) {
-        Ok(sound) => sound.list(),
+        Ok(sound) => sound.journal.list(sound.ledger),
         Err(refused) => return Err(told.handed_back(refused)),
     };
     match listed {
@@ -134,7 +134,7 @@ fn follow_other(listing: &mut Listing<Bench>, hand: &mut Hand, told: &mut Told) 
 }
 
 fn device_of(sound: Sound<Bench>) -> Bench {
-    match sound.list() {
+    match sound.journal.list(sound.ledger) {
         Ok(listing) => listing.into_device(),
         Err((device, _)) => device,
     }

@@ -18,14 +18,6 @@ fn main(rt: HostRuntime) -> ExitCode {
     let (mut output, mut errors) = (rt.stdout(), rt.stderr());
     // on a terminal on which nothing else is printed
     let shows = errors.is_terminal() && !output.is_terminal();
-    let status = run_derbyfig_words(
-        &rt,
-        rt.alloc(),
-        given,
-        surroundings,
-        &mut output,
-        &mut errors,
-        shows,
-    );
+    let status = run_derbyfig_words(&rt, given, surroundings, &mut output, &mut errors, shows);
     ExitCode::from(status)
 }

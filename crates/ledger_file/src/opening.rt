@@ -29,9 +29,8 @@ pub struct Formatting {
 ///
 /// # Errors
 /// [`LedgerRefusal`].
-pub fn open_ledger<F: DeviceFile + Drop, R: Files<File = F>>(
+pub fn open_ledger<F: DeviceFile + Drop, R: Files<File = F> + AllocGlobal>(
     rt: &R,
-    alloc: Global,
     path: &str,
     asked: u64,
 ) -> Result<DeviceOn<F>, LedgerRefusal>
@@ -41,7 +40,7 @@ pub fn open_ledger<F: DeviceFile + Drop, R: Files<File = F>>(
         (device.inner.failures ≡ 0) × (device.refused ≡ 0)) }
     ensures works { IfOk result (λ device. device.stopped ≡ false) }
 {
-    let file = LockedFile::open(rt, alloc, path, Making::Never)?;
+    let file = LockedFile::open(rt, rt.alloc(), path, Making::Never)?;
     let first = file.first_sector()?;
     if FirstSector::of(&first) == FirstSector::NoJournal {
         return Err(LedgerRefusal::NoLedger);
@@ -60,9 +59,8 @@ pub fn open_ledger<F: DeviceFile + Drop, R: Files<File = F>>(
 ///
 /// # Errors
 /// As `FileDevice::open_with_cause`.
-pub fn open_for_script<F: DeviceFile + Drop, R: Files<File = F>>(
+pub fn open_for_script<F: DeviceFile + Drop, R: Files<File = F> + AllocGlobal>(
     rt: &R,
-    alloc: Global,
     path: &str,
     asked: u64,
     making: Making,
@@ -72,7 +70,7 @@ pub fn open_for_script<F: DeviceFile + Drop, R: Files<File = F>>(
         (device.inner.failures ≡ 0) × (device.refused ≡ 0)) }
     ensures works { IfOk result (λ device. device.stopped ≡ false) }
 {
-    let file = LockedFile::open(rt, alloc, path, making)?;
+    let file = LockedFile::open(rt, rt.alloc(), path, making)?;
     let sectors = if file.is_disk() {
         asked
     } else {
@@ -101,9 +99,8 @@ fn sectors_for_script<F: DeviceFile + Drop>(file: &LockedFile<'_, F>, asked: u64
 ///
 /// # Errors
 /// [`LedgerRefusal`]. After `Format(Device)` nothing is known of the sectors.
-pub fn format_ledger<F: DeviceFile + Drop, R: Files<File = F>>(
+pub fn format_ledger<F: DeviceFile + Drop, R: Files<File = F> + AllocGlobal>(
     rt: &R,
-    alloc: Global,
     path: &str,
     formatting: Formatting,
 ) -> Result<DeviceOn<F>, LedgerRefusal>
@@ -112,7 +109,7 @@ pub fn format_ledger<F: DeviceFile + Drop, R: Files<File = F>>(
         39 + 4 * non_zero_u64_get formatting.slots ≤ device.inner.sectors) }
     ensures fits { IfOk result (λ device. device.inner.sectors * 512 < 2 ^ 63) }
 {
-    let (mut device, made) = device_to_format(rt, alloc, path, formatting)?;
+    let (mut device, made) = device_to_format(rt, path, formatting)?;
     if let Err(refusal) = format(&mut device, formatting.slots.get()) {
         take_back(rt, made);
         return Err(LedgerRefusal::Format(refusal));
@@ -128,9 +125,8 @@ pub(crate) fn take_back<R: Files>(rt: &R, made: Option<MadeFile<'_>>) {
 }
 
 /// The device on which a ledger is to be made, and its file, if this call made it.
-pub(crate) fn device_to_format<'a, F: DeviceFile + Drop, R: Files<File = F>>(
+pub(crate) fn device_to_format<'a, F: DeviceFile + Drop, R: Files<File = F> + AllocGlobal>(
     rt: &R,
-    alloc: Global,
     path: &'a str,
     formatting: Formatting,
 ) -> Result<(DeviceOn<F>, Option<MadeFile<'a>>), LedgerRefusal>
@@ -143,8 +139,8 @@ pub(crate) fn device_to_format<'a, F: DeviceFile + Drop, R: Files<File = F>>(
     if slots > MOST_SLOTS {
         return Err(LedgerRefusal::Format(FormatRefusal::TooManySlots));
     }
-    let file = LockedFile::open(rt, alloc, path, Making::IfMissing)?;
-    check_held(alloc, &file, formatting.overwrite)?;
+    let file = LockedFile::open(rt, rt.alloc(), path, Making::IfMissing)?;
+    check_held(rt.alloc(), &file, formatting.overwrite)?;
     let wanted = Wanted {
         sectors: sectors_to_format(slots, file.sectors(), file.is_disk(), formatting.sectors)?,
         overwrite: formatting.overwrite,

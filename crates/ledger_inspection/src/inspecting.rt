@@ -14,7 +14,7 @@ use file_device::ReadOnlyFile;
 use ledger_printing::Progress;
 use ledger_reading::{Device, look};
 use script_streams::Watched;
-use std::alloc::{Alloc, Global};
+use std::alloc::Global;
 use std::fs::{File, Files};
 use std::io::Write;
 
@@ -25,26 +25,25 @@ use std::io::Write;
 ///
 /// # Errors
 /// [`InspectionFault`], the first that is met.
-pub fn inspect<'a, R: Files<File = File> + Alloc<A = Global> + Clone + Drop, W: Write, E: Write>(
+pub fn inspect<'a, R: Files<File = File> + AllocGlobal + Clone + Drop, W: Write, E: Write>(
     rt: &R,
-    alloc: Global,
     wish: &Inspection<'a>,
     writer: &mut W,
     errors: &mut E,
     shows_progress: bool,
 ) -> Result<(), InspectionFault<'a>> {
     let mut output = Watched::over(writer);
-    let mut meter = Meter::over(alloc, errors, shows_progress);
+    let mut meter = Meter::over(rt.alloc(), errors, shows_progress);
     let looked = match wish.paths.as_slice() {
         [path] if is_alone(rt, path, wish.task) => {
-            inspect_file(rt, alloc, wish, path, &mut output, &mut meter)
+            inspect_file(rt, wish, path, &mut output, &mut meter)
         }
-        _ => read_book(rt, alloc, wish, &mut output, &mut meter),
+        _ => read_book(rt, wish, &mut output, &mut meter),
     };
     meter.end();
     match looked {
         Err(fault) if fault.is_of_reader(output.is_closed()) => Ok(()),
-        Err(fault) => Err(answered(alloc, wish.task, fault, &mut output)),
+        Err(fault) => Err(answered(rt.alloc(), wish.task, fault, &mut output)),
         Ok(()) => Ok(()),
     }
 }
@@ -60,9 +59,8 @@ fn is_alone<R: Files<File = File>>(rt: &R, path: &str, task: Task) -> bool {
 }
 
 // Opens the file and does what is asked for with its ledger.
-fn inspect_file<'a, F: Files<File = File>, W: Write + Drop, E: Write>(
+fn inspect_file<'a, F: Files<File = File> + AllocGlobal, W: Write + Drop, E: Write>(
     rt: &F,
-    alloc: Global,
     wish: &Inspection<'a>,
     path: &'a str,
     writer: &mut W,
@@ -70,10 +68,10 @@ fn inspect_file<'a, F: Files<File = File>, W: Write + Drop, E: Write>(
 ) -> Result<(), InspectionFault<'a>>
     ensures { IfErr result (IsOfOne (Part.File path.entry)) }
 {
-    match ReadOnlyFile::open(rt, alloc, path, wish.locking) {
+    match ReadOnlyFile::open(rt, rt.alloc(), path, wish.locking) {
         Ok(device) => {
             meter.tell_locking(path, wish.locking);
-            inspect_device(alloc, path, wish.task, device, writer, meter)
+            inspect_device(rt.alloc(), path, wish.task, device, writer, meter)
         }
         Err(fault) => Err(InspectionFault::of_file(Part::File(path), fault)),
     }

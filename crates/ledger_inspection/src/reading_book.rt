@@ -8,7 +8,7 @@ use file_device::Locking;
 use ledger_printing::{JournalPrint, JournalWish, Progress, print_balances};
 use ledger_reading::Ledger;
 use script_streams::{Output, StreamFault};
-use std::alloc::{Alloc, Global};
+use std::alloc::Global;
 use std::fs::{File, Files};
 use std::io::Write;
 
@@ -17,15 +17,13 @@ use std::io::Write;
 ///
 /// # Errors
 /// [`InspectionFault`], the first that is met.
-pub fn check_archive<'a, R: Files<File = File> + Alloc<A = Global> + Clone + Drop>(
+pub fn check_archive<'a, R: Files<File = File> + AllocGlobal + Clone + Drop>(
     rt: &R,
-    alloc: Global,
     folder: &'a str,
 ) -> Result<(), InspectionFault<'a>> {
-    let parts = parts_of(rt, alloc, &[folder])?;
+    let parts = parts_of(rt, &[folder])?;
     let shelf = Shelf {
         rt,
-        alloc,
         parts: parts.as_slice(),
         locking: Locking::Shared,
     };
@@ -36,12 +34,11 @@ pub fn check_archive<'a, R: Files<File = File> + Alloc<A = Global> + Clone + Dro
 /// Finds all of a book sound, and then prints what is asked for. The last ledger stays open, so that nobody writes it.
 pub(crate) fn read_book<
     'a,
-    R: Files<File = File> + Alloc<A = Global> + Clone + Drop,
+    R: Files<File = File> + AllocGlobal + Clone + Drop,
     W: Write + Drop,
     E: Write,
 >(
     rt: &R,
-    alloc: Global,
     wish: &Inspection<'a>,
     writer: &mut W,
     meter: &mut Meter<'_, E>,
@@ -49,13 +46,12 @@ pub(crate) fn read_book<
     for path in &wish.paths {
         meter.tell_locking(path, wish.locking);
     }
-    let parts = parts_of(rt, alloc, wish.paths.as_slice())?;
+    let parts = parts_of(rt, wish.paths.as_slice())?;
     let Some(last) = parts.last() else {
         return Err(InspectionFault::Nothing);
     };
     let shelf = Shelf {
         rt,
-        alloc,
         parts: parts.as_slice(),
         locking: wish.locking,
     };
@@ -65,7 +61,7 @@ pub(crate) fn read_book<
     read
 }
 
-impl<'a, R: Files<File = File>> Shelf<'a, '_, R> {
+impl<'a, R: Files<File = File> + AllocGlobal> Shelf<'a, '_, R> {
     fn read<W: Write + Drop, P: Progress>(
         &self,
         task: Task,
@@ -75,14 +71,14 @@ impl<'a, R: Files<File = File>> Shelf<'a, '_, R> {
         match task {
             Task::Check { quiet: false } => {
                 let extent = self.walk(&mut Passing)?;
-                print_extent(self.alloc, &extent, writer)?;
+                print_extent(self.rt.alloc(), &extent, writer)?;
             }
             Task::Check { quiet: true } | Task::Map => {
                 self.walk(&mut Passing)?;
             }
             Task::Balances { format, date, at } => {
                 let ledger = self.held(at)?;
-                print_balances(self.alloc, &ledger, format, date, writer)?;
+                print_balances(self.rt.alloc(), &ledger, format, date, writer)?;
             }
             Task::Journal(wish) => self.print(wish, writer, progress)?,
         }
@@ -97,7 +93,7 @@ impl<'a, R: Files<File = File>> Shelf<'a, '_, R> {
         progress: &mut P,
     ) -> Result<(), InspectionFault<'a>> {
         let Extent { last, .. } = self.walk(&mut Passing)?;
-        let printed = JournalPrint::over(self.alloc, wish, writer).map_err(
+        let printed = JournalPrint::over(self.rt.alloc(), wish, writer).map_err(
             |fault| InspectionFault::of_printing(last, fault),
         )?;
         let mut printing = Printing { printed, progress };
@@ -110,7 +106,7 @@ impl<'a, R: Files<File = File>> Shelf<'a, '_, R> {
 
     // What the accounts hold at the end, or held before the record with that sequence number.
     fn held(&self, at: Option<u64>) -> Result<Ledger, InspectionFault<'a>> {
-        let mut ledger = Ledger::new(self.alloc)?;
+        let mut ledger = Ledger::new(self.rt.alloc())?;
         let Some(at) = at else {
             let extent = self.walk(&mut Passing)?;
             ledger.copy_from(extent.seam.ledger());

@@ -1,6 +1,7 @@
 //! An office in memory that stays open for one counter, whose lines are written out and whose answers come by a pipe.
 use crate::clerks::opened;
 use crate::scenes::line;
+use gate_journal::Journal;
 use live_office::{
     Clients, Closed, Counter, CounterCopyRefusal, Identity, Keeper, Kept, Kind, Seen, keep_open,
 };
@@ -21,12 +22,14 @@ struct Sample {
     copies: u64,
 }
 
-impl<D: Device> Keeper<D> for Sample {
-    fn keep(&mut self, device: D) -> (D, Kept) {
-        (device, Kept::NoArchive)
+impl Keeper for Sample {
+    ghost so_far = { λ _. Kept.NoArchive };
+
+    fn keep<D: Device>(&mut self, journal: Journal<D>) -> (D, Kept) {
+        (journal.into_device(), Kept::NoArchive)
     }
 
-    fn copy(&mut self, device: D) -> (D, Result<u64, CounterCopyRefusal>) {
+    fn copy<D: Device>(&mut self, device: D) -> (D, Result<u64, CounterCopyRefusal>) {
         self.copies = self.copies.saturating_add(1);
         if self.copies == 1 {
             return (device, Ok(7));

@@ -25,7 +25,7 @@ fn with_records(alloc: Global, records: [(u16, [Entry; 2]); 2]) -> Result<Memory
 }
 
 pub fn listing_of<D: Device + Drop>(sound: Sound<D>) -> Result<Listing<D>, ReadRefusal> {
-    match sound.list() {
+    match sound.journal.list(sound.ledger) {
         Ok(listing) => Ok(listing),
         Err((_, refusal)) => Err(refusal),
     }

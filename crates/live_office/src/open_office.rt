@@ -95,7 +95,7 @@ pub fn keep_open<
     I: Read + Send + Drop + 'static,
     O: Write + Send + Drop + 'static,
     C: Clients + Send + Drop + 'static,
-    K: Keeper<D> + Drop,
+    K: Keeper + Drop,
 >(
     rt: &R,
     alloc: Global,

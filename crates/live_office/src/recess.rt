@@ -1,13 +1,13 @@
 //! What a live office does between two spans.
 ghost use Rattle.std.specs.Prelude.{◌≡◌, ◌⊎◌, ◌↔◌, ℕ, true, false};
 ghost use Rattle.sector_device.specs.Crash.{WasLookedAt};
-ghost use Rattle.office_day.specs.Archive.{Archive, WasKept, next_of};
+ghost use Rattle.office_day.specs.Archive.{Archive, CatchesUp, IsKept, WasKept, next_of};
 ghost use Rattle.live_office.specs.Standing.{archived_of};
 
 use crate::look::Seen;
 use crate::scheduler::Scheduler;
+use gate_journal::{Borrower, Journal};
 use office_day::{Device, Recess};
-use sector_device::Look;
 use std::sync::Wait;
 
 /// Why there is no copy. The first that holds.
@@ -50,16 +50,20 @@ impl Kept {
 }
 
 /// Who keeps the archive of an office, looks into it, and makes copies of its ledger.
-pub trait Keeper<D: Device> {
+pub trait Keeper {
     ghost use Rattle.office_day.specs.Archive.{no_archive};
 
     /// The archive, which an office that doesn't say so has none of.
     ghost archive: { Self → Archive } = { λ _. no_archive };
 
-    /// Adds to the archive what it lacks of the ledger on the device, which is only looked at and handed back.
-    fn keep(&mut self, device: D) -> (D, Kept)
-        ensures looked { WasLookedAt (D.state device) (D.state result.0) }
-        ensures kept { WasKept (D.state device) (archive self.old) (archive self.new) }
+    /// How far it was when it was kept last.
+    ghost so_far: { Self → Kept };
+
+    /// Adds to the archive what it lacks of the ledger, whose device is only looked at and handed back.
+    fn keep<D: Device>(&mut self, journal: Journal<D>) -> (D, Kept)
+        ensures looked { WasLookedAt (D.state journal.device) (D.state result.0) }
+        ensures kept { WasKept (D.state journal.device) (archive self.old) (archive self.new) }
+        ensures so_far { so_far self.new ≡ result.1 }
         ensures none { result.1 ≡ Kept.NoArchive → (archive self.old).honest ≡ false }
         ensures up_to { (next : ℕ) → result.1 ≡ Kept.UpTo next → (archive self.old).honest ≡ true
             → next ≡ next_of (archive self.new) }
@@ -67,21 +71,24 @@ pub trait Keeper<D: Device> {
             ↔ (((archive self.old).failed ≡ true) ⊎ (result.1 ≡ Kept.Failed)) };
 
     /// How far the archive is, as it was kept last.
-    fn kept(&self) -> Kept;
+    fn kept(&self) -> Kept
+        ensures { result ≡ so_far self.now };
 
     /// Makes a copy of the ledger on the device. All batches below the number are in it. The device is only looked at
     /// and handed back.
     ///
     /// # Errors
     /// [`CounterCopyRefusal`].
-    fn copy(&mut self, device: D) -> (D, Result<u64, CounterCopyRefusal>)
+    fn copy<D: Device>(&mut self, device: D) -> (D, Result<u64, CounterCopyRefusal>)
         ensures looked { WasLookedAt (D.state device) (D.state result.0) }
-        ensures archive { archive self.new ≡ archive self.old };
+        ensures archive { archive self.new ≡ archive self.old }
+        ensures so_far { so_far self.new ≡ so_far self.old };
 
     /// The posting of a station with the greatest reference in the archive, and the number of the first batch that is
     /// in it. None without an archive, or if it can't be read.
     fn last(&mut self, station: u8) -> Option<Seen>
-        ensures archive { archive self.new ≡ archive self.old };
+        ensures archive { archive self.new ≡ archive self.old }
+        ensures so_far { so_far self.new ≡ so_far self.old };
 }
 
 /// What a counter wants of a recess.
@@ -110,16 +117,14 @@ pub(crate) struct Granting<'a, R, K> {
     pub keeper: K,
 }
 
-impl<R: Wait, K> Granting<'_, R, K> {
+impl<R: Wait, K: Keeper> Granting<'_, R, K> {
     // Keeps the archive; if it can't be kept, no station takes a turn any more.
-    fn keep_archive<D: Device>(&mut self, device: D) -> (D, Kept)
-    where
-        K: Keeper<D>,
-        ensures looked { WasLookedAt (D.state device) (D.state result.0) }
-        ensures kept { WasKept (D.state device)
+    fn keep_archive<D: Device>(&mut self, journal: Journal<D>) -> (D, Kept)
+        ensures looked { WasLookedAt (D.state journal.device) (D.state result.0) }
+        ensures kept { WasKept (D.state journal.device)
             (K.archive self.old.keeper) (K.archive self.new.keeper) }
     {
-        let (device, kept) = self.keeper.keep(device);
+        let (device, kept) = self.keeper.keep(journal);
         self.scheduler.note_kept(self.rt, kept);
         if kept == Kept::Failed {
             self.scheduler.cut_off();
@@ -129,8 +134,6 @@ impl<R: Wait, K> Granting<'_, R, K> {
 
     // Does what a station wants, if it wants anything, and tells it what came of that.
     fn grant<D: Device>(&mut self, device: D, station: u8, kept: Kept) -> D
-    where
-        K: Keeper<D>,
         ensures looked { WasLookedAt (D.state device) (D.state result) }
         ensures archive { K.archive self.new.keeper ≡ K.archive self.old.keeper }
     {
@@ -150,11 +153,13 @@ impl<R: Wait, K> Granting<'_, R, K> {
     }
 }
 
-impl<D: Device, R: Wait, K: Keeper<D>> Look<D> for Granting<'_, R, K> {
-    ghost makes = { λ device old new. WasKept device (K.archive old.keeper) (K.archive new.keeper) };
+impl<R: Wait, K: Keeper> Borrower for Granting<'_, R, K> {
+    ghost changes = { λ old new. IsKept (K.archive old.keeper) (K.archive new.keeper) };
 
-    fn look(&mut self, device: D) -> D {
-        let (mut device, kept) = self.keep_archive(device);
+    ghost learns = { λ image old new. CatchesUp image (K.archive old.keeper) (K.archive new.keeper) };
+
+    fn look<D: Device>(&mut self, journal: Journal<D>) -> D {
+        let (mut device, kept) = self.keep_archive(journal);
         self.scheduler.begin_recess();
         for station in 0..self.scheduler.stations() {
             device = self.grant(device, station, kept);
@@ -164,10 +169,12 @@ impl<D: Device, R: Wait, K: Keeper<D>> Look<D> for Granting<'_, R, K> {
     }
 }
 
-impl<D: Device, R: Wait, K: Keeper<D>> Recess<D> for Granting<'_, R, K> {
+impl<R: Wait, K: Keeper> Recess for Granting<'_, R, K> {
     ghost archive = { λ granting. K.archive granting.keeper };
 
-    ghost keeps = { λ device old new kept. kept };
+    ghost keeps = { λ old new kept. kept };
+
+    ghost catches_up = { λ image old new caught_up. caught_up };
 
     fn is_called(&self) -> bool {
         self.scheduler.is_recess_called()

@@ -2,7 +2,6 @@
 use crate::place::RosterPath;
 use crate::refusal::{CountersFault, RosterFault};
 use crate::roster::{Left, Roster};
-use std::alloc::Global;
 use std::fs::{File, Files};
 use std::io::{ErrorKind, Read, Write};
 use std::{fs, io};
@@ -14,14 +13,13 @@ const LONGEST_FILE: u64 = 16_384;
 ///
 /// # Errors
 /// [`CountersFault`].
-pub fn read_roster<'a, R: Files<File = File>>(
+pub fn read_roster<'a, R: Files<File = File> + AllocGlobal>(
     rt: &R,
-    alloc: Global,
     place: RosterPath<'a>,
 ) -> Result<Option<Roster>, CountersFault<'a>> {
-    match kept_text(rt, alloc, place) {
+    match kept_text(rt, place) {
         Ok(None) => Ok(None),
-        Ok(Some(text)) => match Roster::parse(alloc, text.as_str()) {
+        Ok(Some(text)) => match Roster::parse(rt.alloc(), text.as_str()) {
             Ok(roster) => Ok(Some(roster)),
             Err(cause) => Err(CountersFault { place, cause }),
         },
@@ -29,18 +27,17 @@ pub fn read_roster<'a, R: Files<File = File>>(
     }
 }
 
-fn kept_text<R: Files<File = File>>(
+fn kept_text<R: Files<File = File> + AllocGlobal>(
     rt: &R,
-    alloc: Global,
     place: RosterPath<'_>,
 ) -> Result<Option<String>, RosterFault> {
-    let path = format!(in alloc; "{place}")?;
+    let path = format!(in rt.alloc(); "{place}")?;
     let file = match File::open(rt, path.as_str()) {
         Ok(file) => file,
         Err(error) if error.kind() == ErrorKind::NotFound => return Ok(None),
         Err(_) => return Err(RosterFault::Unread),
     };
-    let mut text = String::new(alloc);
+    let mut text = String::new(rt.alloc());
     match file.take(LONGEST_FILE).read_to_string(&mut text) {
         Ok(_) => Ok(Some(text)),
         Err(error) if error.kind() == ErrorKind::OutOfMemory => Err(RosterFault::Memory),
@@ -52,27 +49,25 @@ fn kept_text<R: Files<File = File>>(
 ///
 /// # Errors
 /// [`CountersFault`].
-pub fn write_roster<'a, R: Files<File = File>>(
+pub fn write_roster<'a, R: Files<File = File> + AllocGlobal>(
     rt: &R,
-    alloc: Global,
     place: RosterPath<'a>,
     roster: &Roster,
 ) -> Result<(), CountersFault<'a>> {
-    match put(rt, alloc, place, roster) {
+    match put(rt, place, roster) {
         Ok(()) => Ok(()),
         Err(cause) => Err(CountersFault { place, cause }),
     }
 }
 
-fn put<R: Files<File = File>>(
+fn put<R: Files<File = File> + AllocGlobal>(
     rt: &R,
-    alloc: Global,
     place: RosterPath<'_>,
     roster: &Roster,
 ) -> Result<(), RosterFault> {
-    let text = format!(in alloc; "{roster}")?;
-    let path = format!(in alloc; "{place}")?;
-    let unfinished = format!(in alloc; "{place}.new")?;
+    let text = format!(in rt.alloc(); "{roster}")?;
+    let path = format!(in rt.alloc(); "{place}")?;
+    let unfinished = format!(in rt.alloc(); "{place}.new")?;
     match put_in_place(rt, unfinished.as_str(), path.as_str(), text.as_bytes()) {
         Ok(()) => Ok(()),
         Err(_) => {
@@ -100,23 +95,21 @@ fn put_in_place<R: Files<File = File>>(
 ///
 /// # Errors
 /// [`CountersFault`].
-pub fn remove_roster<'a, R: Files<File = File>>(
+pub fn remove_roster<'a, R: Files<File = File> + AllocGlobal>(
     rt: &R,
-    alloc: Global,
     place: RosterPath<'a>,
 ) -> Result<(), CountersFault<'a>> {
-    match remove(rt, alloc, place) {
+    match remove(rt, place) {
         Ok(()) => Ok(()),
         Err(cause) => Err(CountersFault { place, cause }),
     }
 }
 
-fn remove<R: Files<File = File>>(
+fn remove<R: Files<File = File> + AllocGlobal>(
     rt: &R,
-    alloc: Global,
     place: RosterPath<'_>,
 ) -> Result<(), RosterFault> {
-    let path = format!(in alloc; "{place}")?;
+    let path = format!(in rt.alloc(); "{place}")?;
     match fs::remove_file(rt, path.as_str()) {
         Ok(()) => sync_folder(rt, path.as_str()).or(Err(RosterFault::Unwritten)),
         Err(error) if error.kind() == ErrorKind::NotFound => Ok(()),
@@ -129,15 +122,14 @@ fn remove<R: Files<File = File>>(
 ///
 /// # Errors
 /// [`CountersFault`].
-pub fn take_along<'a, R: Files<File = File>>(
+pub fn take_along<'a, R: Files<File = File> + AllocGlobal>(
     rt: &R,
-    alloc: Global,
     from: RosterPath<'a>,
     to: RosterPath<'a>,
 ) -> Result<(), CountersFault<'a>> {
-    match read_roster(rt, alloc, from)? {
-        Some(roster) => write_roster(rt, alloc, to, &roster),
-        None => remove_roster(rt, alloc, to),
+    match read_roster(rt, from)? {
+        Some(roster) => write_roster(rt, to, &roster),
+        None => remove_roster(rt, to),
     }
 }
 
@@ -145,15 +137,14 @@ pub fn take_along<'a, R: Files<File = File>>(
 ///
 /// # Errors
 /// [`CountersFault`].
-pub fn note_script<'a, R: Files<File = File>>(
+pub fn note_script<'a, R: Files<File = File> + AllocGlobal>(
     rt: &R,
-    alloc: Global,
     place: RosterPath<'a>,
 ) -> Result<(), CountersFault<'a>> {
-    match read_roster(rt, alloc, place)? {
+    match read_roster(rt, place)? {
         Some(mut roster) => {
             roster.leave(Left::Script);
-            write_roster(rt, alloc, place, &roster)
+            write_roster(rt, place, &roster)
         }
         None => Ok(()),
     }

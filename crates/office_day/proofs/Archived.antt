@@ -124,17 +124,17 @@ module _ {D : Type 0} (state : D → DeviceState) where
       → WasLookedAt (state span.clerk.journal.device) (state next) → WasKept (state span.clerk.journal.device) now new
       → WereArchived state from (spans ++ span ∷ []) next old new
   archived-more moves from spans mid span next old now new earlier is sound looked kept = record {
-    first = kept.first ∙ earlier.first;
-    honest = kept.honest ∙ earlier.honest;
-    keeps = extends_joined old.batches now.batches new.batches earlier.keeps kept.keeps;
-    failed = λ failed. kept.failed (earlier.failed failed);
+    first = kept.is.first ∙ earlier.first;
+    honest = kept.is.honest ∙ earlier.honest;
+    keeps = extends_joined old.batches now.batches new.batches earlier.keeps kept.is.keeps;
+    failed = λ failed. kept.is.failed (earlier.failed failed);
     all = λ honest not sane stands fit.
         let fits : (s : Span D) → Type 0 = λ s. FitsBank s.clerk in
-        let before = earlier.all honest (not_before now.failed new.failed kept.failed not) sane stands (all_front fits spans (span ∷ []) fit) in
+        let before = earlier.all honest (not_before now.failed new.failed kept.is.failed not) sane stands (all_front fits spans (span ∷ []) fit) in
         let after = is.closed.opened.stays_honest before.0 in
-        let caught = kept.caught_up (earlier.honest ∙ honest) not after in
+        let caught = kept.caught_up after (earlier.honest ∙ honest) not in
         let looks = looked.looks after in
-        let own = own_batches moves mid span now new is sound before.0 (all_last fits spans span fit) before.2 kept.first caught in
+        let own = own_batches moves mid span now new is sound before.0 (all_last fits spans span fit) before.2 kept.is.first caught in
         let went = before.1 in (
           looked.stays_honest after,
           record {

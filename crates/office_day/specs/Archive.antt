@@ -49,11 +49,18 @@ pub record HasCaughtUp (image : Image) (old new : Archive) : Type 0 where
   pub lacked : HasFrom (next_of old) more image
   pub ends : EndsWith new image
 
--- An archive was kept of the ledger on that device: nothing in it is lost, and it begins where it did. Once it failed
--- it has failed; unless it did, an honest one of an honest device has caught up.
-pub record WasKept (device : DeviceState) (old new : Archive) : Type 0 where
+-- An archive was kept: nothing in it is lost, and it begins where it did. Once it failed it has failed.
+pub record IsKept (old new : Archive) : Type 0 where
   pub first : new.first ≡ old.first
   pub honest : new.honest ≡ old.honest
   pub keeps : Extends old.batches new.batches
   pub failed : old.failed ≡ true → new.failed ≡ true
-  pub caught_up : old.honest ≡ true → new.failed ≡ false → device.honest → HasCaughtUp device.reads old new
+
+-- unless it failed, an honest one has caught up with the ledger in the image
+abbrev pub CatchesUp : Image → Archive → Archive → Type 0
+CatchesUp image old new = old.honest ≡ true → new.failed ≡ false → HasCaughtUp image old new
+
+-- An archive was kept of the ledger on that device. If the device is honest, it has caught up with that.
+pub record WasKept (device : DeviceState) (old new : Archive) : Type 0 where
+  pub is : IsKept old new
+  pub caught_up : device.honest → CatchesUp device.reads old new

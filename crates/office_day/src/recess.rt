@@ -1,11 +1,12 @@
 //! What an office does between two spans.
-ghost use Rattle.office_day.specs.Archive.{Archive, WasKept};
+ghost use Rattle.sector_device.specs.Image.{Image};
+ghost use Rattle.office_day.specs.Archive.{Archive, CatchesUp, IsKept};
 
-use sector_device::{Device, Look};
+use gate_journal::Borrower;
 
-/// Who is lent the device between two spans of an office, while no station takes a turn: a look adds to the archive
+/// Who is lent the journal between two spans of an office, while no station takes a turn: a look adds to the archive
 /// what that lacks of the ledger.
-pub trait Recess<D: Device>: Look<D> {
+pub trait Recess: Borrower {
     ghost use Rattle.office_day.specs.Archive.{no_archive};
 
     /// The archive that is kept meanwhile.
@@ -14,7 +15,10 @@ pub trait Recess<D: Device>: Look<D> {
     /// Whether the stations of a span were sent home for it, so that the office is opened again behind it.
     fn is_called(&self) -> bool;
 
-    /// A look keeps it.
-    ghost keeps: { (device : D) → (old : Self) → (new : Self) → Self.Look.makes (D.state device) old new
-        → WasKept (D.state device) (archive old) (archive new) };
+    /// A look keeps it, whatever the device.
+    ghost keeps: { (old : Self) → (new : Self) → Self.Borrower.changes old new → IsKept (archive old) (archive new) };
+
+    /// If the device is honest, it catches up with the ledger there.
+    ghost catches_up: { (image : Image) → (old : Self) → (new : Self) → Self.Borrower.learns image old new
+        → CatchesUp image (archive old) (archive new) };
 }

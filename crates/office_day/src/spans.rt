@@ -42,14 +42,14 @@ pub struct Life<D: Device> {
 /// Opens an office over the clerk, with its line and these desks, lets its stations take turns, each in a thread of its
 /// own, and closes it. Where all `moves` turns were taken, the clerk begins anew and the office is opened again, and so
 /// on, until a station ends otherwise: it was sent home, though no recess was called, or refused. Between two spans the
-/// device is lent to the recess; else nothing is read of it. So the office's history takes the memory of one span,
+/// journal is lent to the recess; else nothing is read of it. So the office's history takes the memory of one span,
 /// however long it is open. The gate tells the stations what to do. An archive that the recess keeps then has all
 /// batches of the spans before the last one, in order and each once, behind those that it had. The call may wait.
 ///
 /// # Errors
 /// The device comes back, and the desks are lost. [`OfficeRefusal::Opening`]: a span can't be opened, and the device is
 /// as it was left; else it is as a clerk that took turns on it left it.
-pub fn run_spans<D: Device + Send, G: Gate + Sync, P: Recess<D>, R: Threads + Wait + Sync>(
+pub fn run_spans<D: Device + Send, G: Gate + Sync, P: Recess, R: Threads + Wait + Sync>(
     rt: &R,
     alloc: Global,
     office: Adjourned<D>,
@@ -110,7 +110,7 @@ fn run_span<D: Device + Send, G: Gate + Sync, R: Threads + Wait + Sync>(
 }
 
 // Whether the office is opened again: all turns were taken, or its stations were sent home for a recess.
-fn goes_on<D: Device, P: Recess<D>>(left: &[Left], recess: &P) -> bool
+fn goes_on<P: Recess>(left: &[Left], recess: &P) -> bool
     ensures well { IsTrue result → All (λ part. IsGoodEnd part.end) left.now }
     ensures reached { All (λ part. part.end ≡ Reached) left.now → IsTrue result }
 {
@@ -132,8 +132,8 @@ fn all_ended_well(left: &[Left]) -> bool
         .all(|part| part.end == End::Reached || part.end == End::Closed)
 }
 
-// The office after a span, to be opened again behind a recess, which its device is lent to.
-fn between_spans<D: Device, P: Recess<D>>(
+// The office after a span, to be opened again behind a recess, which its journal is lent to.
+fn between_spans<D: Device, P: Recess>(
     alloc: Global,
     life: Life<D>,
     recess: &mut P,
@@ -152,9 +152,19 @@ fn between_spans<D: Device, P: Recess<D>>(
     let Life { clerk, left, .. } = life;
     match left.into_iter().map(|part| part.desk).collect(alloc) {
         Ok(desks) => Ok(Adjourned {
-            clerk: clerk.lend(recess),
+            clerk: lent(clerk, recess),
             desks,
         }),
         Err(refused) => Err((clerk.into_device(), refused)),
     }
+}
+
+// The clerk, behind a recess that its journal was lent to.
+fn lent<D: Device, P: Recess>(clerk: Clerk<D>, recess: &mut P) -> Clerk<D>
+    ensures kept { result ≡ after_looks clerk result.journal.device }
+    ensures looked { WasLookedAt (D.state clerk.journal.device) (D.state result.journal.device) }
+    ensures archived { WasKept (D.state clerk.journal.device)
+        (P.archive recess.old) (P.archive recess.new) }
+{
+    clerk.lend(recess)
 }

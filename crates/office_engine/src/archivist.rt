@@ -1,5 +1,6 @@
 //! Who keeps the archive of an office, and makes copies of its ledger.
 ghost use Rattle.std.specs.Prelude.{◌≡◌};
+ghost use Rattle.sector_device.specs.Crash.{WasLookedAt};
 ghost use Rattle.office_engine.specs.Copies.{told_as};
 ghost use Rattle.office_engine.specs.FolderArchive.{folder_archive};
 
@@ -8,22 +9,22 @@ use crate::looking_back::last_in_archive;
 use crate::seating::Seating;
 use crate::serving::Serving;
 use archive_engine::{
-    ArchiveFault, Folder, FolderCopyRefusal, archive_device, check_no_gap, copy_to_folder,
+    ArchiveFault, Folder, FolderCopyRefusal, archive_journal, check_no_gap, copy_to_folder,
     open_copies,
 };
 use file_device::FileNumber;
+use gate_journal::{Borrower, Journal};
 use live_office::{CounterCopyRefusal, Keeper, Kept, Seen};
 use office_counters::RosterPath;
 use sector_device::Device;
-use std::alloc::{Alloc, Global};
 use std::fs;
 use std::fs::{File, Files};
+use turn_clerk::Clerk;
 
 /// The archive of an office, if it has one, and why it couldn't be written, if it couldn't.
 #[derive(Drop)]
 pub(crate) struct Archivist<'a, 'r, R> {
     rt: &'r R,
-    alloc: Global,
     // The path of the ledger.
     path: &'a str,
     folder: Option<Folder<'a>>,
@@ -43,20 +44,19 @@ pub(crate) struct Archivist<'a, 'r, R> {
     fault: Option<OfficeFault<'a>>,
 }
 
-impl<'a, 'r, R: Files<File = File> + Alloc<A = Global> + Clone + Drop> Archivist<'a, 'r, R> {
+impl<'a, 'r, R: Files<File = File> + AllocGlobal + Clone + Drop> Archivist<'a, 'r, R> {
     /// Opens the archive, if the office has one, in which no file may be missing between others, and the folder of the
     /// copies, if it makes any.
     pub(crate) fn open(
         rt: &'r R,
-        alloc: Global,
         serving: &Serving<'a>,
     ) -> Result<Archivist<'a, 'r, R>, OfficeFault<'a>> {
         let folder = match serving.archive {
-            Some(folder) => Some(open_archive(rt, alloc, folder)?),
+            Some(folder) => Some(open_archive(rt, folder)?),
             None => None,
         };
         let copies = match serving.copies {
-            Some(path) => match open_copies(rt, alloc, path, serving.archive) {
+            Some(path) => match open_copies(rt, path, serving.archive) {
                 Ok(copies) => Some(copies),
                 Err(fault) => return Err(OfficeFault::from(fault)),
             },
@@ -64,7 +64,6 @@ impl<'a, 'r, R: Files<File = File> + Alloc<A = Global> + Clone + Drop> Archivist
         };
         Ok(Archivist {
             rt,
-            alloc,
             path: serving.path,
             folder,
             books: serving.archive,
@@ -78,15 +77,15 @@ impl<'a, 'r, R: Files<File = File> + Alloc<A = Global> + Clone + Drop> Archivist
         })
     }
 
-    /// Adds what the archive lacks, if there is one, and tells how far it is.
-    pub(crate) fn add<D: Device + Drop>(
+    /// Adds to the archive, if there is one, what it lacks of the clerk's ledger.
+    pub(crate) fn add_of<D: Device + Drop>(
         &mut self,
-        device: D,
-    ) -> Result<(D, Kept), OfficeFault<'a>> {
-        let kept = self.keep(device);
+        clerk: Clerk<D>,
+    ) -> Result<Clerk<D>, OfficeFault<'a>> {
+        let clerk = clerk.lend(self);
         match self.fault {
             Some(fault) => Err(fault),
-            None => Ok(kept),
+            None => Ok(clerk),
         }
     }
 
@@ -101,7 +100,7 @@ impl<'a, 'r, R: Files<File = File> + Alloc<A = Global> + Clone + Drop> Archivist
             None => None,
         };
         match self.books {
-            Some(folder) => seating.write_into(self.rt, self.alloc, folder),
+            Some(folder) => seating.write_into(self.rt, folder),
             None => Ok(()),
         }
     }
@@ -109,6 +108,23 @@ impl<'a, 'r, R: Files<File = File> + Alloc<A = Global> + Clone + Drop> Archivist
     /// Why the archive couldn't be kept.
     pub(crate) fn fault(&self) -> Option<OfficeFault<'a>> {
         self.fault
+    }
+
+    // Adds what the archive lacks, if there is one, and how far it is.
+    fn add<D: Device>(&self, journal: Journal<D>) -> (D, Result<Kept, OfficeFault<'a>>)
+        ensures looked { WasLookedAt (D.state journal.device) (D.state result.0) }
+    {
+        if let Some(path) = self.lost() {
+            return (journal.into_device(), Err(OfficeFault::Lost { path }));
+        }
+        let Some(folder) = &self.folder else {
+            return (journal.into_device(), Ok(Kept::NoArchive));
+        };
+        let (device, added) = archive_journal(self.rt, self.path, journal, folder);
+        match added {
+            Ok(archived) => (device, Ok(Kept::UpTo(archived.next()))),
+            Err(fault) => (device, Err(OfficeFault::from(fault))),
+        }
     }
 
     // The path of the ledger or of the archive, if that isn't there any more, or another one is.
@@ -124,40 +140,32 @@ impl<'a, 'r, R: Files<File = File> + Alloc<A = Global> + Clone + Drop> Archivist
     }
 }
 
-impl<D: Device, R: Files<File = File> + Alloc<A = Global> + Clone + Drop> Keeper<D>
-    for Archivist<'_, '_, R> {
+impl<R: Files<File = File> + AllocGlobal + Clone + Drop> Keeper for Archivist<'_, '_, R> {
     ghost archive = { λ archivist. folder_archive archivist.fault };
 
-    fn keep(&mut self, device: D) -> (D, Kept) {
-        if let Some(path) = self.lost() {
-            self.fault = Some(OfficeFault::Lost { path });
-            return (device, Kept::Failed);
-        }
-        let Some(folder) = &self.folder else {
-            return (device, Kept::NoArchive);
-        };
-        let (device, added) = archive_device(self.rt, self.alloc, self.path, device, folder);
+    ghost so_far = { λ archivist. archivist.kept };
+
+    fn keep<D: Device>(&mut self, journal: Journal<D>) -> (D, Kept) {
+        let (device, added) = self.add(journal);
         match added {
-            Ok(archived) => {
-                self.kept = Kept::UpTo(archived.next());
-                (device, self.kept)
-            }
+            Ok(kept) => self.kept = kept,
             Err(fault) => {
-                self.fault = Some(OfficeFault::from(fault));
-                (device, Kept::Failed)
+                self.fault = Some(fault);
+                self.kept = Kept::Failed;
             }
         }
+        (device, self.kept)
     }
 
     fn kept(&self) -> Kept {
         self.kept
     }
 
-    fn copy(&mut self, device: D) -> (D, Result<u64, CounterCopyRefusal>) {
+    fn copy<D: Device>(&mut self, device: D) -> (D, Result<u64, CounterCopyRefusal>) {
         let Some(folder) = &self.copies else {
             return (device, Err(CounterCopyRefusal::NoFolder));
         };
-        let (device, copied) = copy_to_folder(self.rt, self.alloc, device, folder, self.place);
+        let (device, copied) = copy_to_folder(self.rt, device, folder, self.place);
         match copied {
             Ok(number) => (device, Ok(number)),
             Err(refusal) => (device, Err(told_as(refusal))),
@@ -165,18 +173,24 @@ impl<D: Device, R: Files<File = File> + Alloc<A = Global> + Clone + Drop> Keeper
     }
 
     fn last(&mut self, station: u8) -> Option<Seen> {
-        last_in_archive(self.rt, self.alloc, self.books?, station, self.since)
+        last_in_archive(self.rt, self.books?, station, self.since)
+    }
+}
+
+impl<R: Files<File = File> + AllocGlobal + Clone + Drop> Borrower for Archivist<'_, '_, R> {
+    fn look<D: Device>(&mut self, journal: Journal<D>) -> D {
+        let (device, _) = self.keep(journal);
+        device
     }
 }
 
 // The folder of the archive, to be added to.
-fn open_archive<'a, R: Files<File = File> + Alloc<A = Global> + Clone + Drop>(
+fn open_archive<'a, R: Files<File = File> + AllocGlobal + Clone + Drop>(
     rt: &R,
-    alloc: Global,
     path: &'a str,
 ) -> Result<Folder<'a>, ArchiveFault<'a>> {
     let folder = Folder::open_to_add(rt, path)?;
-    check_no_gap(rt, alloc, path)?;
+    check_no_gap(rt, path)?;
     Ok(folder)
 }
 

@@ -1,6 +1,5 @@
 //! Closing an office from outside.
 use crate::speaking::{ControlFault, Speaker};
-use std::alloc::Global;
 use std::fs::{File, Files};
 use std::thread::sleep;
 use std::time::{Clock, Duration};
@@ -21,13 +20,12 @@ const TRIES: u64 = 10;
 ///
 /// # Errors
 /// [`ControlFault`].
-pub fn close_office<'a, R: Files<File = File> + Clock>(
+pub fn close_office<'a, R: Files<File = File> + AllocGlobal + Clock>(
     rt: &R,
-    alloc: Global,
     folder: &'a str,
     seconds: u64,
 ) -> Result<(), ControlFault<'a>> {
-    let mut speaker = speaker_within(rt, alloc, folder, seconds)?;
+    let mut speaker = speaker_within(rt, folder, seconds)?;
     speaker.say(SAID)?;
     for _ in 0..seconds.saturating_mul(LOOKS) {
         if !speaker.is_heard()? {
@@ -39,17 +37,16 @@ pub fn close_office<'a, R: Files<File = File> + Clock>(
 }
 
 // Who speaks at the counter, once no other client does.
-fn speaker_within<'a, R: Files<File = File> + Clock>(
+fn speaker_within<'a, R: Files<File = File> + AllocGlobal + Clock>(
     rt: &R,
-    alloc: Global,
     folder: &'a str,
     seconds: u64,
 ) -> Result<Speaker<'a>, ControlFault<'a>> {
     for _ in 0..seconds.saturating_mul(TRIES) {
-        match Speaker::at(rt, alloc, folder) {
+        match Speaker::at(rt, folder) {
             Err(ControlFault::Taken(_)) => {}
             speaker => return speaker,
         }
     }
-    Speaker::at(rt, alloc, folder)
+    Speaker::at(rt, folder)
 }

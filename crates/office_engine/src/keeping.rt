@@ -16,7 +16,8 @@ use four_state::{FEWEST_STATIONS, Line, MOST_STATIONS};
 use journal_recovery::OpenRefusal;
 use ledger_file::{FileDevice, Formatting, format_ledger, open_ledger};
 use live_office::{
-    Closed, Conversation, Counter, Entry, Identity, Kept, Kind, are_threads_granted, keep_open,
+    Closed, Conversation, Counter, Entry, Identity, Keeper, Kept, Kind, are_threads_granted,
+    keep_open,
 };
 use office_day::{End, StationDay, TurnRefusal};
 use script_streams::{Output, StreamFault};
@@ -70,7 +71,6 @@ pub fn serve<
     W: Write,
 >(
     rt: &R,
-    alloc: Global,
     serving: &Serving<'a>,
     plan: Plan,
     surroundings: Surroundings<I, O, L>,
@@ -81,10 +81,10 @@ pub fn serve<
         output: told,
         locks,
     } = surroundings;
-    let mut output = Output::new(alloc, writer)?;
-    let counters = open_counters(rt, alloc, serving, input, told)?;
-    let office = ready_office(rt, alloc, serving, plan, &mut output)?;
-    keep_on(rt, alloc, office, counters, locks, &mut output)
+    let mut output = Output::new(rt.alloc(), writer)?;
+    let counters = open_counters(rt, serving, input, told)?;
+    let office = ready_office(rt, serving, plan, &mut output)?;
+    keep_on(rt, office, counters, locks, &mut output)
 }
 
 // What an office is opened on, and who keeps its archive.
@@ -97,20 +97,18 @@ struct Ready<'a, 'r, R> {
     moves: u64,
 }
 
-// Opens the archive and the device, brings the archive up to the ledger there, and gives each counter its station.
+// Opens the archive and the ledger, brings the archive up to that, and gives each counter its station.
 fn ready_office<'a, 'r, R: Runtime, W: Write>(
     rt: &'r R,
-    alloc: Global,
     serving: &Serving<'a>,
     plan: Plan,
     output: &mut Output<'_, W>,
 ) -> Result<Ready<'a, 'r, R>, OfficeFault<'a>> {
-    let mut archivist = Archivist::open(rt, alloc, serving)?;
-    let device = open_device(rt, alloc, serving, plan.formatting, output)?;
-    let (device, _) = archivist.add(device)?;
-    let clerk = open_clerk(alloc, serving.path, device)?;
+    let mut archivist = Archivist::open(rt, serving)?;
+    let device = open_device(rt, serving, plan.formatting, output)?;
+    let clerk = archivist.add_of(open_clerk(rt.alloc(), serving.path, device)?)?;
     let moves = turns_of_span(clerk.slots(), serving.archive.is_some());
-    let seating = seat(rt, alloc, serving, clerk.next(), plan, &mut archivist)?;
+    let seating = seat(rt, serving, clerk.next(), plan, &mut archivist)?;
     let stations = seating.stations(plan.stations);
     Ok(Ready {
         clerk: on_line_of(serving.path, clerk, stations)?,
@@ -123,15 +121,14 @@ fn ready_office<'a, 'r, R: Runtime, W: Write>(
 // Gives each counter its station, if the system grants the threads, and keeps that in the archive too.
 fn seat<'a, R: Runtime>(
     rt: &R,
-    alloc: Global,
     serving: &Serving<'a>,
     next: u64,
     plan: Plan,
     archivist: &mut Archivist<'a, '_, R>,
 ) -> Result<Seating<'a>, OfficeFault<'a>> {
-    let seating = Seating::begin(rt, alloc, serving, next)?;
+    let seating = Seating::begin(rt, serving, next)?;
     let stations = seating.stations(plan.stations);
-    if !are_threads_granted(rt, alloc, stations, seating.seats.len())? {
+    if !are_threads_granted(rt, rt.alloc(), stations, seating.seats.len())? {
         return Err(OfficeFault::Threads);
     }
     archivist.learn(&seating)?;
@@ -148,13 +145,12 @@ fn keep_on<
     W: Write,
 >(
     rt: &R,
-    alloc: Global,
     office: Ready<'a, '_, R>,
     counters: Vec<AnyCounter<I, O>>,
     locks: L,
     output: &mut Output<'_, W>,
 ) -> Result<(), OfficeFault<'a>> {
-    let counters = seated(alloc, counters, &office.seating)?;
+    let counters = seated(rt.alloc(), counters, &office.seating)?;
     tell_opened(&office.clerk, output)?;
     let Ready {
         clerk,
@@ -162,13 +158,13 @@ fn keep_on<
         archivist,
         moves,
     } = office;
-    let folders = seating.take_folders(alloc);
+    let folders = seating.take_folders(rt.alloc());
     let clients = SeatedClients { locks, folders };
-    match keep_open(rt, alloc, clerk, counters, clients, moves, archivist) {
+    match keep_open(rt, rt.alloc(), clerk, counters, clients, moves, archivist) {
         Ok((closed, archivist)) => {
             let next = closed.clerk.next();
-            let _device = end(closed, archivist, output)?;
-            seating.close(rt, alloc, next)
+            let _clerk = end(closed, archivist, output)?;
+            seating.close(rt, next)
         }
         Err((_, refusal)) => Err(OfficeFault::from(refusal)),
     }
@@ -203,41 +199,40 @@ fn seated<I: Read + Drop, O: Write + Drop>(
     Ok(counters)
 }
 
-// Tells how the office ended, and adds to its archive what that lacks. The device comes back of one that ended well.
+// Tells how the office ended, and adds to its archive what that lacks. The clerk comes back of one that ended well.
 fn end<'a, R: Runtime, W: Write>(
     closed: Closed<FileDevice>,
     mut archivist: Archivist<'a, '_, R>,
     output: &mut Output<'_, W>,
-) -> Result<FileDevice, OfficeFault<'a>> {
-    let device = tell_closed(closed, output)?;
+) -> Result<Clerk<FileDevice>, OfficeFault<'a>> {
+    let clerk = tell_closed(closed, output)?;
     if let Some(fault) = archivist.fault() {
         return Err(fault);
     }
-    let (device, kept) = archivist.add(device)?;
-    if let Kept::UpTo(next) = kept {
+    let clerk = archivist.add_of(clerk)?;
+    if let Kept::UpTo(next) = archivist.kept() {
         output.line(format_args!("archived {next}"))?;
         output.flush()?;
     }
-    Ok(device)
+    Ok(clerk)
 }
 
 // The counters, each by its pipes, and the terminal behind them, before they have their stations.
-fn open_counters<'a, R: Files<File = File>, I: Read + Drop, O: Write + Drop>(
+fn open_counters<'a, R: Files<File = File> + AllocGlobal, I: Read + Drop, O: Write + Drop>(
     rt: &R,
-    alloc: Global,
     serving: &Serving<'a>,
     input: I,
     output: O,
 ) -> Result<Vec<AnyCounter<I, O>>, OfficeFault<'a>> {
-    let mut counters = Vec::with_capacity(alloc, serving.counters.len())?;
-    let mut opened = Vec::new(alloc);
+    let mut counters = Vec::with_capacity(rt.alloc(), serving.counters.len())?;
+    let mut opened = Vec::new(rt.alloc());
     for CounterFolder { folder, .. } in &serving.counters {
-        let counter = open_counter(rt, alloc, folder, serving.hello, &mut opened)?;
+        let counter = open_counter(rt, folder, serving.hello, &mut opened)?;
         counters.push(counter).or(Err(OfficeFault::Memory))?;
     }
     if serving.terminal
         && counters
-            .push(terminal_counter(alloc, input, output))
+            .push(terminal_counter(rt.alloc(), input, output))
             .is_err()
     {
         return Err(OfficeFault::Memory);
@@ -258,19 +253,18 @@ fn terminal_counter<I: Read, O: Write>(alloc: Global, input: I, output: O) -> An
 }
 
 // The counter of a folder.
-fn open_counter<'a, R: Files<File = File>, I: Read, O: Write>(
+fn open_counter<'a, R: Files<File = File> + AllocGlobal, I: Read, O: Write>(
     rt: &R,
-    alloc: Global,
     folder: &'a str,
     awaits_hello: bool,
     opened: &mut Vec<FileNumber>,
 ) -> Result<AnyCounter<I, O>, OfficeFault<'a>> {
-    let input = pipe_of(rt, alloc, folder, Side::In, opened)?;
-    let output = pipe_of(rt, alloc, folder, Side::Out, opened)?;
+    let input = pipe_of(rt, folder, Side::In, opened)?;
+    let output = pipe_of(rt, folder, Side::Out, opened)?;
     Ok(Counter {
         station: 0,
         since: 0,
-        identity: Identity::nobody(alloc),
+        identity: Identity::nobody(rt.alloc()),
         input: Source::Pipe(input),
         output: Target::Pipe(output),
         kind: Kind::Pipes,
@@ -278,14 +272,13 @@ fn open_counter<'a, R: Files<File = File>, I: Read, O: Write>(
     })
 }
 
-fn pipe_of<'a, R: Files<File = File>>(
+fn pipe_of<'a, R: Files<File = File> + AllocGlobal>(
     rt: &R,
-    alloc: Global,
     folder: &'a str,
     side: Side,
     opened: &mut Vec<FileNumber>,
 ) -> Result<File, OfficeFault<'a>> {
-    open_pipe(rt, alloc, folder, side, opened).map_err(|refusal| {
+    open_pipe(rt, folder, side, opened).map_err(|refusal| {
         OfficeFault::Pipe(PipeFault {
             folder,
             side,
@@ -295,17 +288,16 @@ fn pipe_of<'a, R: Files<File = File>>(
 }
 
 // The device, formatted first if that is asked for.
-fn open_device<'a, R: Files<File = File>, W: Write>(
+fn open_device<'a, R: Files<File = File> + AllocGlobal, W: Write>(
     rt: &R,
-    alloc: Global,
     serving: &Serving<'a>,
     formatting: Option<Formatting>,
     output: &mut Output<'_, W>,
 ) -> Result<FileDevice, OfficeFault<'a>> {
     let path = serving.path;
     let opened = match formatting {
-        Some(formatting) => format_ledger(rt, alloc, path, formatting),
-        None => open_ledger(rt, alloc, path, serving.sectors.unwrap_or(0)),
+        Some(formatting) => format_ledger(rt, path, formatting),
+        None => open_ledger(rt, path, serving.sectors.unwrap_or(0)),
     };
     let device = opened.map_err(|refusal| OfficeFault::of_file(path, refusal))?;
     if let Some(Formatting { slots, .. }) = formatting {
@@ -350,12 +342,12 @@ fn first_line<'a>(stations: u64) -> Result<Line, OfficeFault<'a>> {
     }
 }
 
-// Tells how the office ended: its turns, the line, and what was asked and not answered. The device comes back of one
+// Tells how the office ended: its turns, the line, and what was asked and not answered. The clerk comes back of one
 // that ended well.
 fn tell_closed<'a, D: Device + Drop, W: Write>(
     closed: Closed<D>,
     output: &mut Output<'_, W>,
-) -> Result<D, OfficeFault<'a>>
+) -> Result<Clerk<D>, OfficeFault<'a>>
     ensures refused { OnOk result (NoneWasRefused closed.stations.items) }
     ensures threads { OnOk result (closed.is_abandoned ≡ false) }
 {
@@ -372,7 +364,7 @@ fn tell_closed<'a, D: Device + Drop, W: Write>(
     }
     output.flush()?;
     ended(closed.is_abandoned, closed.stations.as_slice())?;
-    Ok(closed.clerk.into_device())
+    Ok(closed.clerk)
 }
 
 // Tells of the requests of a station that were submitted and not answered.

@@ -1,7 +1,7 @@
 //! The locks of counters' folders, each of which a client holds for as long as it speaks there.
 use crate::speaking::ControlFault;
 use live_office::Clients;
-use std::alloc::{Alloc, AllocError, Global};
+use std::alloc::{AllocError, Global};
 use std::fs;
 use std::fs::{File, Files, OpenOptions, TryLockError};
 use std::thread::sleep;
@@ -15,12 +15,11 @@ const PAUSE: u64 = 100;
 ///
 /// # Errors
 /// `Taken` if another client has it. `NoLock` if it can't be opened, made or locked, or if there is no memory.
-pub(crate) fn lock_folder<'a, R: Files<File = File> + Clock>(
+pub(crate) fn lock_folder<'a, R: Files<File = File> + AllocGlobal + Clock>(
     rt: &R,
-    alloc: Global,
     folder: &'a str,
 ) -> Result<File, ControlFault<'a>> {
-    let path = path_of(alloc, folder).or(Err(ControlFault::NoLock(folder)))?;
+    let path = path_of(rt.alloc(), folder).or(Err(ControlFault::NoLock(folder)))?;
     let mut how = OpenOptions::new();
     how.read(true).write(true).create(true);
     let file = how
@@ -47,7 +46,7 @@ pub trait Locks {
 #[derive(Clone, Copy)]
 pub struct FileLocks<R>(pub R);
 
-impl<R: Files<File = File> + Alloc<A = Global>> Locks for FileLocks<R> {
+impl<R: Files<File = File> + AllocGlobal> Locks for FileLocks<R> {
     fn has_client(&self, folder: &str) -> bool {
         let rt = &self.0;
         let Ok(path) = path_of(rt.alloc(), folder) else {

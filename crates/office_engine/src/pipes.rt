@@ -55,16 +55,15 @@ pub enum PipeRefusal {
 ///
 /// # Errors
 /// [`PipeRefusal`].
-pub fn open_pipe<R: Files<File = File>>(
+pub fn open_pipe<R: Files<File = File> + AllocGlobal>(
     rt: &R,
-    alloc: Global,
     folder: &str,
     side: Side,
     opened: &mut Vec<FileNumber>,
 ) -> Result<File, PipeRefusal>
     ensures clear { IfOk result (λ file. pos 2 <ℤ file_raw_fd file) }
 {
-    let (file, number) = find_pipe(rt, alloc, folder, side)?;
+    let (file, number) = find_pipe(rt, folder, side)?;
     note_pipe(number, opened)?;
     match file.try_lock() {
         Ok(()) => clear_of_streams(file).or(Err(PipeRefusal::Unopened)),
@@ -74,13 +73,12 @@ pub fn open_pipe<R: Files<File = File>>(
 }
 
 /// A pipe in a counter's folder, open for reading and writing, and which one it is.
-pub(crate) fn find_pipe<R: Files<File = File>>(
+pub(crate) fn find_pipe<R: Files<File = File> + AllocGlobal>(
     rt: &R,
-    alloc: Global,
     folder: &str,
     side: Side,
 ) -> Result<(File, FileNumber), PipeRefusal> {
-    let path = path_of(alloc, folder, side)?;
+    let path = path_of(rt.alloc(), folder, side)?;
     let mut how = OpenOptions::new();
     how.read(true).write(true);
     let file = how
@@ -102,14 +100,13 @@ fn unopened(error: &io::Error) -> PipeRefusal {
 }
 
 /// What a counter is told, open for reading alone: a read ends as nothing once no office has the pipe.
-pub(crate) fn listen<R: Files<File = File>>(
+pub(crate) fn listen<R: Files<File = File> + AllocGlobal>(
     rt: &R,
-    alloc: Global,
     folder: &str,
 ) -> Result<File, PipeRefusal> {
     // so opened first, the second opening doesn't wait, should the office end meanwhile
-    let _both_ends = find_pipe(rt, alloc, folder, Side::Out)?;
-    let path = path_of(alloc, folder, Side::Out)?;
+    let _both_ends = find_pipe(rt, folder, Side::Out)?;
+    let path = path_of(rt.alloc(), folder, Side::Out)?;
     let mut how = OpenOptions::new();
     how.read(true);
     how.open(rt, path.as_str())

@@ -1,5 +1,4 @@
 //! What an office needs of the system.
-use std::alloc::{Alloc, Global};
 use std::fs::{File, Files};
 use std::sync::Wait;
 use std::thread::Threads;
@@ -8,7 +7,7 @@ use std::time::Clock;
 /// A runtime that an office is kept open on: it has files, memory, threads and a clock, it may wait, and each thread
 /// can have a copy of it.
 pub trait Runtime: Files<File = File>
-    + Alloc<A = Global>
+    + AllocGlobal
     + Threads
     + Wait
     + Clock
@@ -20,7 +19,7 @@ pub trait Runtime: Files<File = File>
 
 impl<
     R: Files<File = File>
-        + Alloc<A = Global>
+        + AllocGlobal
         + Threads
         + Wait
         + Clock

@@ -29,27 +29,26 @@ pub(crate) struct Seating<'a> {
 impl<'a> Seating<'a> {
     /// Gives each counter its station, on a ledger whose next batch has this number. That, and that an office is open,
     /// is written down durably.
-    pub(crate) fn begin<R: Files<File = File> + Clock>(
+    pub(crate) fn begin<R: Files<File = File> + AllocGlobal + Clock>(
         rt: &R,
-        alloc: Global,
         serving: &Serving<'a>,
         next: u64,
     ) -> Result<Seating<'a>, OfficeFault<'a>> {
         let place = place_of(rt, serving)?;
-        let mut roster = roster_of(rt, alloc, serving, place, next)?;
+        let mut roster = roster_of(rt, serving, place, next)?;
         roster.settle(next);
-        let seats = match seats_of(alloc, serving, &mut roster) {
+        let seats = match seats_of(rt.alloc(), serving, &mut roster) {
             Ok(seats) => seats,
             Err(cause) => return Err(OfficeFault::of_counters(CountersFault { place, cause })),
         };
-        let folders = folders_of(alloc, serving, seats.as_slice())?;
+        let folders = folders_of(rt.alloc(), serving, seats.as_slice())?;
         let seating = Seating {
             place,
             roster,
             seats,
             folders,
         };
-        seating.write(rt, alloc)?;
+        seating.write(rt)?;
         Ok(seating)
     }
 
@@ -81,30 +80,28 @@ impl<'a> Seating<'a> {
     }
 
     /// Keeps the same counters in an archive.
-    pub(crate) fn write_into<R: Files<File = File>>(
+    pub(crate) fn write_into<R: Files<File = File> + AllocGlobal>(
         &self,
         rt: &R,
-        alloc: Global,
         archive: &'a str,
     ) -> Result<(), OfficeFault<'a>> {
-        write_roster(rt, alloc, RosterPath::Inside(archive), &self.roster).map_err(
+        write_roster(rt, RosterPath::Inside(archive), &self.roster).map_err(
             OfficeFault::of_counters,
         )
     }
 
     /// Writes down durably that the office is closed, where the next batch has this number.
-    pub(crate) fn close<R: Files<File = File>>(
+    pub(crate) fn close<R: Files<File = File> + AllocGlobal>(
         &mut self,
         rt: &R,
-        alloc: Global,
         next: u64,
     ) -> Result<(), OfficeFault<'a>> {
         self.roster.leave(Left::Closed(next));
-        self.write(rt, alloc)
+        self.write(rt)
     }
 
-    fn write<R: Files<File = File>>(&self, rt: &R, alloc: Global) -> Result<(), OfficeFault<'a>> {
-        write_roster(rt, alloc, self.place, &self.roster).map_err(OfficeFault::of_counters)
+    fn write<R: Files<File = File> + AllocGlobal>(&self, rt: &R) -> Result<(), OfficeFault<'a>> {
+        write_roster(rt, self.place, &self.roster).map_err(OfficeFault::of_counters)
     }
 }
 
@@ -124,19 +121,18 @@ fn place_of<'a, R: Files<File = File>>(
 }
 
 // The roster that is kept there; a new one of an empty ledger that has none, and where that is asked for.
-fn roster_of<'a, R: Files<File = File> + Clock>(
+fn roster_of<'a, R: Files<File = File> + AllocGlobal + Clock>(
     rt: &R,
-    alloc: Global,
     serving: &Serving<'a>,
     place: RosterPath<'a>,
     next: u64,
 ) -> Result<Roster, OfficeFault<'a>> {
     if serving.format.is_some() || serving.counters_anew {
-        return Ok(Roster::new(alloc, own_number(rt), next));
+        return Ok(Roster::new(rt.alloc(), own_number(rt), next));
     }
-    match read_roster(rt, alloc, place) {
+    match read_roster(rt, place) {
         Ok(Some(roster)) => Ok(roster),
-        Ok(None) if next == 0 => Ok(Roster::new(alloc, own_number(rt), next)),
+        Ok(None) if next == 0 => Ok(Roster::new(rt.alloc(), own_number(rt), next)),
         Ok(None) => {
             let cause = RosterFault::Missing;
             Err(OfficeFault::of_counters(CountersFault { place, cause }))

@@ -3,7 +3,6 @@ use crate::faults::PipeFault;
 use crate::locks::lock_folder;
 use crate::pipes::{PipeRefusal, Side, find_pipe};
 use script_streams::write_all;
-use std::alloc::Global;
 use std::fs::{File, Files, TryLockError};
 use std::time::Clock;
 use thiserror::Error;
@@ -45,12 +44,11 @@ pub(crate) struct Speaker<'a> {
 
 impl<'a> Speaker<'a> {
     /// At a counter that an office has, and no other client.
-    pub(crate) fn at<R: Files<File = File> + Clock>(
+    pub(crate) fn at<R: Files<File = File> + AllocGlobal + Clock>(
         rt: &R,
-        alloc: Global,
         folder: &'a str,
     ) -> Result<Speaker<'a>, ControlFault<'a>> {
-        let found = find_pipe(rt, alloc, folder, Side::In);
+        let found = find_pipe(rt, folder, Side::In);
         let (pipe, _) = found.map_err(|refusal| at_pipe(folder, Side::In, refusal))?;
         if !is_held(&pipe, folder)? {
             return Err(ControlFault::NotOpen(folder));
@@ -58,7 +56,7 @@ impl<'a> Speaker<'a> {
         Ok(Speaker {
             folder,
             pipe,
-            _lock: lock_folder(rt, alloc, folder)?,
+            _lock: lock_folder(rt, folder)?,
         })
     }
 

@@ -40,25 +40,24 @@ impl fmt::Display for Told {
 ///
 /// # Errors
 /// [`ControlFault`].
-pub fn ask_standing<'a, R: Files<File = File> + Clock>(
+pub fn ask_standing<'a, R: Files<File = File> + AllocGlobal + Clock>(
     rt: &R,
-    alloc: Global,
     folder: &'a str,
 ) -> Result<Told, ControlFault<'a>> {
-    let mut speaker = Speaker::at(rt, alloc, folder)?;
-    let mut listener = Listener::at(rt, alloc, folder)?;
+    let mut speaker = Speaker::at(rt, folder)?;
+    let mut listener = Listener::at(rt, folder)?;
     let number = own_number(rt);
     let memory = at_pipe(folder, Side::In, PipeRefusal::Memory);
-    let Ok(hello) = format!(in alloc; "hello {number}") else {
+    let Ok(hello) = format!(in rt.alloc(); "hello {number}") else {
         return Err(memory);
     };
-    let Ok(said) = format!(in alloc; " ?\n{hello}\nstatus\n") else {
+    let Ok(said) = format!(in rt.alloc(); " ?\n{hello}\nstatus\n") else {
         return Err(memory);
     };
     speaker.say(said.as_bytes())?;
     listener.await_line(hello.as_bytes())?;
     listener.hear()?;
-    match listener.told(alloc) {
+    match listener.told(rt.alloc()) {
         Ok(Some(told)) => Ok(told),
         Ok(None) => Err(ControlFault::Untold(folder)),
         Err(AllocError) => Err(memory),
@@ -85,18 +84,17 @@ struct Listener<'a> {
 }
 
 impl<'a> Listener<'a> {
-    fn at<R: Files<File = File>>(
+    fn at<R: Files<File = File> + AllocGlobal>(
         rt: &R,
-        alloc: Global,
         folder: &'a str,
     ) -> Result<Listener<'a>, ControlFault<'a>> {
-        let found = listen(rt, alloc, folder);
+        let found = listen(rt, folder);
         let pipe = found.map_err(|refusal| at_pipe(folder, Side::Out, refusal))?;
         let memory = at_pipe(folder, Side::Out, PipeRefusal::Memory);
         Ok(Listener {
             folder,
             pipe,
-            cutter: LineCutter::new(alloc).or(Err(memory))?,
+            cutter: LineCutter::new(rt.alloc()).or(Err(memory))?,
         })
     }
 

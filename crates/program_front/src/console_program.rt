@@ -22,31 +22,29 @@ use std::thread::Threads;
 /// before the script is read; a part of a ledger, or one of another version, isn't grown. Answers go to the writer,
 /// what is told of faults and wrong words to `errors`, of which a fault is ignored. It may wait if the script has a
 /// day.
-pub fn run_program<F: Files<File = File> + Threads + Wait + Sync, R: Read, W: Write, E: Write>(
-    rt: &F,
-    alloc: Global,
-    words: &[&str],
-    reader: &mut R,
-    writer: &mut W,
-    errors: &mut E,
-) -> u8
+pub fn run_program<
+    F: Files<File = File> + AllocGlobal + Threads + Wait + Sync,
+    R: Read,
+    W: Write,
+    E: Write,
+>(rt: &F, words: &[&str], reader: &mut R, writer: &mut W, errors: &mut E) -> u8
     ensures status { result ≤ 2 }
     // of a reader whose bytes are known: no line of the script is wrong, or nothing was read, as where help was asked
     // for
     ensures sound { result ≡ 0 → (reader.new ≡ reader.old)
         ⊎ IfSome (R.remaining reader.old) (λ bytes. first_fault 1 (lines bytes) ≡ None) }
 {
-    let options = match options(alloc, words) {
+    let options = match options(rt.alloc(), words) {
         Ok(options) => options,
-        Err(error) => return tell_error(alloc, error, writer, errors),
+        Err(error) => return tell_error(rt.alloc(), error, writer, errors),
     };
     let running = match options.plan() {
         Ok(running) => running,
-        Err(wrong) => return tell_wrong(alloc, wrong, errors).console_code(),
+        Err(wrong) => return tell_wrong(rt.alloc(), wrong, errors).console_code(),
     };
-    match run_on_device(rt, alloc, running, reader, writer) {
+    match run_on_device(rt, running, reader, writer) {
         Ok(()) => Status::Done.console_code(),
-        Err(fault) => fail(alloc, ToldByConsole(fault), errors).console_code(),
+        Err(fault) => fail(rt.alloc(), ToldByConsole(fault), errors).console_code(),
     }
 }
 

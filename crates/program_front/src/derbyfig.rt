@@ -20,7 +20,7 @@ use ledger_reading::Sound;
 use office_counters::{RosterPath, is_disk, remove_roster, take_along};
 use office_engine::{Locks, Runtime, Serving, Surroundings, ask_standing, close_office, serve};
 use script_streams::Watched;
-use std::alloc::{Alloc, Global};
+use std::alloc::Global;
 use std::fmt;
 use std::fs::{File, Files};
 use std::io::{Read, Write};
@@ -39,7 +39,6 @@ pub fn run_derbyfig<
     E: Write,
 >(
     rt: &R,
-    alloc: Global,
     words: &[&str],
     mut surroundings: Surroundings<I, O, L>,
     writer: &mut W,
@@ -48,22 +47,23 @@ pub fn run_derbyfig<
 ) -> u8
     ensures { result ≤ 3 }
 {
+    let alloc = rt.alloc();
     let request = match read_request(alloc, words) {
         Ok(request) => request,
         Err(error) => return tell_error(alloc, error, writer, errors).code(),
     };
-    let mut doing = Doing { rt, alloc, writer };
+    let mut doing = Doing { rt, writer };
     let status = match request {
         Request::Run(running) => {
-            let run = run_on_device(rt, alloc, running, &mut surroundings.input, doing.writer);
+            let run = run_on_device(rt, running, &mut surroundings.input, doing.writer);
             ended(alloc, run, errors)
         }
         Request::Serve(serving) => {
-            serve_counters(rt, alloc, &serving, surroundings, doing.writer, errors)
+            serve_counters(rt, &serving, surroundings, doing.writer, errors)
         }
         Request::Inspect(wish) => {
             let is_check = matches!(wish.task, Task::Check { .. });
-            let looked = inspect(rt, alloc, &wish, doing.writer, errors, shows_progress);
+            let looked = inspect(rt, &wish, doing.writer, errors, shows_progress);
             ended_looking(alloc, is_check, looked, errors)
         }
         Request::Close { counter, seconds } => ended(alloc, doing.close(counter, seconds), errors),
@@ -116,7 +116,6 @@ fn serve_counters<
     E: Write,
 >(
     rt: &R,
-    alloc: Global,
     serving: &Serving<'_>,
     surroundings: Surroundings<I, O, L>,
     writer: &mut W,
@@ -124,49 +123,47 @@ fn serve_counters<
 ) -> Status {
     let plan = match plan_office(serving) {
         Ok(plan) => plan,
-        Err(wrong) => return tell_wrong(alloc, wrong, errors),
+        Err(wrong) => return tell_wrong(rt.alloc(), wrong, errors),
     };
-    let served = serve(rt, alloc, serving, plan, surroundings, writer);
-    ended(alloc, served.map_err(Fault::from), errors)
+    let served = serve(rt, serving, plan, surroundings, writer);
+    ended(rt.alloc(), served.map_err(Fault::from), errors)
 }
 
 // What the commands work with that say what was done.
 #[derive(Drop)]
 struct Doing<'r, R, W> {
     rt: &'r R,
-    alloc: Global,
     writer: &'r mut W,
 }
 
-impl<R: Files<File = File> + Alloc<A = Global> + Clock + Clone + Drop, W: Write> Doing<'_, R, W> {
+impl<R: Files<File = File> + AllocGlobal + Clock + Clone + Drop, W: Write> Doing<'_, R, W> {
     // Closes the office that has a counter.
     fn close<'a>(&mut self, counter: &'a str, seconds: u64) -> Result<(), Fault<'a>> {
-        close_office(self.rt, self.alloc, counter, seconds)?;
+        close_office(self.rt, counter, seconds)?;
         self.say("closed")
     }
 
     // Tells how the office stands that has a counter.
     fn tell_standing<'a>(&mut self, counter: &'a str) -> Result<(), Fault<'a>> {
-        let told = ask_standing(self.rt, self.alloc, counter)?;
+        let told = ask_standing(self.rt, counter)?;
         self.say(told)
     }
 
     // Makes an empty ledger.
     fn make<'a>(&mut self, path: &'a str, formatting: Formatting) -> Result<(), Fault<'a>> {
-        format_ledger(self.rt, self.alloc, path, formatting).map_err(|refusal| Fault::of_ledger(
+        format_ledger(self.rt, path, formatting).map_err(|refusal| Fault::of_ledger(
             path, refusal,
         ))?;
-        remove_roster(self.rt, self.alloc, RosterPath::Beside(path))?;
+        remove_roster(self.rt, RosterPath::Beside(path))?;
         self.say(format_args!("formatted {}", formatting.slots))
     }
 
     // Adds to an archive what it lacks.
     fn add_to_archive<'a>(&mut self, archiving: Archiving<'a>) -> Result<(), Fault<'a>> {
-        let Archived { batches, first } = archive(self.rt, self.alloc, archiving)?;
+        let Archived { batches, first } = archive(self.rt, archiving)?;
         let Archiving { ledger, folder } = archiving;
         take_along(
             self.rt,
-            self.alloc,
             RosterPath::Beside(ledger),
             RosterPath::Inside(folder),
         )?;
@@ -192,13 +189,13 @@ impl<R: Files<File = File> + Alloc<A = Global> + Clock + Clone + Drop, W: Write>
         let path = copying.old;
         let (file, original) = match copying.origin {
             Origin::Archive => {
-                let Sound { journal, ledger } = newest_of(self.rt, self.alloc, path)?;
-                check_archive(self.rt, self.alloc, path)?;
+                let Sound { journal, ledger } = newest_of(self.rt, path)?;
+                check_archive(self.rt, path)?;
                 let next = journal.numbers().next;
                 return Ok((journal.into_device(), Original { ledger, next }));
             }
-            Origin::Ledger => Original::read(self.alloc, self.opened(path)?),
-            Origin::Older => Original::read_older(self.alloc, self.opened(path)?),
+            Origin::Ledger => Original::read(self.rt.alloc(), self.opened(path)?),
+            Origin::Older => Original::read_older(self.rt.alloc(), self.opened(path)?),
         };
         match original {
             Ok(original) => Ok((file, original)),
@@ -208,7 +205,7 @@ impl<R: Files<File = File> + Alloc<A = Global> + Clock + Clone + Drop, W: Write>
 
     // A ledger that is to be copied.
     fn opened<'a>(&self, path: &'a str) -> Result<ReadOnlyFile, Fault<'a>> {
-        ReadOnlyFile::open(self.rt, self.alloc, path, Locking::Shared).map_err(
+        ReadOnlyFile::open(self.rt, self.rt.alloc(), path, Locking::Shared).map_err(
             |fault| Fault::of_source(path, fault),
         )
     }
@@ -225,7 +222,7 @@ impl<R: Files<File = File> + Alloc<A = Global> + Clock + Clone + Drop, W: Write>
             formatting,
             ..
         } = copying;
-        let place = open_for_copy(self.rt, self.alloc, original, path, formatting).map_err(
+        let place = open_for_copy(self.rt, original, path, formatting).map_err(
             |refusal| Fault::of_ledger(path, refusal),
         )?;
         let place = self.counters_first(place, counters, path)?;
@@ -250,7 +247,7 @@ impl<R: Files<File = File> + Alloc<A = Global> + Clock + Clone + Drop, W: Write>
         if is_disk(self.rt, new) {
             return Ok(place);
         }
-        match take_along(self.rt, self.alloc, from, RosterPath::Beside(new)) {
+        match take_along(self.rt, from, RosterPath::Beside(new)) {
             Ok(()) => Ok(place),
             Err(fault) => {
                 let is_made = place.made.is_some();
@@ -264,13 +261,13 @@ impl<R: Files<File = File> + Alloc<A = Global> + Clock + Clone + Drop, W: Write>
     // The counters of a copy that was made and removed again are removed too, as far as the system lets them.
     fn forget_counters(&self, is_made: bool, new: &str) {
         if is_made && !is_disk(self.rt, new) {
-            let _ = remove_roster(self.rt, self.alloc, RosterPath::Beside(new));
+            let _ = remove_roster(self.rt, RosterPath::Beside(new));
         }
     }
 
     // Says what was done on a line of its own.
     fn say<'a, L: fmt::Display + Drop>(&mut self, line: L) -> Result<(), Fault<'a>> {
-        say(self.alloc, line, self.writer)?;
+        say(self.rt.alloc(), line, self.writer)?;
         Ok(())
     }
 }

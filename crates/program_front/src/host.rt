@@ -12,7 +12,7 @@ use crate::{console_program, derbyfig};
 use clap::error::ErrorKind;
 use clap::{Command, Error};
 use office_engine::{Locks, Runtime, Surroundings};
-use std::alloc::{Alloc, AllocError, Global};
+use std::alloc::{AllocError, Global};
 use std::env::Env;
 use std::fs::{File, Files};
 use std::io::{Read, Write};
@@ -24,31 +24,29 @@ use std::{env, io};
 ///
 /// # Errors
 /// One isn't UTF-8, or there is no memory.
-pub fn words_given<R: Env + Alloc<A = Global>>(rt: &R) -> io::Result<Vec<String>> {
+pub fn words_given<R: Env + AllocGlobal>(rt: &R) -> io::Result<Vec<String>> {
     let words = env::args(rt)?.collect(rt.alloc())?;
     Ok(words)
 }
 
 /// Runs `turn_console` on the words that the system gave, if it did.
-pub fn run_console<F: Files<File = File> + Threads + Wait + Sync, R: Read, W: Write, E: Write>(
-    rt: &F,
-    alloc: Global,
-    given: io::Result<Vec<String>>,
-    reader: &mut R,
-    writer: &mut W,
-    errors: &mut E,
-) -> u8
+pub fn run_console<
+    F: Files<File = File> + AllocGlobal + Threads + Wait + Sync,
+    R: Read,
+    W: Write,
+    E: Write,
+>(rt: &F, given: io::Result<Vec<String>>, reader: &mut R, writer: &mut W, errors: &mut E) -> u8
     ensures status { result ≤ 2 }
     ensures wordless { IsErr given → (result ≡ 1) ⊎ (result ≡ 2) }
 {
     match given {
-        Ok(words) => match as_texts(alloc, &words) {
-            Ok(texts) => run_program(rt, alloc, texts.as_slice(), reader, writer, errors),
-            Err(_) => fail(alloc, OUT_OF_MEMORY, errors).console_code(),
+        Ok(words) => match as_texts(rt.alloc(), &words) {
+            Ok(texts) => run_program(rt, texts.as_slice(), reader, writer, errors),
+            Err(_) => fail(rt.alloc(), OUT_OF_MEMORY, errors).console_code(),
         },
         Err(fault) => {
-            let (Ok(error) | Err(error)) = wordless(&fault, console_command(alloc));
-            console_program::tell_error(alloc, error, writer, errors)
+            let (Ok(error) | Err(error)) = wordless(&fault, console_command(rt.alloc()));
+            console_program::tell_error(rt.alloc(), error, writer, errors)
         }
     }
 }
@@ -63,7 +61,6 @@ pub fn run_derbyfig_words<
     E: Write,
 >(
     rt: &R,
-    alloc: Global,
     given: io::Result<Vec<String>>,
     surroundings: Surroundings<I, O, L>,
     writer: &mut W,
@@ -74,24 +71,16 @@ pub fn run_derbyfig_words<
     ensures wordless { IsErr given → (result ≡ 2) ⊎ (result ≡ 3) }
 {
     match given {
-        Ok(words) => match as_texts(alloc, &words) {
+        Ok(words) => match as_texts(rt.alloc(), &words) {
             Ok(texts) => {
                 let texts = texts.as_slice();
-                run_derbyfig(
-                    rt,
-                    alloc,
-                    texts,
-                    surroundings,
-                    writer,
-                    errors,
-                    shows_progress,
-                )
+                run_derbyfig(rt, texts, surroundings, writer, errors, shows_progress)
             }
-            Err(_) => fail(alloc, OUT_OF_MEMORY, errors).code(),
+            Err(_) => fail(rt.alloc(), OUT_OF_MEMORY, errors).code(),
         },
         Err(fault) => {
-            let (Ok(error) | Err(error)) = wordless(&fault, derbyfig_command(alloc));
-            derbyfig::tell_error(alloc, error, writer, errors).code()
+            let (Ok(error) | Err(error)) = wordless(&fault, derbyfig_command(rt.alloc()));
+            derbyfig::tell_error(rt.alloc(), error, writer, errors).code()
         }
     }
 }

@@ -31,46 +31,44 @@ const IN_MEMORY: u64 = 64;
 ///
 /// # Errors
 /// [`Fault`].
-pub fn run_on_device<'a, F: Files<File = File> + Threads + Wait + Sync, R: Read, W: Write>(
-    rt: &F,
-    alloc: Global,
-    running: Running<'a>,
-    reader: &mut R,
-    writer: &mut W,
-) -> Result<(), Fault<'a>>
+pub fn run_on_device<
+    'a,
+    F: Files<File = File> + AllocGlobal + Threads + Wait + Sync,
+    R: Read,
+    W: Write,
+>(rt: &F, running: Running<'a>, reader: &mut R, writer: &mut W) -> Result<(), Fault<'a>>
     // of a reader whose bytes are known: no line of the script is wrong
     ensures sound { OnOk result (IfSome (R.remaining reader.old) (λ bytes.
         first_fault 1 (lines bytes) ≡ None)) }
 {
     let Some(file) = running.file else {
         let sectors = running.sectors.unwrap_or(IN_MEMORY);
-        let device = MemoryDevice::new(alloc, sectors).map_err(ScriptFault::from)?;
-        run_script(rt, alloc, reader, writer, device)?;
+        let device = MemoryDevice::new(rt.alloc(), sectors).map_err(ScriptFault::from)?;
+        run_script(rt, rt.alloc(), reader, writer, device)?;
         return Ok(());
     };
     let device = match file.older {
-        Some(older) => upgraded(rt, alloc, file, running.sectors, older, writer)?,
-        None => opened(rt, alloc, file, running.sectors)?,
+        Some(older) => upgraded(rt, file, running.sectors, older, writer)?,
+        None => opened(rt, file, running.sectors)?,
     };
     if file.noted {
-        note_script(rt, alloc, RosterPath::Beside(file.path))?;
+        note_script(rt, RosterPath::Beside(file.path))?;
     }
-    run_script(rt, alloc, reader, writer, device)?;
+    run_script(rt, rt.alloc(), reader, writer, device)?;
     Ok(())
 }
 
 // The device of a script.
-fn opened<'a, F: Files<File = File>>(
+fn opened<'a, F: Files<File = File> + AllocGlobal>(
     rt: &F,
-    alloc: Global,
     file: ScriptFile<'a>,
     sectors: Option<u64>,
 ) -> Result<FileDevice, Fault<'a>> {
     let path = file.path;
     let opened = match sectors {
-        Some(sectors) if file.overwrite => FileDevice::overwrite(rt, alloc, path, sectors),
-        Some(sectors) => open_for_script(rt, alloc, path, sectors, Making::IfMissing),
-        None => open_for_script(rt, alloc, path, 0, Making::Never),
+        Some(sectors) if file.overwrite => FileDevice::overwrite(rt, rt.alloc(), path, sectors),
+        Some(sectors) => open_for_script(rt, path, sectors, Making::IfMissing),
+        None => open_for_script(rt, path, 0, Making::Never),
     };
     opened.map_err(|fault| unopened(path, fault))
 }
@@ -81,26 +79,25 @@ fn unopened(path: &str, fault: FileFault) -> Fault<'_> {
 
 // The device that an older ledger was copied onto, which is said. The older one is opened first, so that no other file
 // is made where it can't be.
-fn upgraded<'a, F: Files<File = File>, W: Write>(
+fn upgraded<'a, F: Files<File = File> + AllocGlobal, W: Write>(
     rt: &F,
-    alloc: Global,
     file: ScriptFile<'a>,
     sectors: Option<u64>,
     older: OlderLedger<'a>,
     writer: &mut W,
 ) -> Result<FileDevice, Fault<'a>> {
     let OlderLedger { path, slots } = older;
-    let old = FileDevice::open_with_cause(rt, alloc, path, 0).map_err(|fault| unopened(
+    let old = FileDevice::open_with_cause(rt, rt.alloc(), path, 0).map_err(|fault| unopened(
         path, fault,
     ))?;
-    let device = opened(rt, alloc, file, sectors)?;
-    let (device, migrated) = migrate_onto(alloc, old, device, slots.get());
+    let device = opened(rt, file, sectors)?;
+    let (device, migrated) = migrate_onto(rt.alloc(), old, device, slots.get());
     let Some(migrated) = migrated else {
         let held = LedgerRefusal::Held(HeldFault::Ledger);
         return Err(Fault::of_ledger(file.path, held));
     };
     migrated.map_err(|refusal| Fault::of_migration(path, file.path, refusal))?;
-    say(alloc, format_args!("migrated {slots}"), writer)?;
+    say(rt.alloc(), format_args!("migrated {slots}"), writer)?;
     Ok(device)
 }
 

@@ -9,9 +9,7 @@
 #![tactic(auto)]
 
 mod device;
-mod looking;
 mod memory;
 
 pub use device::{Device, DeviceFault, SECTOR, Sector, sector_in_numbers};
-pub use looking::Look;
 pub use memory::{MemoryDevice, Picks};

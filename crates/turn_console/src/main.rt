@@ -10,7 +10,6 @@ fn main(rt: HostRuntime) -> ExitCode {
     let given = words_given(&rt);
     let status = run_console(
         &rt,
-        rt.alloc(),
         given,
         &mut rt.stdin(),
         &mut rt.stdout(),

@@ -1,4 +1,4 @@
-//! A clerk whose device is lent, and one that begins anew without reading it.
+//! A clerk whose journal is lent, and one that begins anew without reading it.
 ghost use Rattle.std.specs.Prelude.{◌≡◌, ◌↔◌, IsTrue, IsErr, IfOk, IfErr};
 ghost use Rattle.sector_device.specs.Crash.{IsDurable, WasLookedAt};
 ghost use Rattle.journal_recovery.specs.Recovery.{RecoversTo};
@@ -9,19 +9,21 @@ ghost use Rattle.turn_clerk.specs.Opened.{IsOpened, begun_anew};
 use super::Clerk;
 use crate::past::Past;
 use four_state::Line;
-use gate_journal::one_reading;
-use sector_device::{Device, Look};
+use gate_journal::{Borrower, one_reading};
+use sector_device::Device;
 use std::snapshot::Snapshot as Ghost;
 
 impl<D: Device> Clerk<D> {
-    /// Lends the device to whoever only looks at it. The clerk goes on as it was.
-    pub fn lend<L: Look<D>>(self, looker: &mut L) -> Clerk<D>
+    /// Lends the journal to whoever only reads it. The clerk goes on as it was.
+    pub fn lend<B: Borrower>(self, borrower: &mut B) -> Clerk<D>
         ensures kept { result ≡ after_looks self result.journal.device }
         ensures looked { WasLookedAt (D.state self.journal.device) (D.state result.journal.device) }
-        ensures made { L.makes (D.state self.journal.device) looker.old looker.new }
+        ensures changed { B.changes borrower.old borrower.new }
+        ensures learned { (D.state self.journal.device).honest
+            → B.learns (D.state self.journal.device).reads borrower.old borrower.new }
     {
         Clerk {
-            journal: self.journal.lend(looker),
+            journal: self.journal.lend(borrower),
             ..self
         }
     }
