@@ -50,11 +50,17 @@ def two_postings():
             put(SECOND.body(0), body(0, 2, deposit(1, 1, 7), deposit(1, 1, 8))), put(SECOND.body(0) + 1, OPEN)]
 
 
+def picked(reference):
+    """That a search for the reference finds it in that record."""
+    entry = f"Deposit {{ to: 1, amount: 1, reference: {reference} }}"
+    reached = "Further { began: 0, number: 3, end: 3 }"
+    return f"SearchStep {{ posting: Some(Posting {{ number: 2, entry: {entry} }}), reached: {reached} }}"
+
+
 def of_a_record_that_is_searched():
     """A record that is none any more is told, and never taken for one without the reference: its mark, its number, its
     station or its count is another, or a byte isn't zero behind its places. Where a place holds no entry any more, what
     stands before it is still found."""
-    posted = "Posted { number: 2, end: 3 }"
     asked, wanted = [], []
     for at, byte, found in (
         (0, 0, [CHANGED, CHANGED]),
@@ -63,8 +69,8 @@ def of_a_record_that_is_searched():
         (15, 1, [CHANGED, CHANGED]),
         (96, 1, [CHANGED, CHANGED]),
         (32, 9, [CHANGED, CHANGED]),
-        (64, 9, [posted, CHANGED]),
-        (0, 0x54, [posted, posted]),
+        (64, 9, [picked(7), CHANGED]),
+        (0, 0x54, [picked(7), picked(8)]),
     ):
         asked += [*two_postings(), later(SECOND.body(0), bytes([byte]), at), "clerk 2 00 10"]
         asked += [f"find {reference} 0 {END}" for reference in (7, 8)]

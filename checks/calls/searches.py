@@ -34,16 +34,40 @@ def found(asked, wanted, turns, searches, made):
             [*wanted, f"next {turns} total {turns} 1={turns}", *told, calls(*made)])
 
 
+def posting(number, reference):
+    """That a step picks this one."""
+    entry = f"Deposit {{ to: 1, amount: 1, reference: {reference} }}"
+    return f"posting: Some(Posting {{ number: {number}, entry: {entry} }})"
+
+
+NONE = "posting: None"
+
+
+def further(began, number, end):
+    """That a search goes on."""
+    return f"reached: Further {{ began: {began}, number: {number}, end: {end} }}"
+
+
+def all_from(began, since):
+    """That it is over."""
+    return f"reached: All {{ began: {began}, since: {since} }}"
+
+
+def step(picked, reached):
+    """What a step tells."""
+    return f"SearchStep {{ {picked}, {reached} }}"
+
+
 def a_search_reads_the_records_of_its_step_alone():
     """Or up to the one that it finds, or to its end. It reads the body of each once and nothing else, once it has seen
     that the other bank's gate is closed."""
     steps = [(0, 256), (256, 257), (250, 256), (2, 258), (0, 6)]
     searches = [
-        (f"find 256 0 {END}", "Further { number: 256, end: 258 }"),
-        ("find 256 256 257", "Posted { number: 256, end: 257 }"),
-        ("find 256 250 256", "Nowhere(0)"),
-        ("find 300 2 258", "Nowhere(0)"),
-        (f"find 5 0 {END}", "Posted { number: 5, end: 258 }"),
+        (f"find 256 0 {END}", step(NONE, further(0, 256, 258))),
+        ("find 256 256 257", step(posting(256, 256), further(256, 257, 257))),
+        ("find 256 250 256", step(NONE, all_from(250, 0))),
+        ("find 300 2 258", step(NONE, all_from(2, 0))),
+        (f"find 5 0 {END}", step(posting(5, 5), further(0, 6, 258))),
     ]
     read = [FIRST.body(slot) for first, end in steps for slot in range(first, end)]
     made = opening(SLOTS, SLOTS) + reads(SECOND.gate, *read)
@@ -58,17 +82,13 @@ def rows(bank, first, end):
 def a_latest_posting_is_looked_for_in_steps():
     """How far back records are in sight is found out 256 slots at a time. The latest posting of a station is looked for
     in the same steps, and each record is read once in each."""
-    further, reached = "reached: Further { began: 0, number: 256 }", "reached: All { began: 256, since: 0 }"
-
-    def posting(number):
-        return f"posting: Some(Posting {{ number: {number}, entry: Deposit {{ to: 1, amount: 1, reference: {number} }} }})"
-
+    goes_on, is_over = further(0, 256, SLOTS + 1), all_from(256, 0)
     searches = [
-        (f"latest 0 {END} 0", "Latest { posting: None, reached: LookingBack }"),
-        (f"latest 0 {END} 0", f"Latest {{ {posting(254)}, {further} }}"),
-        (f"latest 0 {END} 256", f"Latest {{ {posting(258)}, {reached} }}"),
-        ("latest 1 100 0", f"Latest {{ {posting(99)}, {further} }}"),
-        ("latest 1 100 256", f"Latest {{ posting: None, {reached} }}"),
+        (f"latest 0 {END} 0", step(NONE, "reached: LookingBack")),
+        (f"latest 0 {END} 0", step(posting(254, 254), goes_on)),
+        (f"latest 0 {END} 256", step(posting(258, 258), is_over)),
+        ("latest 1 100 0", step(posting(99, 99), goes_on)),
+        ("latest 1 100 256", step(NONE, is_over)),
     ]
     back = [FIRST.gate, FIRST.head, *FIRST.snapshot(), *rows(FIRST, 0, SLOTS), *SECOND.snapshot()]
     looked = [*rows(FIRST, 0, STEP), *rows(FIRST, STEP, SLOTS), SECOND.body(0)]
@@ -83,18 +103,17 @@ def a_step_begins_with_the_first_record_in_sight():
     asked += [f"turn {number % 2} deposit 1 1 {number + 1}" for number in range(SLOTS)]
     wanted = ["next 1000 total 0"]
     wanted += [f"turn {number} station {number % 2} {BY[number % 2]} posted {1000 + number} ok" for number in range(SLOTS)]
-    posting = "posting: Some(Posting { number: 1254, entry: Deposit { to: 1, amount: 1, reference: 255 } })"
-    last = "posting: Some(Posting { number: 1256, entry: Deposit { to: 1, amount: 1, reference: 257 } })"
+    first, last = posting(1254, 255), posting(1256, 257)
     searches = [
-        (f"find 258 0 {END}", "Further { number: 1256, end: 1258 }"),
-        ("find 258 1256 1258", "Posted { number: 1257, end: 1258 }"),
-        (f"find 900 1256 {END}", "Nowhere(1000)"),
-        ("find 1 0 1000", "Nowhere(1000)"),
-        ("find 1 7 1001", "Posted { number: 1000, end: 1001 }"),
-        (f"latest 0 {END} 0", f"Latest {{ {posting}, reached: Further {{ began: 1000, number: 1256 }} }}"),
-        (f"latest 0 {END} 999", f"Latest {{ {posting}, reached: Further {{ began: 1000, number: 1256 }} }}"),
-        (f"latest 0 {END} 1256", f"Latest {{ {last}, reached: All {{ began: 1256, since: 1000 }} }}"),
-        (f"latest 0 {END} 1003", f"Latest {{ {last}, reached: All {{ began: 1003, since: 1000 }} }}"),
+        (f"find 258 0 {END}", step(NONE, further(1000, 1256, 1258))),
+        ("find 258 1256 1258", step(posting(1257, 258), further(1256, 1258, 1258))),
+        (f"find 900 1256 {END}", step(NONE, all_from(1256, 1000))),
+        ("find 1 0 1000", step(NONE, all_from(1000, 1000))),
+        ("find 1 7 1001", step(posting(1000, 1), further(1000, 1001, 1001))),
+        (f"latest 0 {END} 0", step(first, further(1000, 1256, 1258))),
+        (f"latest 0 {END} 999", step(first, further(1000, 1256, 1258))),
+        (f"latest 0 {END} 1256", step(last, all_from(1256, 1000))),
+        (f"latest 0 {END} 1003", step(last, all_from(1003, 1000))),
     ]
     return [*asked, *(line for line, _ in searches)], [*wanted, *(answer for _, answer in searches)]
 

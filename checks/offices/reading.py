@@ -71,7 +71,7 @@ def run_traced(case, kept_as, counters, *words, while_open=lambda: None):
 
 
 def reads_its_ledger_once(case):
-    """An office reads its ledger once where it opens, or three times where it has an archive, and no more of it until it
+    """An office reads its ledger once where it opens, or twice where it has an archive, and no more of it until it
     ends: turns, a new span, balances and how it stands are told from memory."""
     one, other = counters = case.counters(2)
     books = case.folder / "books"
@@ -100,4 +100,4 @@ def reads_its_ledger_once(case):
     require_same(alone.open, [], "what is read of the device while the office is open")
     require(0.9 < alone.times(bank) < 1.2, f"its bank is read {alone.times(bank):.2f} times where it opens")
     kept = run_traced(case, "kept", counters, "--archive", str(books))
-    require(2.5 < kept.times(bank) < 3.3, f"with an archive its bank is read {kept.times(bank):.2f} times where it opens")
+    require(kept.times(bank) < 2.2, f"with an archive its bank is read {kept.times(bank):.2f} times where it opens")

@@ -8,7 +8,8 @@ use crate::lines::read_line;
 use crate::said::Said;
 use crate::told::Told;
 use live_office::Look;
-use turn_clerk::{Clerk, Event};
+use station_desk::Question;
+use turn_clerk::{Clerk, Event, Sought};
 
 /// `clerk STATIONS XBITS UPBITS`: opens a clerk on the device.
 pub fn open_clerk(device: Bench, hand: &mut Hand, said: &mut Said<'_>, told: &mut Told) -> Scene {
@@ -124,7 +125,7 @@ fn tell_in_flight(clerk: &Clerk<Bench>, told: &mut Told) {
 fn find(clerk: &mut Clerk<Bench>, said: &mut Said<'_>, told: &mut Told) {
     let (reference, from, end) = (said.number(), said.number(), said.number());
     if said.is_right(told) {
-        told.outcome(&clerk.find(reference, from, end));
+        told.outcome(&clerk.search(Sought::Reference(reference), from, end));
     }
 }
 
@@ -132,7 +133,7 @@ fn find(clerk: &mut Clerk<Bench>, said: &mut Said<'_>, told: &mut Told) {
 fn latest(clerk: &mut Clerk<Bench>, said: &mut Said<'_>, told: &mut Told) {
     let (station, limit, from) = (said.station(), said.number(), said.number());
     if said.is_right(told) {
-        told.outcome(&clerk.latest(station, limit, from));
+        told.outcome(&clerk.search(Sought::OfStation { station, limit }, from, u64::MAX));
     }
 }
 
@@ -151,7 +152,10 @@ fn step(clerk: &mut Clerk<Bench>, hand: &mut Hand, told: &mut Told) {
         told.line("not asked: no look");
         return;
     };
-    match look.step(clerk, *station, *limit) {
+    let Question::Search { sought, from, end } = look.question(*station, *limit) else {
+        return;
+    };
+    match look.go_on(clerk.search(sought, from, end)) {
         Some(seen) => told.outcome(&seen),
         None => told.line("goes on"),
     }

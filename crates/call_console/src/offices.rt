@@ -7,7 +7,7 @@ use crate::lines::read_line;
 use crate::said::Said;
 use crate::told::Told;
 use line_lock::{
-    Closing, Count, Line, Office, OfficeWork, OpenedOn, Seat, TurnRefusal, with_office,
+    Closing, Count, Line, Office, OfficeWork, OpenedOn, Seat, Sought, TurnRefusal, with_office,
 };
 use std::sync::Wait;
 
@@ -150,9 +150,14 @@ fn ask<L: Count + OpenedOn, R: Wait>(
         "seat" => show_seat(seat, told),
         "balance" => told.outcome(&office.balance(rt, seat, said.small())),
         "find" => {
-            told.outcome(&office.find(rt, seat, said.number(), said.number(), said.number()));
+            let sought = Sought::Reference(said.number());
+            told.outcome(&office.search(rt, seat, sought, said.number(), said.number()));
         }
-        "latest" => told.outcome(&office.latest(rt, seat, said.number(), said.number())),
+        "latest" => {
+            let (station, limit) = (seat.station(), said.number());
+            let sought = Sought::OfStation { station, limit };
+            told.outcome(&office.search(rt, seat, sought, said.number(), u64::MAX));
+        }
         _ => told.line("no such word of an office"),
     }
 }

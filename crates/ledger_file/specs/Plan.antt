@@ -3,8 +3,8 @@ use Rattle.std.specs.Prelude.{◌≡◌, ◌≢◌, ◌+◌, ◌*◌, ◌<◌, �
 use Rattle.gate_journal.specs.Layout.{IsOfVersion, IsSuperblock, in_use}
 use Rattle.ledger_file.specs.declared.plan.PartFault.{PartFault}
 use Rattle.ledger_file.specs.declared.plan.PartFault.TheVariants.{OtherVersion, Unsound, Short}
-use Rattle.ledger_file.specs.declared.plan.HeldFault.{HeldFault}
-use Rattle.ledger_file.specs.declared.plan.HeldFault.TheVariants.{Ledger, Part, Foreign}
+use Rattle.ledger_file.specs.declared.refusal.LedgerRefusal.{LedgerRefusal}
+use Rattle.ledger_file.specs.declared.refusal.LedgerRefusal.TheVariants.{HasLedger, HasPart, HasOther}
 
 -- the first sector is that of a ledger in use with so many slots in each bank
 pub record TellsSlots (first : List ℕ) (slots : ℕ) : Type 0 where
@@ -27,8 +27,9 @@ IsWhole first sectors = (slots : ℕ) × TellsSlots first slots × (39 + 4 * slo
 abbrev pub IsForeign : List ℕ → Type 0
 IsForeign first = take 4 first ≡ codes "TLDG" → ⊥
 
--- what a file that isn't blank holds: each is one of these alone
-abbrev pub IsHeld : List ℕ → ℕ → HeldFault → Type 0
-IsHeld first sectors Ledger = IsWhole first sectors
-IsHeld first sectors (Part fault) = IsPart first sectors fault
-IsHeld first sectors Foreign = IsForeign first
+-- why a file isn't formatted that isn't blank, by what it holds: each is one of these alone
+abbrev pub IsHeld : List ℕ → ℕ → LedgerRefusal → Type 0
+IsHeld first sectors HasLedger = IsWhole first sectors
+IsHeld first sectors (HasPart fault) = IsPart first sectors fault
+IsHeld first sectors HasOther = IsForeign first
+IsHeld first sectors _ = ⊥

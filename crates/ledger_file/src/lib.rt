@@ -18,5 +18,5 @@ pub use file_device::{FileDevice, FileFault, Making};
 pub use gate_journal::FormatRefusal;
 pub use journal_recovery::OpenRefusal;
 pub use opening::{Formatting, MOST_SECTORS, format_ledger, open_for_script, open_ledger};
-pub use plan::{HeldFault, PartFault, check_formatting, sectors_planned};
+pub use plan::{PartFault, check_formatting, sectors_planned};
 pub use refusal::LedgerRefusal;

@@ -184,5 +184,5 @@ fn check_held<F: DeviceFile + Drop>(
     } else {
         overwrite || file.sectors() == 0 || file.is_blank(alloc)?
     };
-    Ok(check_formatting(&first, file.sectors(), is_blank, overwrite)?)
+    check_formatting(&first, file.sectors(), is_blank, overwrite)
 }

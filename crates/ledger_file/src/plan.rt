@@ -2,6 +2,7 @@
 ghost use Rattle.std.specs.Prelude.{◌≡◌, ◌⊎◌, ◌↔◌, ◌+◌, ◌*◌, ◌<◌, ◌≤◌, max, Err, Some, IsOk, IsTrue, IfOk, IfErr, IfSome, IfNone};
 ghost use Rattle.ledger_file.specs.Plan.{IsPart, IsWhole, IsForeign, IsHeld};
 
+use crate::refusal::LedgerRefusal;
 use gate_journal::{FirstSector, MOST_SLOTS, sectors_needed};
 use sector_device::Sector;
 use thiserror::Error;
@@ -18,20 +19,6 @@ pub enum PartFault {
     /// It has fewer sectors than its superblock needs.
     #[error("it is too short for its {slots} slots: it has {found} sectors and needs {needed}; it may be a part of a copy")]
     Short { slots: u64, found: u64, needed: u64 },
-}
-
-/// Why a file isn't formatted.
-#[derive(Clone, Copy, Debug, PartialEq, Eq, Error)]
-pub enum HeldFault {
-    /// It holds a whole ledger, sound or not.
-    #[error("it holds a ledger already, which stays as it is")]
-    Ledger,
-    /// It begins as a ledger does, and isn't a whole one.
-    #[error("{0}")]
-    Part(PartFault),
-    /// It holds something else.
-    #[error("it holds an unfinished ledger, or another program's file; --overwrite takes it")]
-    Foreign,
 }
 
 /// How many sectors a file is to have that is opened with at least as many as are asked for. It has `found` of them, of
@@ -54,13 +41,13 @@ pub fn sectors_planned(first: &Sector, found: u64, asked: u64) -> Result<u64, Pa
 /// Whether a file may be formatted: it is blank, which is to say that each of its bytes is zero, or may be overwritten.
 ///
 /// # Errors
-/// [`HeldFault`], what it holds.
+/// [`LedgerRefusal`], by what it holds.
 pub fn check_formatting(
     first: &Sector,
     found: u64,
     is_blank: bool,
     overwrite: bool,
-) -> Result<(), HeldFault>
+) -> Result<(), LedgerRefusal>
     ensures allowed { IsOk result ↔ (IsTrue is_blank ⊎ IsTrue overwrite) }
     ensures held { IfErr result (IsHeld first.now found) }
 {
@@ -71,15 +58,15 @@ pub fn check_formatting(
 }
 
 // What a file holds that isn't blank.
-fn held_fault(first: &Sector, found: u64) -> HeldFault
+fn held_fault(first: &Sector, found: u64) -> LedgerRefusal
     ensures { IsHeld first.now found result }
 {
     if FirstSector::of(first) == FirstSector::NoJournal {
-        return HeldFault::Foreign;
+        return LedgerRefusal::HasOther;
     }
     match part_fault(first, found) {
-        Some(fault) => HeldFault::Part(fault),
-        None => HeldFault::Ledger,
+        Some(fault) => LedgerRefusal::HasPart(fault),
+        None => LedgerRefusal::HasLedger,
     }
 }
 

@@ -1,8 +1,8 @@
 ghost use Rattle.std.specs.Prelude.{◌≡◌, ◌↔◌, IsTrue};
-ghost use Rattle.ledger_file.specs.declared.refusal.LedgerRefusal.TheVariants.{Part, Held, Format};
+ghost use Rattle.ledger_file.specs.declared.refusal.LedgerRefusal.TheVariants.{Part, Format};
 ghost use Rattle.ledger_file.specs.Refusals.{IsToldAs};
 
-use crate::plan::{HeldFault, PartFault};
+use crate::plan::PartFault;
 use file_device::FileFault;
 use gate_journal::FormatRefusal;
 use thiserror::Error;
@@ -22,9 +22,15 @@ pub enum LedgerRefusal {
     /// It begins as a ledger does, and isn't a whole one.
     #[error("{0}")]
     Part(PartFault),
-    /// It was to be formatted, and holds something.
+    /// It was to be formatted, and holds a whole ledger, sound or not.
+    #[error("it holds a ledger already, which stays as it is")]
+    HasLedger,
+    /// It was to be formatted, and begins as a ledger does, but isn't a whole one.
     #[error("{0}")]
-    Held(HeldFault),
+    HasPart(PartFault),
+    /// It was to be formatted, and holds something else.
+    #[error("it holds an unfinished ledger, or another program's file; --overwrite takes it")]
+    HasOther,
     /// It is a disk that was to be formatted, with fewer sectors than that many slots need.
     #[error("it has {found} sectors, and a ledger of {slots} slots needs {needed}")]
     TooSmall { slots: u64, found: u64, needed: u64 },
@@ -59,14 +65,6 @@ impl From<PartFault> for LedgerRefusal {
 
     fn from(fault: PartFault) -> LedgerRefusal {
         LedgerRefusal::Part(fault)
-    }
-}
-
-impl From<HeldFault> for LedgerRefusal {
-    ghost from_gives = { λ fault refusal. refusal ≡ Held fault };
-
-    fn from(fault: HeldFault) -> LedgerRefusal {
-        LedgerRefusal::Held(fault)
     }
 }
 

@@ -1,8 +1,8 @@
 //! An office that is opened, takes two turns and is closed: what its seats are answered.
 use crate::scenes::{deposit, formatted, line};
 use line_lock::{
-    BalanceRefusal, Closing, Count, Found, Office, OfficeWork, OpenedOn, Rule, Seat, ToldBalance,
-    Turn, TurnRefusal, WithinRefusal, with_office,
+    BalanceRefusal, Closing, Count, FindRefusal, Office, OfficeWork, OpenedOn, Reached, Rule,
+    SearchStep, Seat, Sought, ToldBalance, Turn, TurnRefusal, WithinRefusal, with_office,
 };
 use sector_device::MemoryDevice;
 use std::alloc::Global;
@@ -149,9 +149,19 @@ fn top_turn<L: Count + OpenedOn, R: Abort + Wait>(
         (second.index, second.rule, second.posted) == (1, Rule::Top, None)
             && is_refused_within(rt, office, top, 3, denied)
             && is_told(rt, office, top, 5, 2)
-            && office.find(rt, top, 9, 0, u64::MAX) == Ok(Found::Nowhere(0))
+            && is_nowhere(office.search(rt, top, Sought::Reference(9), 0, u64::MAX))
     );
     Ok(second)
+}
+
+// Whether a search came to its end, and found nothing.
+fn is_nowhere(answer: Result<SearchStep, FindRefusal>) -> bool {
+    let (began, since) = (0, 0);
+    answer
+        == Ok(SearchStep {
+            posting: None,
+            reached: Reached::All { began, since },
+        })
 }
 
 // An office of two stations over an empty ledger, closed behind its turns.

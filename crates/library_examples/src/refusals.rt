@@ -3,7 +3,7 @@ use file_device::{FileFault, FileRefusal};
 use gate_journal::{FormatRefusal, ReadRefusal};
 use journal_recovery::{MigrateRefusal, OpenRefusal};
 use ledger_archive::{AddRefusal, FollowRefusal};
-use ledger_file::{HeldFault, LedgerRefusal, PartFault};
+use ledger_file::{LedgerRefusal, PartFault};
 use office_day::{CloseRefusal, DayRefusal, End, EndName};
 use std::alloc::Global;
 use std::fmt::{Display, Write};
@@ -118,9 +118,9 @@ fn refusals_of_ledgers_in_files_have_texts(rt: HostRuntime) {
         LedgerRefusal::NoLedger,
         LedgerRefusal::Part(PartFault::OtherVersion(2)),
         LedgerRefusal::Part(PartFault::Unsound),
-        LedgerRefusal::Held(HeldFault::Part(part)),
-        LedgerRefusal::Held(HeldFault::Ledger),
-        LedgerRefusal::Held(HeldFault::Foreign),
+        LedgerRefusal::HasPart(part),
+        LedgerRefusal::HasLedger,
+        LedgerRefusal::HasOther,
         LedgerRefusal::TooSmall {
             slots,
             found,

@@ -1,16 +1,15 @@
 -- What an office is asked of its ledger while it is open.
-use Rattle.std.specs.Prelude.{◌≢◌, ◌≡◌, ◌+◌, ◌≤◌, ◌↔◌, ℕ, true, false, length, IsTrue, Result, Ok, Err, IfOk, Some, None}
+use Rattle.std.specs.Prelude.{◌≢◌, ◌≡◌, ◌+◌, ◌≤◌, ◌↔◌, ℕ, min, true, false, length, IsTrue, Result, Ok, Err, IfOk, Some, None}
 use Rattle.sector_device.specs.Device.{DeviceState, AreCalls}
 use Rattle.sector_device.specs.Crash.{LooksOnly}
 use Rattle.four_state.specs.Configuration.{Configuration}
 use Rattle.turn_ledger.specs.State.{IsAccount, balance_of}
 use Rattle.turn_clerk.specs.Clerk.{ClerkState, KeepsHistory}
-use Rattle.turn_clerk.specs.Found.{IsNumberedFromSome, HasFound, TellsOfBatches}
-use Rattle.turn_clerk.specs.Latest.{IsStepFromSome, HasLatest, TellsOfPostings, end_of_step}
-use Rattle.turn_clerk.specs.declared.searching.Found.{Found}
-use Rattle.turn_clerk.specs.declared.searching.Found.TheVariants.{LookingBack}
-use Rattle.turn_clerk.specs.declared.postings.Latest.{Latest}
-use Rattle.turn_clerk.specs.declared.postings.Reached.TheVariants as reached
+use Rattle.turn_clerk.specs.Found.{HasPicked, TellsOfPostings}
+use Rattle.turn_clerk.specs.Search.{IsStepFromSome, end_of_step}
+use Rattle.turn_clerk.specs.declared.searching.Reached.TheVariants.{LookingBack}
+use Rattle.turn_clerk.specs.declared.searching.SearchStep.{SearchStep}
+use Rattle.turn_clerk.specs.declared.sought.Sought.{Sought}
 use Rattle.turn_clerk.specs.declared.refusals.FindRefusal.{FindRefusal}
 use Rattle.turn_clerk.specs.declared.refusals.FindRefusal.TheVariants as find
 use Rattle.line_lock.specs.OpenedOn.{WasOpenedOn}
@@ -67,38 +66,22 @@ searched seat (Err find.Faulted) = record seat { faulted = true }
 searched seat (Err find.Changed) = seat
 searched seat (Err find.Device) = seat
 
--- An office that was opened on that device with that line was asked by a seat for a reference, from the record of a
+-- An office that was opened on that device with that line was asked by a seat for what is sought, from the record of a
 -- number on and before that of another, and a clerk of it answered, whose turns are a legal history. After it the device
 -- is another one at most by looks.
 pub record WasSearched {D : Type 0} (state : D
-    → DeviceState) (device : DeviceState) (from : Configuration) (old new : SeatState) (reference first end : ℕ) (answer : Result Found FindRefusal) : Type 0 where
+    → DeviceState) (device : DeviceState) (from : Configuration) (old new : SeatState) (sought : Sought) (first end : ℕ) (answer : Result SearchStep FindRefusal) : Type 0 where
   pub clerk : ClerkState D
   pub opened : WasOpenedOn state device from clerk
   pub legal : KeepsHistory clerk
   pub after : D
   pub call : AreCalls (state clerk.journal.device) (state after) (answer ≡ Err find.Device)
   pub faulted : (answer ≡ Err find.Faulted) ↔ IsTrue clerk.journal.faulted
-  pub numbered : IfOk answer (λ found. found ≢ LookingBack → IsNumberedFromSome clerk.journal first end found)
+  pub looking_back : IfOk answer (λ step. step.reached ≡ LookingBack → step.posting ≡ None)
+  pub numbered : IfOk answer (λ step. step.reached ≢ LookingBack → IsStepFromSome clerk.journal sought first end step)
   pub note : new ≡ searched old answer
   -- on an honest device
   pub looks : LooksOnly (state clerk.journal.device) (state after)
-  pub found : device.honest → IfOk answer (λ found. found ≢ LookingBack → HasFound state clerk reference first end found)
-  pub batches : device.honest → IfOk answer (TellsOfBatches clerk reference first end)
-
--- The same of a seat that asked for its station's posting with the greatest reference within a limit.
-pub record WasToldLatest {D : Type 0} (state : D
-    → DeviceState) (device : DeviceState) (from : Configuration) (old new : SeatState) (limit first : ℕ) (answer : Result Latest FindRefusal) : Type 0 where
-  pub clerk : ClerkState D
-  pub opened : WasOpenedOn state device from clerk
-  pub legal : KeepsHistory clerk
-  pub after : D
-  pub call : AreCalls (state clerk.journal.device) (state after) (answer ≡ Err find.Device)
-  pub faulted : (answer ≡ Err find.Faulted) ↔ IsTrue clerk.journal.faulted
-  pub looking_back : IfOk answer (λ latest. latest.reached ≡ reached.LookingBack → latest.posting ≡ None)
-  pub numbered : IfOk answer (λ latest. latest.reached ≢ reached.LookingBack → IsStepFromSome clerk.journal limit first latest)
-  pub note : new ≡ searched old answer
-  -- on an honest device
-  pub looks : LooksOnly (state clerk.journal.device) (state after)
-  pub latest : device.honest → IfOk answer (λ latest. latest.reached ≢ reached.LookingBack → HasLatest state clerk old.station limit first latest)
-  pub batches : device.honest
-      → IfOk answer (λ latest. latest.reached ≢ reached.LookingBack → TellsOfPostings clerk old.station limit first (end_of_step clerk.journal.next latest.reached) latest.posting)
+  pub picked : device.honest → IfOk answer (λ step. step.reached ≢ LookingBack → HasPicked state clerk sought first end step)
+  pub batches : device.honest → IfOk answer (λ step. step.reached ≢ LookingBack
+      → TellsOfPostings clerk sought first (end_of_step (min end clerk.journal.next) step.reached) step.posting)

@@ -25,7 +25,7 @@ pub use std::sync::ledger::{Blank, Ledger as Count};
 pub use sweep_auditor::Audit;
 pub use told::{Room, ToldBalance};
 pub use turn_clerk::{
-    Clerk, FindRefusal, Found, Latest, OpenRefusal, Posting, Reached, SEARCH_STEP, Taken, Turn,
-    TurnRefusal, later_posting,
+    Clerk, FindRefusal, OpenRefusal, Posting, Reached, SEARCH_STEP, SearchStep, Sought, Taken,
+    Turn, TurnRefusal, later_posting,
 };
 pub use turn_ledger::{BATCH_LIMIT, Entry};

@@ -16,7 +16,7 @@ ghost use Rattle.journal_recovery.specs.Refused.{RecoveryRefuses};
 ghost use Rattle.line_lock.specs.OpenedOn.{Names, WasOpenedOn, WasLeftByClerk};
 ghost use Rattle.line_lock.specs.Seat.{new_seat};
 ghost use Rattle.line_lock.specs.Told.{WasTold};
-ghost use Rattle.line_lock.specs.Asked.{WasToldBalance, WasToldRoom, WasSearched, WasToldLatest};
+ghost use Rattle.line_lock.specs.Asked.{WasToldBalance, WasToldRoom, WasSearched};
 ghost use Rattle.turn_ledger.specs.State.{IsAccount};
 
 use crate::closing::{CloseRefusal, Closing, audited, gathered, look_at};
@@ -30,7 +30,7 @@ use sector_device::Device;
 use std::alloc::Global;
 use std::sync::ledger::{Blank, Ledger as Count};
 use std::sync::{Mutex, Wait};
-use turn_clerk::{Clerk, FindRefusal, Found, Latest, OpenRefusal, Taken, Turn, TurnRefusal};
+use turn_clerk::{Clerk, FindRefusal, OpenRefusal, SearchStep, Sought, Taken, Turn, TurnRefusal};
 use turn_ledger::Entry;
 
 /// One clerk that several stations share, one turn at a time.
@@ -250,44 +250,24 @@ impl<D: Device, L: Count + OpenedOn> Office<D, L> {
         self.locked.lock(rt).balance(seat, account)
     }
 
-    /// Looks for an entry with that reference in the records in sight, as [`Clerk::find`] does; it may wait for the
-    /// lock. A call takes the lock for one step, of [`turn_clerk::SEARCH_STEP`] records at most: between the calls of a
-    /// long search others may take turns. The seat notes if it is told of a fault, for closing the office.
+    /// Looks for what is sought in the records in sight, as [`Clerk::search`] does; it may wait for the lock. A call takes
+    /// the lock for one step, of [`turn_clerk::SEARCH_STEP`] records at most: between the calls of a long search others
+    /// may take turns. The seat notes if it is told of a fault, for closing the office.
     ///
     /// # Errors
     /// [`FindRefusal`], the first that holds.
-    pub fn find<R: Wait>(
+    pub fn search<R: Wait>(
         &self,
         rt: &R,
         seat: &mut Seat<L>,
-        reference: u64,
+        sought: Sought,
         from: u64,
         end: u64,
-    ) -> Result<Found, FindRefusal>
-        ensures told { WasSearched D.state L.device L.line seat.old seat.new
-            reference from end result }
+    ) -> Result<SearchStep, FindRefusal>
+        ensures told { WasSearched D.state L.device L.line seat.old seat.new sought from end result }
         ensures never_changed { L.device.honest → result ≢ Err FindRefusal.Changed }
     {
-        self.locked.lock(rt).find(seat, reference, from, end)
-    }
-
-    /// Looks for the posting of the seat's own station with the greatest reference above 0 and at most the limit, as
-    /// [`Clerk::latest`] does. It waits, takes the lock for one step, and is noted, as [`Office::find`].
-    ///
-    /// # Errors
-    /// [`FindRefusal`], the first that holds.
-    pub fn latest<R: Wait>(
-        &self,
-        rt: &R,
-        seat: &mut Seat<L>,
-        limit: u64,
-        from: u64,
-    ) -> Result<Latest, FindRefusal>
-        ensures told { WasToldLatest D.state L.device L.line seat.old seat.new
-            limit from result }
-        ensures never_changed { L.device.honest → result ≢ Err FindRefusal.Changed }
-    {
-        self.locked.lock(rt).latest(seat, limit, from)
+        self.locked.lock(rt).search(seat, sought, from, end)
     }
 
     /// Closes the office, if the list has the seat of each station and the clerk bears out what each one holds: its

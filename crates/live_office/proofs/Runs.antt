@@ -2,7 +2,7 @@
 use Rattle.std.specs.Prelude.{◌⊎◌, ◌<◌, ◌≤◌, ℕ, Option, None, refl}
 use Rattle.std.proofs.Common.{sym, subst, inl, inr, arith}
 use Rattle.std.proofs.lemmas.Bool.{cases_lt}
-use Rattle.turn_clerk.specs.declared.postings.Posting.{Posting}
+use Rattle.turn_clerk.specs.declared.sought.Posting.{Posting}
 use Rattle.live_office.specs.declared.look.Look.{Look}
 use Rattle.live_office.specs.Looked.{HasSeen, begins, goes_on, Meets, BeginsAnew}
 

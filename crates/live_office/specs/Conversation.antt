@@ -4,8 +4,11 @@ use Rattle.std.specs.List.{flat_map}
 use Rattle.turn_ledger.specs.declared.entry.Entry.{Entry}
 use Rattle.turn_ledger.specs.Entry.{reference_of}
 use Rattle.script_grammar.specs.declared.requests.Request.TheVariants as request
-use Rattle.turn_clerk.specs.declared.searching.Found.{Found}
-use Rattle.turn_clerk.specs.declared.searching.Found.TheVariants as found
+use Rattle.turn_clerk.specs.declared.searching.Reached.{Reached}
+use Rattle.turn_clerk.specs.declared.searching.Reached.TheVariants as reached
+use Rattle.turn_clerk.specs.declared.searching.SearchStep.{SearchStep}
+use Rattle.turn_clerk.specs.declared.sought.Posting.{Posting}
+use Rattle.turn_clerk.specs.declared.sought.Sought.TheVariants as sought
 use Rattle.turn_clerk.specs.declared.refusals.FindRefusal.{FindRefusal}
 use Rattle.line_lock.specs.declared.refusals.BalanceRefusal.{BalanceRefusal}
 use Rattle.station_desk.specs.Messages.{entries_of, asks_of}
@@ -153,60 +156,80 @@ abbrev pub told_of_balance : ℕ → Result ℕ BalanceRefusal → Response
 told_of_balance account (Ok amount) = response.Balance account amount
 told_of_balance account (Err refusal) = response.NoBalance refusal
 
+-- what it is told of a record that its search found, if it found one
+abbrev pub told_of_posting : ℕ → Option Posting → Option Response
+told_of_posting reference None = None
+told_of_posting reference (Some posting) = Some (response.Found posting.number reference)
+
 -- what it is told of a step of its search, which found that many records before
-abbrev pub told_of_step : ℕ → ℕ → Result Found FindRefusal → Option Response
-told_of_step before reference (Ok (found.Posted number end)) = Some (response.Found number reference)
-told_of_step before reference (Ok (found.Further number end)) = None
-told_of_step before reference (Ok (found.Nowhere since)) = Some (response.FoundInAll before since)
-told_of_step before reference (Ok found.LookingBack) = None
+abbrev pub told_by : ℕ → ℕ → Option Posting → Reached → Option Response
+told_by before reference posting (reached.Further began number end) = told_of_posting reference posting
+told_by before reference posting (reached.All began since) = Some (response.FoundInAll before since)
+told_by before reference posting reached.LookingBack = None
+
+abbrev pub told_of_step : ℕ → ℕ → Result SearchStep FindRefusal → Option Response
+told_of_step before reference (Ok step) = told_by before reference step.posting step.reached
 told_of_step before reference (Err refusal) = Some (response.NotFound refusal)
 
--- how many it found with that step
-abbrev pub found_with : ℕ → Result Found FindRefusal → ℕ
-found_with before (Ok (found.Posted number end)) = min (before + 1) (2 ^ 64 - 1)
-found_with before _ = before
+-- how many it found with that record, and with that step
+abbrev pub counted_with : ℕ → Option Posting → ℕ
+counted_with before None = before
+counted_with before (Some posting) = min (before + 1) (2 ^ 64 - 1)
 
--- The question is the one that the message asks, whose search has come so far, or whose look at the counter's own
--- postings has come to that record. An entry asks for its own reference, or for any.
-abbrev pub IsQuestionOf : Message → Search → ℕ → Question → Type 0
-IsQuestionOf (Asked (request.Balance account)) search own (question.Balance named) = named ≡ account
-IsQuestionOf (Asked (request.Find reference)) search own (question.Find named first end) = (named ≡ reference) × (first ≡ search.from) × (end ≡ search.end)
-IsQuestionOf (Asked (request.Post entry)) search own (question.Latest limit first) = ((limit ≡ reference_of entry) ⊎ (limit ≡ 2 ^ 64 - 1)) × (first ≡ own)
-IsQuestionOf (Asked request.Last) search own (question.Latest limit first) = (limit ≡ 2 ^ 64 - 1) × (first ≡ own)
-IsQuestionOf (Asked (request.First reference)) search own (question.Latest limit first) = (limit ≡ 2 ^ 64 - 1) × (first ≡ own)
-IsQuestionOf (Asked request.Status) search own question.Room = Unit {0}
-IsQuestionOf _ search own _ = ⊥
+abbrev pub counted_by : ℕ → Option Posting → Reached → ℕ
+counted_by before posting (reached.Further began number end) = counted_with before posting
+counted_by before posting (reached.All began since) = before
+counted_by before posting reached.LookingBack = before
+
+abbrev pub found_with : ℕ → Result SearchStep FindRefusal → ℕ
+found_with before (Ok step) = counted_by before step.posting step.reached
+found_with before (Err refusal) = before
+
+-- what is asked for the own postings of a station up to a reference, where the look at them has come to that record
+abbrev pub own_question : ℕ → ℕ → ℕ → Question
+own_question station limit own = question.Search (sought.OfStation station limit) own (2 ^ 64 - 1)
+
+-- The question is the one that the message asks at that station, whose search has come so far, or whose look at the
+-- counter's own postings has come to that record. An entry asks for its own reference, or for any.
+abbrev pub IsQuestionOf : Message → Search → ℕ → ℕ → Question → Type 0
+IsQuestionOf (Asked (request.Balance account)) search station own (question.Balance named) = named ≡ account
+IsQuestionOf (Asked (request.Find reference)) search station own asked = asked ≡ question.Search (sought.Reference reference) search.from search.end
+IsQuestionOf (Asked (request.Post entry)) search station own asked = (asked ≡ own_question station (reference_of entry) own) ⊎ (asked ≡ own_question station (2 ^ 64 - 1) own)
+IsQuestionOf (Asked request.Last) search station own asked = asked ≡ own_question station (2 ^ 64 - 1) own
+IsQuestionOf (Asked (request.First reference)) search station own asked = asked ≡ own_question station (2 ^ 64 - 1) own
+IsQuestionOf (Asked request.Status) search station own question.Room = Unit {0}
+IsQuestionOf _ search station own _ = ⊥
 
 -- the same of the message that is handled next, if there is one
-abbrev pub IsAskedBy : Option Message → Search → ℕ → Question → Type 0
-IsAskedBy next search own asked = IfSome next (λ message. IsQuestionOf message search own asked)
+abbrev pub IsAskedBy : Option Message → Search → ℕ → ℕ → Question → Type 0
+IsAskedBy next search station own asked = IfSome next (λ message. IsQuestionOf message search station own asked)
 
--- Its response may depend on the counter's own postings up to that reference.
-abbrev pub MayLook : Option Message → ℕ → Type 0
-MayLook next limit = (search : Search) (own : ℕ) → IsAskedBy next search own (question.Latest limit own)
+-- Its response may depend on the own postings of its station up to that reference.
+abbrev pub MayLook : Option Message → ℕ → ℕ → Type 0
+MayLook next station limit = (search : Search) (own : ℕ) → IsAskedBy next search station own (own_question station limit own)
 
--- Where the next step of a search begins: behind the record that was found, or where this step ended, or where it began
--- if it looked at none.
-abbrev pub MeetsAt : ℕ → Found → ℕ → Type 0
-MeetsAt from (found.Posted number end) next = number + 1 < 2 ^ 64 → next ≡ number + 1
-MeetsAt from (found.Further number end) next = next ≡ number
-MeetsAt from (found.Nowhere since) next = Unit {0}
-MeetsAt from found.LookingBack next = next ≡ from
+-- Where the next step of a search begins: where this step ended, or where it began if it looked at no record.
+abbrev pub MeetsAt : ℕ → Reached → ℕ → Type 0
+MeetsAt from (reached.Further began number end) next = next ≡ number
+MeetsAt from (reached.All began since) next = Unit {0}
+MeetsAt from reached.LookingBack next = next ≡ from
 
 -- Where a search ends: before the record of the number that this step told, or where it ended before if the step looked
 -- at no records.
-abbrev pub EndsAt : ℕ → Found → ℕ → Type 0
-EndsAt before (found.Posted number told) end = end ≡ told
-EndsAt before (found.Further number told) end = end ≡ told
-EndsAt before (found.Nowhere since) end = Unit {0}
-EndsAt before found.LookingBack end = end ≡ before
+abbrev pub EndsAt : ℕ → Reached → ℕ → Type 0
+EndsAt before (reached.Further began number told) end = end ≡ told
+EndsAt before (reached.All began since) end = Unit {0}
+EndsAt before reached.LookingBack end = end ≡ before
 
--- A search is over where nothing more is found, and where it failed.
-abbrev pub IsLast : Result Found FindRefusal → Type 0
-IsLast (Ok (found.Posted number end)) = ⊥
-IsLast (Ok (found.Further number end)) = ⊥
-IsLast (Ok (found.Nowhere since)) = Unit {0}
-IsLast (Ok found.LookingBack) = ⊥
+-- the step came to the last record of the search
+abbrev pub IsAll : Reached → Type 0
+IsAll (reached.Further began number end) = ⊥
+IsAll (reached.All began since) = Unit {0}
+IsAll reached.LookingBack = ⊥
+
+-- A search is over there, and where it failed.
+abbrev pub IsLast : Result SearchStep FindRefusal → Type 0
+IsLast (Ok step) = IsAll step.reached
 IsLast (Err refusal) = Unit {0}
 
 -- A conversation at one moment: every message that was taken from the counter's reader, every response that was handed

@@ -1,11 +1,11 @@
 -- What a look at a counter's postings tells, from what each of its steps told.
 use Rattle.std.specs.Prelude.{◌≡◌, ◌<◌, ◌≤◌, ℕ, zero, suc, min, Option, None, Some, Result, Ok, Err, IfSome, IsSomeAnd}
 use Rattle.turn_ledger.specs.Entry.{reference_of}
-use Rattle.turn_clerk.specs.Latest.{IsLater}
-use Rattle.turn_clerk.specs.declared.postings.Posting.{Posting}
-use Rattle.turn_clerk.specs.declared.postings.Latest.{Latest}
-use Rattle.turn_clerk.specs.declared.postings.Reached.{Reached}
-use Rattle.turn_clerk.specs.declared.postings.Reached.TheVariants as reached
+use Rattle.turn_clerk.specs.Sought.{IsLater}
+use Rattle.turn_clerk.specs.declared.searching.Reached.{Reached}
+use Rattle.turn_clerk.specs.declared.searching.Reached.TheVariants as reached
+use Rattle.turn_clerk.specs.declared.searching.SearchStep.{SearchStep}
+use Rattle.turn_clerk.specs.declared.sought.Posting.{Posting}
 use Rattle.turn_clerk.specs.declared.refusals.FindRefusal.{FindRefusal}
 use Rattle.live_office.specs.declared.look.Look.{Look}
 use Rattle.live_office.specs.declared.look.Seen.{Seen}
@@ -15,12 +15,12 @@ use Rattle.live_office.specs.declared.session.Earlier.TheVariants as earlier
 -- a look that has come to the last record: what it saw without a gap
 abbrev pub seen_at : Look → Reached → Option (Result Seen FindRefusal)
 seen_at look (reached.All began since) = Some (Ok (record { posting = look.posting; since = look.since }))
-seen_at look (reached.Further began number) = None
+seen_at look (reached.Further began number end) = None
 seen_at look reached.LookingBack = None
 
 -- what the whole look tells with this step, by what it saw so far, if the step ends it
-abbrev pub seen_with : Look → Result Latest FindRefusal → Option (Result Seen FindRefusal)
-seen_with look (Ok latest) = seen_at look latest.reached
+abbrev pub seen_with : Look → Result SearchStep FindRefusal → Option (Result Seen FindRefusal)
+seen_with look (Ok step) = seen_at look step.reached
 seen_with look (Err refusal) = Some (Err refusal)
 
 -- The step began where the look had come to: what was seen before counts, and the later posting of both.
@@ -37,7 +37,7 @@ IsTakenIn old began posting next new = (began ≤ old.from → Meets old posting
 
 -- How a look goes on by a step: the next one begins where this one ended, or where it began if it looked at no record.
 abbrev pub GoesOnBy : Look → Option Posting → Reached → Look → Type 0
-GoesOnBy old posting (reached.Further began number) new = IsTakenIn old began posting number new
+GoesOnBy old posting (reached.Further began number end) new = IsTakenIn old began posting number new
 GoesOnBy old posting (reached.All began since) new = IsTakenIn old began posting old.from new
 GoesOnBy old posting reached.LookingBack new = new ≡ old
 

@@ -1,18 +1,22 @@
 //! A look at what was posted at a counter, step by step.
-ghost use Rattle.std.specs.Prelude.{◌≡◌, ◌≢◌, ◌⊎◌, ◌↔◌, ◌<◌, ◌≤◌, ℕ, IfOk, IfErr, IfSome, Some, None};
+ghost use Rattle.std.specs.Prelude.{◌≡◌, ◌≢◌, ◌⊎◌, ◌↔◌, ◌<◌, ◌≤◌, ℕ, false, IfOk, IfErr, IfSome, Some, None};
 ghost use Rattle.sector_device.specs.Crash.{LooksOnly};
-ghost use Rattle.turn_clerk.specs.Found.{after_looks};
+ghost use Rattle.gate_journal.specs.Journal.{after_reads};
+ghost use Rattle.journal_recovery.specs.LookBack.{FitsSlots};
 ghost use Rattle.turn_clerk.specs.declared.refusals.FindRefusal.{FindRefusal};
 ghost use Rattle.turn_ledger.specs.Entry.{reference_of};
-ghost use Rattle.station_desk.specs.declared.errand.Question.TheVariants as question;
+ghost use Rattle.live_office.specs.Conversation.{own_question};
 ghost use Rattle.live_office.specs.Looked.{seen_with, seen_farther, GoesOnBy, Meets, BeginsAnew, HasSeen, IsAbove, IsUnder};
 
 use crate::responses::Judgement;
-use line_lock::{Clerk, FindRefusal, Latest, Posting, Reached, later_posting};
+use gate_journal::Journal;
+use journal_recovery::LookBack;
+use line_lock::{FindRefusal, Posting, Reached, SearchStep, Sought, later_posting};
 use office_day::Device;
 use station_desk::Question;
 use std::fmt;
-use turn_ledger::Entry;
+use turn_clerk::search;
+use turn_ledger::{Entry, Ledger};
 
 /// More steps than any ledger needs: of 2,000,000 records, and as many slots of a bank that is looked back to.
 const MOST_STEPS: u64 = 20_000;
@@ -63,42 +67,43 @@ impl Look {
         }
     }
 
-    /// What is asked next: the posting with the greatest reference, up to that one.
-    pub(crate) fn question(&self, limit: u64) -> Question
-        ensures { result ≡ question.Latest limit self.now.from }
+    /// What is asked next: the station's posting with the greatest reference, up to that one.
+    pub fn question(&self, station: u8, limit: u64) -> Question
+        ensures { result ≡ own_question station limit self.now.from }
     {
-        Question::Latest {
-            limit,
+        Question::Search {
+            sought: Sought::OfStation { station, limit },
             from: self.from,
+            end: u64::MAX,
         }
     }
 
     /// Goes on by what was found. What the whole look tells, if it is over.
-    pub(crate) fn go_on(
+    pub fn go_on(
         &mut self,
-        step: Result<Latest, FindRefusal>,
+        step: Result<SearchStep, FindRefusal>,
     ) -> Option<Result<Seen, FindRefusal>>
         ensures seen { result ≡ seen_with self.new step }
-        ensures meets { IfOk step (λ latest. GoesOnBy self.old latest.posting latest.reached self.new) }
+        ensures meets { IfOk step (λ told. GoesOnBy self.old told.posting told.reached self.new) }
         ensures whole { HasSeen self.old.since self.old.from self.old.posting
             → HasSeen self.new.since self.new.from self.new.posting }
-        ensures found { IfOk step (λ latest. (self.new.posting ≡ self.old.posting)
-            ⊎ (self.new.posting ≡ latest.posting)) }
+        ensures found { IfOk step (λ told. (self.new.posting ≡ self.old.posting)
+            ⊎ (self.new.posting ≡ told.posting)) }
         ensures failed { IfErr step (λ refusal. self.new ≡ self.old) }
     {
-        let latest = match step {
-            Ok(latest) => latest,
+        let told = match step {
+            Ok(told) => told,
             Err(refusal) => return Some(Err(refusal)),
         };
-        match latest.reached {
-            Reached::Further { began, number } => {
-                self.take_in(began, latest.posting);
+        match told.reached {
+            Reached::Further { began, number, .. } => {
+                self.take_in(began, told.posting);
                 self.from = number;
                 None
             }
             Reached::LookingBack => None,
             Reached::All { began, .. } => {
-                self.take_in(began, latest.posting);
+                self.take_in(began, told.posting);
                 Some(Ok(Seen {
                     posting: self.posting,
                     since: self.since,
@@ -123,38 +128,50 @@ impl Look {
         }
     }
 
-    /// Takes the next step, in the records of a clerk. What the whole look tells, if it is over.
-    pub fn step<D: Device>(
+    // Takes the next step, in the records of a journal. What the whole look tells, if it is over.
+    fn step<D: Device>(
         &mut self,
-        clerk: &mut Clerk<D>,
+        journal: &mut Journal<D>,
+        back: &mut LookBack,
+        ledger: &mut Ledger,
         station: u8,
-        limit: u64,
     ) -> Option<Result<Seen, FindRefusal>>
-        ensures kept { clerk.new ≡ after_looks clerk.old clerk.new.journal.device }
-        ensures looks { LooksOnly (D.state clerk.old.journal.device)
-            (D.state clerk.new.journal.device) }
-        ensures honest { (D.state clerk.old.journal.device).honest
-            → (D.state clerk.new.journal.device).honest }
-        ensures whole { HasSeen self.old.since self.old.from self.old.posting
-            → HasSeen self.new.since self.new.from self.new.posting }
-        ensures told { IfSome result (λ seen. IfOk seen (λ all. (all.posting ≡ self.new.posting)
-            × (all.since ≡ self.new.since))) }
+        requires works { journal.old.faulted ≡ false }
+        requires fits { FitsSlots journal.old.slots journal.old.live back.old }
+        ensures kept { journal.new ≡ after_reads journal.old journal.new.device }
+        ensures fits { FitsSlots journal.new.slots journal.new.live back.new }
+        ensures looks { LooksOnly (D.state journal.old.device) (D.state journal.new.device) }
+        ensures honest { (D.state journal.old.device).honest
+            → (D.state journal.new.device).honest }
         ensures above { IsAbove self.old.posting → IsAbove self.new.posting }
+        ensures told { IfSome result (λ seen. IfOk seen (λ all. all.posting ≡ self.new.posting)) }
     {
-        self.go_on(clerk.latest(station, limit, self.from))
+        let limit = u64::MAX;
+        let sought = Sought::OfStation { station, limit };
+        let step = search(journal, back, ledger, sought, self.from, u64::MAX);
+        self.go_on(step.map_err(FindRefusal::from))
     }
 }
 
-/// The posting of a station with the greatest reference in the records in sight of a clerk, from the one of that number
-/// on; None if they can't be read.
-pub fn last_posting<D: Device>(clerk: &mut Clerk<D>, station: u8, first: u64) -> Option<Seen>
-    ensures kept { clerk.new ≡ after_looks clerk.old clerk.new.journal.device }
-    ensures looks { LooksOnly (D.state clerk.old.journal.device) (D.state clerk.new.journal.device) }
+/// The posting of a station with the greatest reference in the records in sight of a journal, from the one of that
+/// number on; None if they can't be read. Whatever the ledger holds, it is used to find out how far back one sees.
+pub fn last_posting<D: Device>(
+    journal: &mut Journal<D>,
+    ledger: &mut Ledger,
+    station: u8,
+    first: u64,
+) -> Option<Seen>
+    ensures kept { journal.new ≡ after_reads journal.old journal.new.device }
+    ensures looks { LooksOnly (D.state journal.old.device) (D.state journal.new.device) }
     ensures above { IfSome result (λ seen. IfSome seen.posting (λ last. 0 < reference_of last.entry)) }
 {
+    if journal.is_faulted() {
+        return None;
+    }
     let mut look = Look::starting_at(first);
+    let mut back = LookBack::Unknown;
     for _ in 0..MOST_STEPS {
-        if let Some(seen) = look.step(clerk, station, u64::MAX) {
+        if let Some(seen) = look.step(journal, &mut back, ledger, station) {
             return seen.ok();
         }
     }

@@ -1,11 +1,11 @@
 //! A search for a reference, step by step.
-ghost use Rattle.std.specs.Prelude.{◌≡◌, ◌↔◌, IsTrue, IfOk, IfSome};
+ghost use Rattle.std.specs.Prelude.{◌≡◌, ◌↔◌, true, false, IsTrue, IfOk, IfSome, Some};
 ghost use Rattle.script_grammar.specs.declared.requests.Request.TheVariants.{Find};
 ghost use Rattle.live_office.specs.declared.messages.Message.TheVariants.{Asked};
-ghost use Rattle.live_office.specs.Conversation.{IsOther, told_of_step, found_with, IsResponseTo, MeetsAt, EndsAt, IsLast};
+ghost use Rattle.live_office.specs.Conversation.{IsOther, told_of_posting, told_of_step, counted_with, found_with, IsResponseTo, MeetsAt, EndsAt, IsLast};
 
 use crate::responses::Response;
-use line_lock::{FindRefusal, Found};
+use line_lock::{FindRefusal, Posting, Reached, SearchStep, Sought};
 use station_desk::Question;
 
 /// How far the search is that a counter asked for last.
@@ -35,6 +35,16 @@ impl Step {
         response: None,
         is_last: false,
     };
+
+    // The last one, of which this is told.
+    fn last(response: Response) -> Step
+        ensures { result ≡ record { response = Some response; is_last = true } }
+    {
+        Step {
+            response: Some(response),
+            is_last: true,
+        }
+    }
 }
 
 impl Search {
@@ -47,52 +57,61 @@ impl Search {
 
     /// What is asked next.
     pub(crate) fn question(&self, reference: u64) -> Question
-        ensures { result ≡ Question.Find reference self.now.from self.now.end }
+        ensures { result ≡ Question.Search (Sought.Reference reference) self.now.from self.now.end }
     {
-        Question::Find {
-            reference,
+        Question::Search {
+            sought: Sought::Reference(reference),
             from: self.from,
             end: self.end,
         }
     }
 
     /// Goes on by what was found.
-    pub(crate) fn go_on(&mut self, reference: u64, found: Result<Found, FindRefusal>) -> Step
+    pub(crate) fn go_on(&mut self, reference: u64, found: Result<SearchStep, FindRefusal>) -> Step
         ensures other { IfSome result.response IsOther }
         ensures right { IfSome result.response (IsResponseTo (Asked (Find reference))) }
-        ensures meets { IfOk found (λ step. MeetsAt self.old.from step self.new.from) }
-        ensures moment { IfOk found (λ step. EndsAt self.old.end step self.new.end) }
+        ensures meets { IfOk found (λ step. MeetsAt self.old.from step.reached self.new.from) }
+        ensures moment { IfOk found (λ step. EndsAt self.old.end step.reached self.new.end) }
         ensures told { result.response ≡ told_of_step self.old.count reference found }
         ensures counted { self.new.count ≡ found_with self.old.count found }
         ensures last { IsTrue result.is_last ↔ IsLast found }
     {
-        match found {
-            Ok(Found::Posted { number, end }) => {
-                self.count = self.count.saturating_add(1);
-                self.from = number.saturating_add(1);
-                self.end = end;
-                Step {
-                    response: Some(Response::Found { number, reference }),
-                    is_last: false,
-                }
-            }
-            Ok(Found::Further { number, end }) => {
+        let step = match found {
+            Ok(step) => step,
+            Err(refusal) => return Step::last(Response::NotFound(refusal)),
+        };
+        match step.reached {
+            Reached::Further { number, end, .. } => {
                 self.from = number;
                 self.end = end;
-                Step::UNDER_WAY
+                self.tell(reference, step.posting)
             }
-            Ok(Found::LookingBack) => Step::UNDER_WAY,
-            Ok(Found::Nowhere(since)) => Step {
-                response: Some(Response::FoundInAll {
-                    count: self.count,
-                    since,
-                }),
-                is_last: true,
-            },
-            Err(refusal) => Step {
-                response: Some(Response::NotFound(refusal)),
-                is_last: true,
-            },
+            Reached::LookingBack => Step::UNDER_WAY,
+            Reached::All { since, .. } => Step::last(Response::FoundInAll {
+                count: self.count,
+                since,
+            }),
+        }
+    }
+
+    // Tells of the record that was found, if one was.
+    fn tell(&mut self, reference: u64, posting: Option<Posting>) -> Step
+        ensures told { result.response ≡ told_of_posting reference posting }
+        ensures counted { self.new.count ≡ counted_with self.old.count posting }
+        ensures from { self.new.from ≡ self.old.from }
+        ensures end { self.new.end ≡ self.old.end }
+        ensures goes_on { result.is_last ≡ false }
+    {
+        let Some(posting) = posting else {
+            return Step::UNDER_WAY;
+        };
+        self.count = self.count.saturating_add(1);
+        Step {
+            response: Some(Response::Found {
+                number: posting.number,
+                reference,
+            }),
+            is_last: false,
         }
     }
 }

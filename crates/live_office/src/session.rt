@@ -289,11 +289,13 @@ impl Session {
         question: Question,
     ) -> Option<Report>
         requires behind { self.old.postings.unanswered ≡ 0 }
-        requires right { IsAskedBy self.old.next self.old.search self.old.look.from question }
+        requires right { IsAskedBy self.old.next self.old.search self.old.station
+            self.old.look.from question }
         ensures feed { self.new.postings.feed ≡ self.old.postings.feed }
         ensures next { self.new.next ≡ self.old.next }
         ensures room { self.new.responses ≡ self.old.responses }
         ensures unanswered { self.new.postings.unanswered ≡ self.old.postings.unanswered }
+        ensures station { self.new.station ≡ self.old.station }
     {
         if !self.is_asked {
             self.is_asked = true;
@@ -315,7 +317,7 @@ impl Session {
     {
         match self.report(rt, scheduler, Question::Balance(account)) {
             Some(Report::Balance(answer)) => self.respond(Response::of_balance(account, answer)),
-            Some(Report::Found(_) | Report::Latest(_) | Report::Room(_)) | None => false,
+            Some(Report::Searched(_) | Report::Room(_)) | None => false,
         }
     }
 
@@ -328,7 +330,7 @@ impl Session {
         ensures next { self.new.next ≡ self.old.next }
     {
         let question = self.search.question(reference);
-        let Some(Report::Found(found)) = self.report(rt, scheduler, question) else {
+        let Some(Report::Searched(found)) = self.report(rt, scheduler, question) else {
             return false;
         };
         let step = self.search.go_on(reference, found);

@@ -32,7 +32,9 @@ fn write_refusal<W: fmt::Write>(
             Some(told) => write!(f, "device failed: {path} {told}"),
             None => f.write_str("device failed"),
         },
-        LedgerRefusal::Held(_) => f.write_str("migrate refused NotEmpty"),
+        LedgerRefusal::HasLedger | LedgerRefusal::HasPart(_) | LedgerRefusal::HasOther => {
+            f.write_str("migrate refused NotEmpty")
+        }
         LedgerRefusal::Part(PartFault::OtherVersion(version)) => {
             write!(f, "migrate refused Source Version {version}")
         }

@@ -12,7 +12,7 @@ use crate::request::{OlderLedger, Running, ScriptFile};
 use console_engine::{ScriptFault, run_script};
 use file_device::{FileDevice, Making};
 use journal_recovery::{MigrateRefusal, OpenRefusal, may_hold_postings, migrate};
-use ledger_file::{FileFault, HeldFault, LedgerRefusal, open_for_script};
+use ledger_file::{FileFault, LedgerRefusal, open_for_script};
 use office_counters::{RosterPath, note_script};
 use script_streams::write_all;
 use sector_device::{Device, MemoryDevice};
@@ -93,7 +93,7 @@ fn upgraded<'a, F: Files<File = File> + AllocGlobal, W: Write>(
     let device = opened(rt, file, sectors)?;
     let (device, migrated) = migrate_onto(rt.alloc(), old, device, slots.get());
     let Some(migrated) = migrated else {
-        let held = LedgerRefusal::Held(HeldFault::Ledger);
+        let held = LedgerRefusal::HasLedger;
         return Err(Fault::of_ledger(file.path, held));
     };
     migrated.map_err(|refusal| Fault::of_migration(path, file.path, refusal))?;

@@ -130,7 +130,9 @@ impl From<LedgerRefusal> for Status {
             LedgerRefusal::Missing => Status::Failed,
             LedgerRefusal::NoLedger
             | LedgerRefusal::Part(_)
-            | LedgerRefusal::Held(_)
+            | LedgerRefusal::HasLedger
+            | LedgerRefusal::HasPart(_)
+            | LedgerRefusal::HasOther
             | LedgerRefusal::TooSmall { .. } => Status::Refused,
         }
     }

@@ -3,7 +3,7 @@ use Rattle.std.specs.Prelude.{◌≡◌}
 use Rattle.sector_device.specs.Device.{DeviceState}
 use Rattle.four_state.specs.Configuration.{Configuration}
 use Rattle.line_lock.specs.Seat.{SeatState}
-use Rattle.line_lock.specs.Asked.{WasToldBalance, WasToldRoom, WasSearched, WasToldLatest}
+use Rattle.line_lock.specs.Asked.{WasToldBalance, WasToldRoom, WasSearched}
 use Rattle.station_desk.specs.declared.errand.Question.{Question}
 use Rattle.station_desk.specs.declared.errand.Question.TheVariants as question
 use Rattle.station_desk.specs.declared.errand.Report.{Report}
@@ -13,7 +13,6 @@ use Rattle.station_desk.specs.declared.errand.Report.TheVariants as report
 -- as the seat notes it.
 abbrev pub IsReportOn : {D : Type 0} → (D → DeviceState) → DeviceState → Configuration → SeatState → SeatState → Question → Report → Type 0
 IsReportOn state device from old new (question.Balance account) (report.Balance answer) = WasToldBalance state device from old new account answer
-IsReportOn state device from old new (question.Find reference first end) (report.Found answer) = WasSearched state device from old new reference first end answer
-IsReportOn state device from old new (question.Latest limit first) (report.Latest answer) = WasToldLatest state device from old new limit first answer
+IsReportOn state device from old new (question.Search sought first end) (report.Searched answer) = WasSearched state device from old new sought first end answer
 IsReportOn state device from old new question.Room (report.Room room) = WasToldRoom state device from room × (new ≡ old)
 IsReportOn state device from old new _ _ = ⊥

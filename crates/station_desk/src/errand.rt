@@ -2,7 +2,9 @@
 ghost use Rattle.line_lock.specs.Asked.{NotesAlone};
 ghost use Rattle.station_desk.specs.Asked.{IsReportOn};
 
-use line_lock::{BalanceRefusal, Count, FindRefusal, Found, Latest, Office, OpenedOn, Room, Seat};
+use line_lock::{
+    BalanceRefusal, Count, FindRefusal, Office, OpenedOn, Room, SearchStep, Seat, Sought,
+};
 use sector_device::Device;
 use std::sync::Wait;
 
@@ -22,22 +24,14 @@ pub enum Errand {
 pub enum Question {
     /// What the account of this number holds.
     Balance(u32),
-    /// Which is the first record with an entry of this reference, from the record of a number on, and before another.
-    Find {
-        /// The entry's reference.
-        reference: u64,
+    /// What a step of a search finds, from the record of a number on, and before another.
+    Search {
+        /// What is looked for.
+        sought: Sought,
         /// The number of the first record that is looked at.
         from: u64,
         /// The number behind the last one.
         end: u64,
-    },
-    /// Which is the station's own posting with the greatest reference above 0 and at most a limit, from the record of a
-    /// number on.
-    Latest {
-        /// The greatest reference that is looked for.
-        limit: u64,
-        /// The number of the first record that is looked at.
-        from: u64,
     },
     /// How far the ledger is, and how much room its live bank has.
     Room,
@@ -48,10 +42,8 @@ pub enum Question {
 pub enum Report {
     /// What the account holds, or why that isn't told.
     Balance(Result<u64, BalanceRefusal>),
-    /// What one step of the search found, or why it wasn't made.
-    Found(Result<Found, FindRefusal>),
-    /// What one step of the search for the station's latest posting tells, or why it wasn't made.
-    Latest(Result<Latest, FindRefusal>),
+    /// What the step tells, or why it wasn't made.
+    Searched(Result<SearchStep, FindRefusal>),
     /// How far the ledger is, and how much room its live bank has.
     Room(Room),
 }
@@ -68,12 +60,9 @@ pub(crate) fn put_question<D: Device, L: Count + OpenedOn, R: Wait>(
 {
     match question {
         Question::Balance(account) => Report::Balance(office.balance(rt, seat, account)),
-        Question::Find {
-            reference,
-            from,
-            end,
-        } => Report::Found(office.find(rt, seat, reference, from, end)),
-        Question::Latest { limit, from } => Report::Latest(office.latest(rt, seat, limit, from)),
+        Question::Search { sought, from, end } => {
+            Report::Searched(office.search(rt, seat, sought, from, end))
+        }
         Question::Room => Report::Room(office.room(rt)),
     }
 }

@@ -26,8 +26,8 @@ pub use errand::{Errand, Question, Report};
 pub use feed::Feed;
 pub use gate::Gate;
 pub use line_lock::{
-    BalanceRefusal, Count, FindRefusal, Found, Latest, Office, OpenedOn, Posting, Reached, Room,
-    Seat,
+    BalanceRefusal, Count, FindRefusal, Office, OpenedOn, Posting, Reached, Room, SearchStep, Seat,
+    Sought,
 };
 pub use messages::{Answer, Ask, Outcome};
 pub use reconciling::{Reconciled, reconcile};

@@ -17,6 +17,5 @@ mod FarBack
 mod InSight
 mod AsPosted
 mod LastBatches
+mod Picks
 mod Told
-mod Latests
-mod ToldLatest

@@ -9,9 +9,9 @@ pub mod Reply
 pub mod Opened
 pub mod Answered
 pub mod Journaled
+pub mod Sought
+pub mod Search
 pub mod Found
-pub mod Searched
-pub mod Latest
 pub mod FarBack
 pub mod Lives
 pub mod View

@@ -45,7 +45,7 @@ pub enum FindRefusal {
 }
 
 impl From<ReadRefusal> for FindRefusal {
-    ghost use Rattle.turn_clerk.specs.Searched.{find_refusal_of};
+    ghost use Rattle.turn_clerk.specs.Search.{find_refusal_of};
     ghost use Rattle.std.specs.Prelude.{◌≡◌};
 
     ghost from_gives = { λ refusal found. found ≡ find_refusal_of refusal };

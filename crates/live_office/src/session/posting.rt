@@ -140,14 +140,14 @@ impl Session {
         limit: u64,
     ) -> Option<Result<Seen, FindRefusal>>
         requires behind { self.old.postings.unanswered ≡ 0 }
-        requires right { MayLook self.old.next limit }
+        requires right { MayLook self.old.next self.old.station limit }
         ensures feed { self.new.postings.feed ≡ self.old.postings.feed }
         ensures next { self.new.next ≡ self.old.next }
         ensures room { self.new.responses ≡ self.old.responses }
         ensures unanswered { self.new.postings.unanswered ≡ self.old.postings.unanswered }
     {
-        let question = self.look.question(limit);
-        let Some(Report::Latest(step)) = self.report(rt, scheduler, question) else {
+        let question = self.look.question(self.station, limit);
+        let Some(Report::Searched(step)) = self.report(rt, scheduler, question) else {
             return None;
         };
         let seen = self.look.go_on(step);
@@ -155,7 +155,7 @@ impl Session {
             self.look = Look::starting_at(self.first);
             return seen;
         }
-        let question = self.look.question(limit);
+        let question = self.look.question(self.station, limit);
         let _ = self.report(rt, scheduler, question);
         None
     }
@@ -167,7 +167,7 @@ impl Session {
         scheduler: &Scheduler,
     ) -> Option<Result<(), FindRefusal>>
         requires behind { self.old.postings.unanswered ≡ 0 }
-        requires right { MayLook self.old.next u64.MAX }
+        requires right { MayLook self.old.next self.old.station u64.MAX }
         ensures feed { self.new.postings.feed ≡ self.old.postings.feed }
         ensures next { self.new.next ≡ self.old.next }
         ensures room { self.new.responses ≡ self.old.responses }
@@ -193,7 +193,7 @@ impl Session {
         scheduler: &Scheduler,
     ) -> Option<Result<Seen, FindRefusal>>
         requires behind { self.old.postings.unanswered ≡ 0 }
-        requires right { MayLook self.old.next u64.MAX }
+        requires right { MayLook self.old.next self.old.station u64.MAX }
         ensures feed { self.new.postings.feed ≡ self.old.postings.feed }
         ensures next { self.new.next ≡ self.old.next }
         ensures room { self.new.responses ≡ self.old.responses }
