@@ -53,7 +53,7 @@ def two_postings():
 def picked(reference):
     """That a search for the reference finds it in that record."""
     entry = f"Deposit {{ to: 1, amount: 1, reference: {reference} }}"
-    reached = "Further { began: 0, number: 3, end: 3 }"
+    reached = "Further { began: 2, number: 3, end: 3 }"
     return f"SearchStep {{ posting: Some(Posting {{ number: 2, entry: {entry} }}), reached: {reached} }}"
 
 

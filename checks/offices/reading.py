@@ -100,4 +100,4 @@ def reads_its_ledger_once(case):
     require_same(alone.open, [], "what is read of the device while the office is open")
     require(0.9 < alone.times(bank) < 1.2, f"its bank is read {alone.times(bank):.2f} times where it opens")
     kept = run_traced(case, "kept", counters, "--archive", str(books))
-    require(kept.times(bank) < 2.2, f"with an archive its bank is read {kept.times(bank):.2f} times where it opens")
+    require(1.5 < kept.times(bank) < 2.2, f"with an archive its bank is read {kept.times(bank):.2f} times where it opens")

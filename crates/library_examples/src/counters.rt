@@ -23,7 +23,9 @@ struct Sample {
 }
 
 impl Keeper for Sample {
-    ghost so_far = { λ _. Kept.NoArchive };
+    ghost use Rattle.live_office.specs.declared.recess.Kept.TheVariants.{NoArchive};
+
+    ghost so_far = { λ _. NoArchive };
 
     fn keep<D: Device>(&mut self, journal: Journal<D>) -> (D, Kept) {
         (journal.into_device(), Kept::NoArchive)

@@ -250,9 +250,9 @@ impl<D: Device, L: Count + OpenedOn> Office<D, L> {
         self.locked.lock(rt).balance(seat, account)
     }
 
-    /// Looks for what is sought in the records in sight, as [`Clerk::search`] does; it may wait for the lock. A call takes
-    /// the lock for one step, of [`turn_clerk::SEARCH_STEP`] records at most: between the calls of a long search others
-    /// may take turns. The seat notes if it is told of a fault, for closing the office.
+    /// Looks for what is sought in the records in sight, as [`Clerk::search`] does; it may wait for the lock. A call
+    /// takes the lock for one step, of [`turn_clerk::SEARCH_STEP`] records at most: between the calls of a long search
+    /// others may take turns. The seat notes if it is told of a fault, for closing the office.
     ///
     /// # Errors
     /// [`FindRefusal`], the first that holds.

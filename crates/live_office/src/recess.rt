@@ -52,6 +52,7 @@ impl Kept {
 /// Who keeps the archive of an office, looks into it, and makes copies of its ledger.
 pub trait Keeper {
     ghost use Rattle.office_day.specs.Archive.{no_archive};
+    ghost use Rattle.live_office.specs.declared.recess.Kept.{Kept};
 
     /// The archive, which an office that doesn't say so has none of.
     ghost archive: { Self → Archive } = { λ _. no_archive };

@@ -1,5 +1,5 @@
 //! Who keeps the archive of an office, and makes copies of its ledger.
-ghost use Rattle.std.specs.Prelude.{◌≡◌};
+ghost use Rattle.std.specs.Prelude.{◌≡◌, ◌≢◌, IfOk};
 ghost use Rattle.sector_device.specs.Crash.{WasLookedAt};
 ghost use Rattle.office_engine.specs.Copies.{told_as};
 ghost use Rattle.office_engine.specs.FolderArchive.{folder_archive};
@@ -113,6 +113,7 @@ impl<'a, 'r, R: Files<File = File> + AllocGlobal + Clone + Drop> Archivist<'a, '
     // Adds what the archive lacks, if there is one, and how far it is.
     fn add<D: Device>(&self, journal: Journal<D>) -> (D, Result<Kept, OfficeFault<'a>>)
         ensures looked { WasLookedAt (D.state journal.device) (D.state result.0) }
+        ensures told { IfOk result.1 (λ kept. kept ≢ Kept.Failed) }
     {
         if let Some(path) = self.lost() {
             return (journal.into_device(), Err(OfficeFault::Lost { path }));

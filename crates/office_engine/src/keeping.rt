@@ -230,26 +230,12 @@ fn open_counters<'a, R: Files<File = File> + AllocGlobal, I: Read + Drop, O: Wri
         let counter = open_counter(rt, folder, serving.hello, &mut opened)?;
         counters.push(counter).or(Err(OfficeFault::Memory))?;
     }
-    if serving.terminal
-        && counters
-            .push(terminal_counter(rt.alloc(), input, output))
-            .is_err()
-    {
-        return Err(OfficeFault::Memory);
+    if serving.terminal {
+        let (input, output) = (Source::Terminal(input), Target::Terminal(output));
+        let counter = unseated(rt.alloc(), input, output, Kind::Terminal, false);
+        counters.push(counter).or(Err(OfficeFault::Memory))?;
     }
     Ok(counters)
-}
-
-fn terminal_counter<I: Read, O: Write>(alloc: Global, input: I, output: O) -> AnyCounter<I, O> {
-    Counter {
-        station: 0,
-        since: 0,
-        identity: Identity::nobody(alloc),
-        input: Source::Terminal(input),
-        output: Target::Terminal(output),
-        kind: Kind::Terminal,
-        awaits_hello: false,
-    }
 }
 
 // The counter of a folder.
@@ -261,15 +247,27 @@ fn open_counter<'a, R: Files<File = File> + AllocGlobal, I: Read, O: Write>(
 ) -> Result<AnyCounter<I, O>, OfficeFault<'a>> {
     let input = pipe_of(rt, folder, Side::In, opened)?;
     let output = pipe_of(rt, folder, Side::Out, opened)?;
-    Ok(Counter {
+    let (input, output) = (Source::Pipe(input), Target::Pipe(output));
+    Ok(unseated(rt.alloc(), input, output, Kind::Pipes, awaits_hello))
+}
+
+// A counter that has no station yet.
+fn unseated<I: Read, O: Write>(
+    alloc: Global,
+    input: Source<File, I>,
+    output: Target<File, O>,
+    kind: Kind,
+    awaits_hello: bool,
+) -> AnyCounter<I, O> {
+    Counter {
         station: 0,
         since: 0,
-        identity: Identity::nobody(rt.alloc()),
-        input: Source::Pipe(input),
-        output: Target::Pipe(output),
-        kind: Kind::Pipes,
+        identity: Identity::nobody(alloc),
+        input,
+        output,
+        kind,
         awaits_hello,
-    })
+    }
 }
 
 fn pipe_of<'a, R: Files<File = File> + AllocGlobal>(

@@ -53,26 +53,25 @@ pub fn run_derbyfig<
         Err(error) => return tell_error(alloc, error, writer, errors).code(),
     };
     let mut doing = Doing { rt, writer };
-    let status = match request {
-        Request::Run(running) => {
-            let run = run_on_device(rt, running, &mut surroundings.input, doing.writer);
-            ended(alloc, run, errors)
-        }
+    let outcome = match request {
         Request::Serve(serving) => {
-            serve_counters(rt, &serving, surroundings, doing.writer, errors)
+            return serve_counters(rt, &serving, surroundings, doing.writer, errors).code();
         }
         Request::Inspect(wish) => {
             let is_check = matches!(wish.task, Task::Check { .. });
             let looked = inspect(rt, &wish, doing.writer, errors, shows_progress);
-            ended_looking(alloc, is_check, looked, errors)
+            return ended_looking(alloc, is_check, looked, errors).code();
         }
-        Request::Close { counter, seconds } => ended(alloc, doing.close(counter, seconds), errors),
-        Request::Status { counter } => ended(alloc, doing.tell_standing(counter), errors),
-        Request::Format { path, formatting } => ended(alloc, doing.make(path, formatting), errors),
-        Request::Copy(copying) => ended(alloc, doing.copy(copying), errors),
-        Request::Archive(archiving) => ended(alloc, doing.add_to_archive(archiving), errors),
+        Request::Run(running) => {
+            run_on_device(rt, running, &mut surroundings.input, doing.writer)
+        }
+        Request::Close { counter, seconds } => doing.close(counter, seconds),
+        Request::Status { counter } => doing.tell_standing(counter),
+        Request::Format { path, formatting } => doing.make(path, formatting),
+        Request::Copy(copying) => doing.copy(copying),
+        Request::Archive(archiving) => doing.add_to_archive(archiving),
     };
-    status.code()
+    ended(alloc, outcome, errors).code()
 }
 
 // How a command ended, which is told if it is a fault.
