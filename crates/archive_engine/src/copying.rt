@@ -1,7 +1,6 @@
 //! Copies of a ledger in a folder, each named by a number.
 ghost use Rattle.std.specs.Prelude.{◌≡◌, ◌↔◌, IfOk, IfErr, IsErrAnd};
-ghost use Rattle.sector_device.specs.Device.{AreCalls};
-ghost use Rattle.sector_device.specs.Crash.{LooksOnly};
+ghost use Rattle.sector_device.specs.Crash.{AreLooks};
 ghost use Rattle.archive_engine.specs.Faults.{IsElsewhere};
 ghost use Rattle.archive_engine.specs.Copies.{IsReadFault, IsNumberOf, refusal_of};
 
@@ -83,10 +82,9 @@ pub fn copy_to_folder<D: Device, R: Files<File = File> + AllocGlobal>(
     folder: &Folder<'_>,
     counters: RosterPath<'_>,
 ) -> (D, Result<u64, FolderCopyRefusal>)
-    ensures call { AreCalls (D.state device) (D.state result.0) (IsErrAnd result.1 IsReadFault) }
+    ensures looks { AreLooks (D.state device) (D.state result.0) (IsErrAnd result.1 IsReadFault) }
 
     // On an honest device.
-    ensures looks { LooksOnly (D.state device) (D.state result.0) }
     ensures number { (D.state device).honest
         → IfOk result.1 (λ number. IsNumberOf number (D.state device).reads) }
 {

@@ -1,7 +1,6 @@
 //! The picture of a device.
 ghost use Rattle.std.specs.Prelude.{◌≡◌, Err};
-ghost use Rattle.sector_device.specs.Device.{AreCalls};
-ghost use Rattle.sector_device.specs.Crash.{LooksOnly};
+ghost use Rattle.sector_device.specs.Crash.{AreLooks};
 
 use crate::faults::DrawFault;
 use crate::kind::Kind;
@@ -55,9 +54,8 @@ pub fn draw<D: Device, W: Write>(
     damage: Option<Place>,
     writer: &mut W,
 ) -> Result<(), DrawFault>
-    ensures call { AreCalls (D.state device.old) (D.state device.new)
+    ensures looks { AreLooks (D.state device.old) (D.state device.new)
         (result ≡ Err DrawFault.Device) }
-    ensures looks { LooksOnly (D.state device.old) (D.state device.new) }
 {
     let map = Map::read(device, damage)?;
     let mut output = Output::new(alloc, writer)?;
@@ -158,9 +156,8 @@ fn print_section<D: Device, W: Write>(
     top: u64,
     output: &mut Output<'_, W>,
 ) -> Result<(), DrawFault>
-    ensures call { AreCalls (D.state device.old) (D.state device.new)
+    ensures looks { AreLooks (D.state device.old) (D.state device.new)
         (result ≡ Err DrawFault.Device) }
-    ensures looks { LooksOnly (D.state device.old) (D.state device.new) }
 {
     let rows = section.rows();
     if rows == 0 {
@@ -200,9 +197,8 @@ fn print_row<D: Device, W: Write>(
     y: u64,
     output: &mut Output<'_, W>,
 ) -> Result<(), DrawFault>
-    ensures call { AreCalls (D.state device.old) (D.state device.new)
+    ensures looks { AreLooks (D.state device.old) (D.state device.new)
         (result ≡ Err DrawFault.Device) }
-    ensures looks { LooksOnly (D.state device.old) (D.state device.new) }
 {
     for column in 0..COLUMNS {
         let Some((from, to)) = section.cell(row, column) else {

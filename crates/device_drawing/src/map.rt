@@ -1,7 +1,6 @@
 //! What a device is drawn as: its parts in order, and the kind of each sector.
 ghost use Rattle.std.specs.Prelude.{◌≡◌, ◌≢◌, ◌⊎◌, ◌↔◌, IsErr, IsTrue, IfOk};
-ghost use Rattle.sector_device.specs.Device.{AreCalls};
-ghost use Rattle.sector_device.specs.Crash.{LooksOnly};
+ghost use Rattle.sector_device.specs.Crash.{AreLooks};
 ghost use Rattle.device_drawing.specs.Damage.{HasDamage};
 
 use crate::kind::Kind;
@@ -27,8 +26,7 @@ pub(crate) struct Map {
 impl Map {
     /// That of a device on which this byte is damaged.
     pub(crate) fn read<D: Device>(device: &mut D, damage: Option<Place>) -> Result<Map, DeviceFault>
-        ensures call { AreCalls (D.state device.old) (D.state device.new) (IsErr result) }
-        ensures looks { LooksOnly (D.state device.old) (D.state device.new) }
+        ensures looks { AreLooks (D.state device.old) (D.state device.new) (IsErr result) }
         ensures damage { IfOk result (λ map. map.damage ≡ damage) }
     {
         let plan = find_plan(device)?;
@@ -119,8 +117,7 @@ impl Map {
         from: u64,
         to: u64,
     ) -> Result<Kind, DeviceFault>
-        ensures call { AreCalls (D.state device.old) (D.state device.new) (IsErr result) }
-        ensures looks { LooksOnly (D.state device.old) (D.state device.new) }
+        ensures looks { AreLooks (D.state device.old) (D.state device.new) (IsErr result) }
         ensures damaged { IfOk result (λ kind. (kind ≡ Kind.Damaged) ↔ HasDamage self.now.damage from to) }
     {
         if self.is_damaged(from, to) {
@@ -180,8 +177,7 @@ fn greatest_kind<D: Device>(
     from: u64,
     to: u64,
 ) -> Result<Kind, DeviceFault>
-    ensures call { AreCalls (D.state device.old) (D.state device.new) (IsErr result) }
-    ensures looks { LooksOnly (D.state device.old) (D.state device.new) }
+    ensures looks { AreLooks (D.state device.old) (D.state device.new) (IsErr result) }
     ensures not_damaged { IfOk result (λ kind. kind ≢ Kind.Damaged) }
 {
     let mut greatest = Kind::Unused;
@@ -193,8 +189,7 @@ fn greatest_kind<D: Device>(
 
 // The kind of one sector.
 fn read_kind<D: Device>(device: &mut D, plan: Plan, sector: u64) -> Result<Kind, DeviceFault>
-    ensures call { AreCalls (D.state device.old) (D.state device.new) (IsErr result) }
-    ensures looks { LooksOnly (D.state device.old) (D.state device.new) }
+    ensures looks { AreLooks (D.state device.old) (D.state device.new) (IsErr result) }
     ensures not_damaged { IfOk result (λ kind. kind ≢ Kind.Damaged) }
 {
     if sector == 0 {
@@ -224,8 +219,7 @@ fn kind_by_gate<D: Device>(
     if_open: Kind,
     if_closed: Kind,
 ) -> Result<Kind, DeviceFault>
-    ensures call { AreCalls (D.state device.old) (D.state device.new) (IsErr result) }
-    ensures looks { LooksOnly (D.state device.old) (D.state device.new) }
+    ensures looks { AreLooks (D.state device.old) (D.state device.new) (IsErr result) }
     ensures one { IfOk result (λ kind. (kind ≡ if_open) ⊎ (kind ≡ if_closed)) }
 {
     if read_gate(device, gate)? {

@@ -1,7 +1,6 @@
 //! Whether a device may hold postings.
 ghost use Rattle.std.specs.Prelude.{◌≡◌, ◌≢◌, ◌⊎◌, ◌↔◌, Err, IsTrue, IfOk, IfErr};
-ghost use Rattle.sector_device.specs.Device.{AreCalls};
-ghost use Rattle.sector_device.specs.Crash.{LooksOnly};
+ghost use Rattle.sector_device.specs.Crash.{AreLooks};
 ghost use Rattle.journal_recovery.specs.Postings.{MayHoldPostings};
 
 use crate::laws::one_recovery;
@@ -17,13 +16,12 @@ use std::alloc::Global;
 /// # Errors
 /// `Memory` and `Device` alone.
 pub fn may_hold_postings<D: Device>(alloc: Global, device: D) -> (D, Result<bool, OpenRefusal>)
-    ensures call { AreCalls (D.state device) (D.state result.0)
+    ensures looks { AreLooks (D.state device) (D.state result.0)
         (result.1 ≡ Err OpenRefusal.Device) }
     ensures refused { IfErr result.1 (λ refusal.
         (refusal ≡ OpenRefusal.Memory) ⊎ (refusal ≡ OpenRefusal.Device)) }
 
     // On an honest device.
-    ensures looks { LooksOnly (D.state device) (D.state result.0) }
     ensures told { (D.state device).honest
         → IfOk result.1 (λ yes. IsTrue yes ↔ MayHoldPostings (D.state device).reads) }
 {

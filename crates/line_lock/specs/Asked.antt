@@ -1,7 +1,7 @@
 -- What an office is asked of its ledger while it is open.
 use Rattle.std.specs.Prelude.{◌≢◌, ◌≡◌, ◌+◌, ◌≤◌, ◌↔◌, ℕ, min, true, false, length, IsTrue, Result, Ok, Err, IfOk, Some, None}
-use Rattle.sector_device.specs.Device.{DeviceState, AreCalls}
-use Rattle.sector_device.specs.Crash.{LooksOnly}
+use Rattle.sector_device.specs.Device.{DeviceState}
+use Rattle.sector_device.specs.Crash.{AreLooks}
 use Rattle.four_state.specs.Configuration.{Configuration}
 use Rattle.turn_ledger.specs.State.{IsAccount, balance_of}
 use Rattle.turn_clerk.specs.Clerk.{ClerkState, KeepsHistory}
@@ -75,13 +75,12 @@ pub record WasSearched {D : Type 0} (state : D
   pub opened : WasOpenedOn state device from clerk
   pub legal : KeepsHistory clerk
   pub after : D
-  pub call : AreCalls (state clerk.journal.device) (state after) (answer ≡ Err find.Device)
+  pub looks : AreLooks (state clerk.journal.device) (state after) (answer ≡ Err find.Device)
   pub faulted : (answer ≡ Err find.Faulted) ↔ IsTrue clerk.journal.faulted
   pub looking_back : IfOk answer (λ step. step.reached ≡ LookingBack → step.posting ≡ None)
   pub numbered : IfOk answer (λ step. step.reached ≢ LookingBack → IsStepFromSome clerk.journal sought first end step)
   pub note : new ≡ searched old answer
   -- on an honest device
-  pub looks : LooksOnly (state clerk.journal.device) (state after)
   pub picked : device.honest → IfOk answer (λ step. step.reached ≢ LookingBack → HasPicked state clerk sought first end step)
   pub batches : device.honest → IfOk answer (λ step. step.reached ≢ LookingBack
       → TellsOfPostings clerk sought first (end_of_step (min end clerk.journal.next) step.reached) step.posting)

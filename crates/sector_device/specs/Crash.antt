@@ -2,7 +2,7 @@
 use Rattle.std.specs.Prelude.{◌≡◌, ◌⊎◌, ◌<◌, ◌≤◌, ℕ, length}
 use Rattle.std.proofs.Common.{inl, inr, ⊎_elim, refl, sym, ◌∙◌, subst, arith}
 use Rattle.sector_device.specs.Image.{Image, DiffersAt, differs_nowhere}
-use Rattle.sector_device.specs.Device.{DeviceState, IsSound}
+use Rattle.sector_device.specs.Device.{AreCalls, DeviceState, IsSound, calls_joined, not_called}
 
 -- A call took its time: a crash since an earlier moment might have left what it might have left before the
 -- call, or what it may leave now; and none of it is forgotten.
@@ -79,6 +79,11 @@ pub record OnlyLooks (old new : DeviceState) : Type 0 where
 abbrev pub LooksOnly : DeviceState → DeviceState → Type 0
 LooksOnly old new = old.honest → OnlyLooks old new
 
+-- Calls that only look: what any calls keep, and an honest device was read and synced, and not written.
+pub record AreLooks (old new : DeviceState) (fault : Type 0) : Type 0 where
+  pub call : AreCalls old new fault
+  pub only : LooksOnly old new
+
 -- The device was looked at: it has as many sectors, is honest where it was and only there, and an honest one was read
 -- and synced, and not written.
 pub record WasLookedAt (old new : DeviceState) : Type 0 where
@@ -106,6 +111,20 @@ looks_joined old mid new first second = record {
   reads = second.reads ∙ first.reads;
   nothing_more = λ image left. first.nothing_more image (second.nothing_more image left);
   crash = joined old mid new old.may_leave first.crash (weakened mid new mid.may_leave old.may_leave first.nothing_more second.crash);
+}
+
+-- one look, none, and two runs of looks, of which either tells of a fault
+pub are_looks_once : (old new : DeviceState) (fault : Type 0) → (old.honest → IsSound old) → AreCalls old new fault → (old.honest → IsLook old new) → AreLooks old new fault
+are_looks_once old new fault sound call same = record { call = call; only = λ honest. looked_once old new (sound honest) (same honest) }
+
+pub are_looks_nowhere : (state : DeviceState) (fault : Type 0) → (state.honest → IsSound state) → (fault → ⊥) → AreLooks state state fault
+are_looks_nowhere state fault sound none = record { call = not_called state fault none; only = λ honest. looked_nowhere state (sound honest) }
+
+pub are_looks_joined : (old mid new : DeviceState) (first second either : Type 0) → (either → first ⊎ second) → (first ⊎ second → either)
+    → AreLooks old mid first → AreLooks mid new second → AreLooks old new either
+are_looks_joined old mid new first second either which told before after = record {
+  call = calls_joined old mid new first second either which told before.call after.call;
+  only = λ honest. looks_joined old mid new (before.only honest) (after.only (before.call.stays_honest honest));
 }
 
 -- A write to a device with nothing pending: a crash within it, or after it, leaves what reads gave, but for some 512

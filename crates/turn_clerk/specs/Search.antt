@@ -1,5 +1,5 @@
 -- What one step of a search tells of the records that are in sight.
-use Rattle.std.specs.Prelude.{◌≡◌, ◌+◌, ◌<◌, ◌≤◌, ℕ, max, min, Option, Some, IfSome}
+use Rattle.std.specs.Prelude.{◌≡◌, ◌≢◌, ◌+◌, ◌<◌, ◌≤◌, ℕ, max, min, Option, Some, None, IfSome}
 use Rattle.sector_device.specs.Device.{DeviceState}
 use Rattle.gate_journal.specs.Record.{RecordData}
 use Rattle.gate_journal.specs.Reading.{BankContents}
@@ -9,6 +9,9 @@ use Rattle.gate_journal.specs.declared.refusals.ReadRefusal.{ReadRefusal}
 use Rattle.gate_journal.specs.declared.refusals.ReadRefusal.TheVariants as read
 use Rattle.turn_ledger.specs.declared.entry.Entry.{Entry}
 use Rattle.journal_recovery.specs.Places.{IsEntryAt}
+use Rattle.journal_recovery.specs.LookBack.{GoesOn}
+use Rattle.journal_recovery.specs.declared.looking_back.LookBack.{LookBack}
+use Rattle.journal_recovery.specs.declared.looking_back.LookBack.TheVariants.{Known}
 use Rattle.journal_recovery.specs.Sight.{Sight, IsInSight, numbered}
 use Rattle.turn_clerk.specs.Sought.{Fits, IsOf, IsOver, IsPicked}
 use Rattle.turn_clerk.specs.declared.refusals.FindRefusal.{FindRefusal}
@@ -88,6 +91,12 @@ pub record IsStepFromSome {D : Type 0} (journal : JournalState D) (sought : Soug
   pub at_least : journal.live.base ≤ base + journal.slots
   pub reached : IsReached base (min end journal.next) from sought step.posting step.reached
   pub posting : IfSome step.posting (IsWithin sought (max from base) (end_of_step (min end journal.next) step.reached))
+
+-- A step that only looks back picks nothing: it looks at 256 more slots of the bank that isn't live, and some are left.
+pub record HasLookedBack (slots : ℕ) (old new : LookBack) (step : SearchStep) : Type 0 where
+  pub none : step.posting ≡ None
+  pub goes_on : GoesOn slots old new
+  pub unknown : (found : Option EarlierBank) → new ≢ Known found
 
 -- Of the records that are in sight of a journal with these contents, what is told is so of those that were looked at.
 pub record IsPickedInSight {D : Type 0} (state : D → DeviceState) (journal : JournalState D) (contents : BankContents) (sought : Sought) (from end : ℕ) (step : SearchStep) : Type 0 where

@@ -1,7 +1,6 @@
 -- the device has been read alone, and no kind was that of a damage
 use Rattle.std.proofs.Common.{◌≢◌}
-use Rattle.sector_device.specs.Device.{AreCalls}
-use Rattle.sector_device.specs.Crash.{OnlyLooks}
+use Rattle.sector_device.specs.Crash.{AreLooks}
 use Rattle.device_drawing.specs.declared.kind.Kind.TheVariants.{Damaged}
 use Rattle.device_drawing.proofs.map.greatest_kind.Given as goal
 
@@ -9,7 +8,6 @@ abbrev pub invariant-loop-sector : goal.invariant-loop-sector
 invariant-loop-sector g l =
     let state = g.D.Device.state in
     record {
-      call : AreCalls (state l.initial.device) (state l.device) ⊥;
-      looks : (state l.initial.device).honest → OnlyLooks (state l.initial.device) (state l.device);
+      looks : AreLooks (state l.initial.device) (state l.device) ⊥;
       not_damaged : l.greatest ≢ Damaged;
     }

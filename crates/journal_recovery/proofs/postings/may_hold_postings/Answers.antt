@@ -12,9 +12,9 @@ pub returns-in-Ok-clause-told : goal.returns-in-Ok-clause-told
 returns-in-Ok-clause-told g c honest =
     let state = g.D.Device.state in
     let image = (state c.args.device).reads in
-    let same : (state c.begins_as_journal.new.device).reads ≡ image = (c.begins_as_journal.ensures.looks honest).reads in
+    let same : (state c.begins_as_journal.new.device).reads ≡ image = (c.begins_as_journal.ensures.looks.only honest).reads in
     let held : State = found_state c.in-Ok.found in
-    let recovers : RecoversTo held image = subst (RecoversTo held) same (c.in-Ok.ensures.recovers (c.begins_as_journal.ensures.call.stays_honest honest)) in
+    let recovers : RecoversTo held image = subst (RecoversTo held) same (c.in-Ok.ensures.recovers (c.begins_as_journal.ensures.looks.call.stays_honest honest)) in
     let magic : HasMagic image = (c.in-Ok-true.ensures.told honest).0 c.in-Ok-true.field-0-test in
     let next : held.next ≡ c.next-next.result = sym c.next-next.ensures.value in
     let yes : c.next-next.result ≢ 0 → IsTrue (not (nat_eq c.next-next.result 0)) = search rules in
@@ -30,9 +30,10 @@ pub returns-in-Err-recover-clause-told : goal.returns-in-Err-recover-clause-told
 returns-in-Err-recover-clause-told g c honest =
     let state = g.D.Device.state in
     let image = (state c.args.device).reads in
-    let same : (state c.begins_as_journal.new.device).reads ≡ image = (c.begins_as_journal.ensures.looks honest).reads in
+    let same : (state c.begins_as_journal.new.device).reads ≡ image = (c.begins_as_journal.ensures.looks.only honest).reads in
     let magic : HasMagic image = (c.in-Ok-true.ensures.told honest).0 c.in-Ok-true.field-0-test in
     let other = c.if-is_of_image.ensures.0 refl in
     let refused : RecoveryRefuses image c.in-Err-recover.refusal =
-    subst (λ (sectors : Image). RecoveryRefuses sectors c.in-Err-recover.refusal) same (c.in-Err-recover.ensures.refused (c.begins_as_journal.ensures.call.stays_honest honest) other.0 other.1) in
+    let still = c.begins_as_journal.ensures.looks.call.stays_honest honest in
+    subst (λ (sectors : Image). RecoveryRefuses sectors c.in-Err-recover.refusal) same (c.in-Err-recover.ensures.refused still other.0 other.1) in
     (λ _. record { begins = magic; not_fresh = λ s is _. c.one_recovery.ensures.refused image s c.in-Err-recover.refusal is refused }, λ _. refl)
