@@ -2,3 +2,4 @@ pub mod Fronts
 pub mod Lists
 pub mod Wholes
 pub mod Both
+pub mod OneSight

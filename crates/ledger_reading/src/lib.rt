@@ -7,6 +7,7 @@
 #![tactic(auto)]
 
 mod any_journal;
+mod laws;
 mod listing;
 mod numbers;
 mod sound;
@@ -14,6 +15,7 @@ mod sound;
 pub use any_journal::AnyJournal;
 pub use gate_journal::{Journal, OldJournal, ReadRefusal};
 pub use journal_recovery::{Cause, OpenRefusal};
+pub use laws::listed_is_in_sight;
 pub use listing::{Listed, Listing};
 pub use numbers::Numbers;
 pub use sector_device::Device;
