@@ -266,6 +266,10 @@ pub record IsOver (feed : FeedState) (conversation : ConversationState) : Type 0
   pub said : ∥ WereTakenUp conversation.said conversation.told (entries_of feed.asked) conversation.unheard ∥₁
   pub above : AreAbove feed.asked feed.collected
 
+-- a conversation that is over stays so, whatever its feed
+abbrev pub StaysOver : ConversationState → ConversationState → Type 0
+StaysOver old new = (feed : FeedState) → IsOver feed old → IsOver feed new
+
 -- The same of what became of its requests: those whose answers were collected, those whose answers weren't, and those
 -- without an answer. The references above 0 of those that were posted rise.
 pub record IsHeard (conversation : ConversationState) (collected : List Answer) (day : StationDay) : Type 0 where

@@ -1,7 +1,6 @@
 //! What was said at a counter, and what it was told.
 ghost use Rattle.std.specs.Prelude.{◌≡◌, ◌⊎◌, ◌<◌, ◌≤◌, [], ◌∷◌, ◌++◌, false, length, true, IfOk, IsTrue, OnOk};
-ghost use Rattle.station_desk.specs.Rings.{FeedState};
-ghost use Rattle.live_office.specs.Conversation.{pending, posting_of, IsOther, IsOver, IsBehindUnanswered, IsToldNoMore};
+ghost use Rattle.live_office.specs.Conversation.{pending, posting_of, IsOther, IsBehindUnanswered, StaysOver, IsToldNoMore};
 
 use crate::messages::Message;
 use crate::recent::Recent;
@@ -92,7 +91,7 @@ impl Conversation {
         clock: &C,
         is_answered: bool,
     ) -> Result<(), AllocError>
-        ensures over { OnOk result ((feed : FeedState) → IsOver feed self.old → IsOver feed self.new) }
+        ensures over { OnOk result (StaysOver self.old self.new) }
         ensures silent { OnOk result (IsBehindUnanswered is_answered self.old.unheard
             → self.new.told ≡ self.old.told) }
     {
@@ -110,7 +109,7 @@ impl Conversation {
 
     // Takes what the reader has handed on.
     fn take_waiting(&mut self, is_answered: bool) -> Result<(), AllocError>
-        ensures over { OnOk result ((feed : FeedState) → IsOver feed self.old → IsOver feed self.new) }
+        ensures over { OnOk result (StaysOver self.old self.new) }
         ensures silent { OnOk result (IsBehindUnanswered is_answered self.old.unheard
             → self.new.told ≡ self.old.told) }
         ensures listed { OnOk result (length self.old.unheard ≤ length self.new.unheard) }
@@ -127,7 +126,7 @@ impl Conversation {
 
     /// Answers a question that comes too late, if all before it is answered.
     pub(crate) fn refuse(&mut self, message: &Message, is_answered: bool)
-        ensures over { (feed : FeedState) → IsOver feed self.old → IsOver feed self.new }
+        ensures over { StaysOver self.old self.new }
         ensures no_more { self.old.is_silent ≡ true → self.new ≡ self.old }
         ensures silent { IsBehindUnanswered is_answered self.old.unheard
             → self.new.told ≡ self.old.told }
@@ -161,7 +160,7 @@ impl Conversation {
 
     /// Answers the question that would have come next, if all before it is answered.
     pub(crate) fn refuse_next(&mut self, next: Option<Message>, is_answered: bool)
-        ensures over { (feed : FeedState) → IsOver feed self.old → IsOver feed self.new }
+        ensures over { StaysOver self.old self.new }
         ensures silent { IsBehindUnanswered is_answered self.old.unheard
             → self.new.told ≡ self.old.told }
         ensures unheard { self.new.unheard ≡ self.old.unheard }
@@ -173,7 +172,7 @@ impl Conversation {
 
     /// Tells the counter that the office closes.
     pub(crate) fn tell_closing(&mut self)
-        ensures over { (feed : FeedState) → IsOver feed self.old → IsOver feed self.new }
+        ensures over { StaysOver self.old self.new }
         ensures told { IsToldNoMore self.old.told self.new.told }
     {
         if !self.is_told_closing {
@@ -186,7 +185,7 @@ impl Conversation {
     // Tells the counter something else than an answer. Where there is no place for it, it is told no more of that kind.
     fn tell(&mut self, response: Response)
         requires other { IsOther response }
-        ensures over { (feed : FeedState) → IsOver feed self.old → IsOver feed self.new }
+        ensures over { StaysOver self.old self.new }
         ensures no_more { self.old.is_silent ≡ true → self.new ≡ self.old }
         ensures told { (self.new.told ≡ self.old.told ++ response ∷ [])
             ⊎ ((self.new.told ≡ self.old.told) × (self.new.is_silent ≡ true)) }
@@ -203,7 +202,7 @@ impl Conversation {
     // Hands a response that is no answer to the counter's writer, if there is a place for it.
     fn hand_on(&mut self, response: Response) -> bool
         requires other { IsOther response }
-        ensures over { (feed : FeedState) → IsOver feed self.old → IsOver feed self.new }
+        ensures over { StaysOver self.old self.new }
         ensures told { IsTrue result → self.new.told ≡ self.old.told ++ response ∷ [] }
         ensures untold { result ≡ false → self.new.told ≡ self.old.told }
         ensures unheard { self.new.unheard ≡ self.old.unheard }
