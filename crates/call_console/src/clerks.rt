@@ -9,7 +9,7 @@ use crate::said::Said;
 use crate::told::Told;
 use live_office::Look;
 use station_desk::Question;
-use turn_clerk::{Clerk, Event, Sought};
+use turn_clerk::{Clerk, Event, Sought, Turn, TurnRefusal};
 
 /// `clerk STATIONS XBITS UPBITS`: opens a clerk on the device.
 pub fn open_clerk(device: Bench, hand: &mut Hand, said: &mut Said<'_>, told: &mut Told) -> Scene {
@@ -187,12 +187,17 @@ fn add_event(hand: &mut Hand, said: &mut Said<'_>, told: &mut Told) {
 // `run`: the events so far, each with its reply.
 fn run_events(clerk: &mut Clerk<Bench>, hand: &mut Hand, told: &mut Told) {
     let mut replies = Vec::new(hand.alloc);
-    if let Err(error) = clerk.run(hand.events.as_slice(), &mut replies) {
-        told.refused(&error);
-        return;
+    match clerk.run(hand.events.as_slice(), &mut replies) {
+        Ok(()) => {
+            tell_replies(&replies, told);
+            hand.events.clear();
+        }
+        Err(error) => told.refused(&error),
     }
-    hand.events.clear();
-    for reply in replies.iter() {
+}
+
+fn tell_replies(replies: &[Result<Turn, TurnRefusal>], told: &mut Told) {
+    for reply in replies {
         told.turned(reply);
     }
 }
