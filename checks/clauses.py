@@ -16,7 +16,7 @@ PROOFS_NEVER_OVER = 200
 LONG_TEXT = 60
 MOST_TIMES = 7
 
-OF_TESTS = re.compile(r"\w+_tests|library_examples|call_console")
+OF_TESTS = re.compile(r"\w+_tests|test_examples|test_console")
 FUNCTION = re.compile(r"(\s*)(pub (?!\()|pub\([\w: ]+\) )?(?:const )?(?:unsafe )?fn (\w+)")
 OWNER = re.compile(r"(?:pub )?(?:unsafe )?(?:impl|trait)\b")
 PROMISES_OF_A_TRAIT = re.compile(r"(?:pub )?(?:unsafe )?(?:trait\b|impl\b.* for )")

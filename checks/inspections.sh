@@ -10,7 +10,7 @@ set -euo pipefail
 console=$(realpath "${1:?the first word is the built turn_console}")
 derbyfig=$(realpath "${2:?the second word is the built derbyfig}")
 cd "$(dirname "$0")/.."
-wanted=$PWD/checks/inspections man=$PWD/docs/man commands=$PWD/crates/program_front/src/commands.rt
+wanted=$PWD/checks/inspections man=$PWD/docs/man commands=$PWD/crates/front_program/src/commands.rt
 work=$(mktemp -d)
 trap 'kill $(jobs -p) 2> /dev/null || true; rm -rf "$work"' EXIT
 cd "$work"

@@ -4,11 +4,11 @@
 # it in a line. A file is as before, or has all its sectors, and the same command does it once nothing is refused. So are
 # those of the test that makes the flags of a held call, which makes them again.
 #
-# Words: the program that was built, and the tests of `library_examples` that were. Needed beside the toolchain: Python, and
+# Words: the program that was built, and the tests of `test_examples` that were. Needed beside the toolchain: Python, and
 # `cc` and `nm` (package gcc). The file devices are made below the folder BENCH_FOLDER, /var/tmp without it.
 set -euo pipefail
 program=$(realpath "${1:?the first word is the program that was built}")
-tests=$(realpath "${2:?the second word is the tests of library_examples that were built}")
+tests=$(realpath "${2:?the second word is the tests of test_examples that were built}")
 for tool in cc nm; do
     command -v "$tool" > /dev/null || { echo "$tool is missing (package gcc)"; exit 1; }
 done

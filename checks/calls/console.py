@@ -1,4 +1,4 @@
-"""One process of call_console behind a pipe."""
+"""One process of test_console behind a pipe."""
 import contextlib
 import os
 import select

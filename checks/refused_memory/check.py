@@ -1,6 +1,6 @@
 """Refuses each request for memory, and for a thread, of the program, and those of a test that makes flags.
 
-Words: the program, the tests of `library_examples`, and a folder with the library that refuses.
+Words: the program, the tests of `test_examples`, and a folder with the library that refuses.
 """
 import re
 import sys

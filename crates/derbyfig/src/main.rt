@@ -1,9 +1,9 @@
 //! Derbyfig: a crash-safe ledger of accounts, which stations in a row share.
 //!
-//! The crate `program_front` does all of it; here it is handed the words and the streams of the system.
+//! The crate `front_program` does all of it; here it is handed the words and the streams of the system.
 #![tactic(auto)]
 
-use program_front::{FileLocks, Surroundings, run_derbyfig_words, words_given};
+use front_program::{FileLocks, Surroundings, run_derbyfig_words, words_given};
 use std::io::IsTerminal;
 use std::process::ExitCode;
 

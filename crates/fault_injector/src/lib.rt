@@ -1,6 +1,6 @@
 //! Devices that fail on demand or note their calls, under the laws of devices, for tests of what stands above them.
 //!
-//! The test `a_fuse_fails_from_its_call_on` in `src/faults.rt` of the crate `library_examples` is an example.
+//! The test `a_fuse_fails_from_its_call_on` in `src/faults.rt` of the crate `test_examples` is an example.
 #![tactic(auto)]
 
 mod call;

@@ -5,7 +5,7 @@
 //! Contracts see a [`Line`] as a configuration: the list of the bits x and the list of the bits up,
 //! each from the bottom station to the top one.
 //!
-//! The test `an_example_of_a_move` in `src/lines.rt` of the crate `library_examples` is an example.
+//! The test `an_example_of_a_move` in `src/lines.rt` of the crate `test_examples` is an example.
 #![tactic(auto)]
 
 mod bits;

@@ -1,7 +1,7 @@
 -- How a fault of a file is told of a ledger.
 use Rattle.std.specs.Prelude.{◌≡◌, ◌≢◌, ◌⊎◌}
-use Rattle.file_device.specs.declared.refusal.FileFault.{FileFault}
-use Rattle.file_device.specs.declared.refusal.FileFault.TheVariants as fault
+use Rattle.device_files.specs.declared.refusal.FileFault.{FileFault}
+use Rattle.device_files.specs.declared.refusal.FileFault.TheVariants as fault
 use Rattle.gate_journal.specs.declared.refusals.FormatRefusal.{FormatRefusal}
 use Rattle.ledger_file.specs.declared.refusal.LedgerRefusal.{LedgerRefusal}
 use Rattle.ledger_file.specs.declared.refusal.LedgerRefusal.TheVariants.{Device, Missing, Format}

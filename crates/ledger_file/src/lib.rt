@@ -14,7 +14,7 @@ mod plan;
 mod refusal;
 
 pub use copying::{CopyPlace, Original, open_for_copy};
-pub use file_device::{FileDevice, FileFault, Making};
+pub use device_files::{FileDevice, FileFault, Making};
 pub use gate_journal::FormatRefusal;
 pub use journal_recovery::OpenRefusal;
 pub use opening::{Formatting, MOST_SECTORS, format_ledger, open_for_script, open_ledger};

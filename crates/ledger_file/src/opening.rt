@@ -4,7 +4,7 @@ ghost use Rattle.std.specs.Int.NonZero.{non_zero_u64_get};
 
 use crate::plan::{check_formatting, sectors_planned};
 use crate::refusal::LedgerRefusal;
-use file_device::{DeviceFile, DeviceOn, FileFault, LockedFile, MadeFile, Making, Wanted};
+use device_files::{DeviceFile, DeviceOn, FileFault, LockedFile, MadeFile, Making, Wanted};
 use gate_journal::{FirstSector, FormatRefusal, MOST_SLOTS, format, sectors_needed};
 use std::alloc::Global;
 use std::fs::Files;

@@ -3,7 +3,7 @@ ghost use Rattle.ledger_file.specs.declared.refusal.LedgerRefusal.TheVariants.{P
 ghost use Rattle.ledger_file.specs.Refusals.{IsToldAs};
 
 use crate::plan::PartFault;
-use file_device::FileFault;
+use device_files::FileFault;
 use gate_journal::FormatRefusal;
 use thiserror::Error;
 

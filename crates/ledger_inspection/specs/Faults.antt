@@ -2,10 +2,10 @@
 use Rattle.std.specs.Prelude.{◌≡◌, Bool, true, false}
 use Rattle.journal_recovery.specs.declared.refusals.OpenRefusal.{OpenRefusal}
 use Rattle.journal_recovery.specs.declared.refusals.OpenRefusal.TheVariants as opening
-use Rattle.script_streams.specs.declared.faults.StreamFault.{StreamFault}
-use Rattle.script_streams.specs.declared.faults.StreamFault.TheVariants as stream
-use Rattle.archive_engine.specs.declared.faults.ArchiveFault.TheVariants as archive
-use Rattle.archive_engine.specs.declared.faults.Part.{Part}
+use Rattle.text_streams.specs.declared.faults.StreamFault.{StreamFault}
+use Rattle.text_streams.specs.declared.faults.StreamFault.TheVariants as stream
+use Rattle.ledger_folder.specs.declared.faults.ArchiveFault.TheVariants as archive
+use Rattle.ledger_folder.specs.declared.faults.Part.{Part}
 use Rattle.ledger_inspection.specs.declared.faults.InspectionFault.{InspectionFault}
 use Rattle.ledger_inspection.specs.declared.faults.InspectionFault.TheVariants as fault
 

@@ -2,7 +2,7 @@
 ghost use Rattle.std.specs.Prelude.{◌≡◌, OnOk};
 ghost use Rattle.ledger_reading.specs.Whole.{numbers_of};
 
-use file_device::ReadOnlyFile;
+use device_files::ReadOnlyFile;
 use ledger_archive::skip_to;
 use ledger_printing::{JournalPrint, PrintFault, Progress};
 use ledger_reading::{Ledger, Listing};

@@ -3,11 +3,11 @@ ghost use Rattle.std.specs.Prelude.{◌≡◌, false};
 ghost use Rattle.ledger_inspection.specs.Faults.{denies_ledger, is_refusal, is_of_reader, IsOfOne};
 
 use crate::wrong::Wrong;
-use archive_engine::{ArchiveFault, Part};
-use file_device::FileFault;
+use ledger_folder::{ArchiveFault, Part};
+use device_files::FileFault;
 use ledger_printing::PrintFault;
 use ledger_reading::{OpenRefusal, ReadRefusal};
-use script_streams::StreamFault;
+use text_streams::StreamFault;
 use std::alloc::{AllocError, AllocFailed};
 use thiserror::Error;
 

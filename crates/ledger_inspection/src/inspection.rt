@@ -1,5 +1,5 @@
 //! What is asked of ledgers.
-use file_device::Locking;
+use device_files::Locking;
 use ledger_printing::{Date, Format, JournalWish};
 
 /// What is to be done with a ledger, or with several that are read as one book.

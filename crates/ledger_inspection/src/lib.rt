@@ -18,10 +18,10 @@ mod sound_ledger;
 mod unsound_ledger;
 mod wrong;
 
-pub use archive_engine::Part;
-pub use device_drawing::Place;
+pub use ledger_folder::Part;
+pub use ledger_drawing::Place;
 pub use faults::InspectionFault;
-pub use file_device::{FileFault, Locking};
+pub use device_files::{FileFault, Locking};
 pub use inspecting::{inspect, inspect_device};
 pub use inspection::{Inspection, Task};
 pub use ledger_printing::{Date, Format, JournalWish, Progress, Selection};

@@ -1,7 +1,7 @@
 //! What is told beside the printing: on a terminal how far it is, and that a ledger isn't locked.
-use file_device::Locking;
+use device_files::Locking;
 use ledger_printing::Progress;
-use script_streams::write_all;
+use text_streams::write_all;
 use std::alloc::Global;
 use std::io::Write;
 

@@ -2,10 +2,10 @@
 ghost use Rattle.std.specs.Prelude.{◌≡◌, ◌+◌, ◌≤◌};
 
 use crate::inspection::Task;
-use device_drawing::{DrawFault, draw};
+use ledger_drawing::{DrawFault, draw};
 use ledger_printing::{PrintFault, Progress, print_balances, print_journal};
 use ledger_reading::{Device, Numbers, ReadRefusal, Sound};
-use script_streams::{Output, StreamFault};
+use text_streams::{Output, StreamFault};
 use std::alloc::Global;
 use std::io::Write;
 

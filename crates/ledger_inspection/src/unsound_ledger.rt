@@ -5,10 +5,10 @@ ghost use Rattle.ledger_inspection.specs.Faults.{denies_ledger, is_refusal, IsOf
 use crate::faults::{InspectionFault, denies_ledger};
 use crate::inspection::Task;
 use crate::wrong::Wrong;
-use archive_engine::Part;
-use device_drawing::{DrawFault, draw, locate};
+use ledger_folder::Part;
+use ledger_drawing::{DrawFault, draw, locate};
 use ledger_reading::{Device, OpenRefusal};
-use script_streams::{StreamFault, Watched, write_all};
+use text_streams::{StreamFault, Watched, write_all};
 use std::alloc::Global;
 use std::io::Write;
 

@@ -1,5 +1,5 @@
 //! What is wrong with a ledger that isn't sound.
-use device_drawing::Place;
+use ledger_drawing::Place;
 use ledger_reading::OpenRefusal;
 use std::fmt;
 

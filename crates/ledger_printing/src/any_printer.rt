@@ -8,7 +8,7 @@ use crate::json_lines::JsonJournal;
 use crate::printer::JournalPrinter;
 use crate::table::TableJournal;
 use ledger_reading::{Ledger, Listed};
-use script_streams::StreamFault;
+use text_streams::StreamFault;
 use std::alloc::Global;
 use std::io::Write;
 

@@ -6,7 +6,7 @@ use crate::hledger::print_opening;
 use crate::json_lines::print_json;
 use crate::table::print_table;
 use ledger_reading::Ledger;
-use script_streams::StreamFault;
+use text_streams::StreamFault;
 use std::alloc::Global;
 use std::io::Write;
 

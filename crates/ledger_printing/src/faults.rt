@@ -1,6 +1,6 @@
 //! Why printing ends early.
 use ledger_reading::ReadRefusal;
-use script_streams::StreamFault;
+use text_streams::StreamFault;
 use std::alloc::AllocError;
 use thiserror::Error;
 

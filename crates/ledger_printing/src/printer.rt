@@ -1,6 +1,6 @@
 //! What each format of a journal has to print.
 use ledger_reading::{Ledger, Listed};
-use script_streams::StreamFault;
+use text_streams::StreamFault;
 
 /// A journal on its way to a writer, in one of the formats.
 pub(crate) trait JournalPrinter {

@@ -2,7 +2,7 @@
 //!
 //! [`look`] recovers a ledger of layout 1, 2 or 3, and [`Sound::list`] lists its records. Nothing is written.
 //!
-//! The test `records_are_listed_with_the_balances_after_them` in `src/listings.rt` of the crate `library_examples` is
+//! The test `records_are_listed_with_the_balances_after_them` in `src/listings.rt` of the crate `test_examples` is
 //! an example.
 #![tactic(auto)]
 

@@ -1,6 +1,6 @@
 //! One office for several counters: a clerk behind one lock, and a seat for each station of the line.
 //!
-//! The test `turns_are_listed_and_refusals_noted` in `src/offices.rt` of the crate `library_examples` is an example.
+//! The test `turns_are_listed_and_refusals_noted` in `src/offices.rt` of the crate `test_examples` is an example.
 #![tactic(auto)]
 
 mod closing;

@@ -1,7 +1,7 @@
 //! A day of an office: each of its stations works through what its clients handed in, in a thread of its own, until so
 //! many turns are taken; then the office is closed, and every request is accounted for.
 //!
-//! The test `a_day_accounts_for_each_request` in `src/days.rt` of the crate `library_examples` is an example.
+//! The test `a_day_accounts_for_each_request` in `src/days.rt` of the crate `test_examples` is an example.
 #![tactic(auto)]
 
 mod day;

@@ -5,7 +5,7 @@
 //! `MemoryDevice` keeps all of it, loses power on demand, and is what the crates above are tested on.
 //!
 //! The test `a_power_loss_takes_the_last_pick_for_each_pending_sector` in `src/devices.rt` of the crate
-//! `library_examples` is an example.
+//! `test_examples` is an example.
 #![tactic(auto)]
 
 mod device;

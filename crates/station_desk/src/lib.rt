@@ -4,7 +4,7 @@
 //! A client has a [`Feed`]: it submits entries, each under a ticket, and collects the answers. A station has a
 //! [`Desk`]: it gathers requests, takes a turn with their entries, and answers each of them, once.
 //!
-//! The test `a_turn_answers_what_was_gathered` in `src/desks.rt` of the crate `library_examples` is an example.
+//! The test `a_turn_answers_what_was_gathered` in `src/desks.rt` of the crate `test_examples` is an example.
 #![tactic(auto)]
 
 mod desk_end;

@@ -1,7 +1,7 @@
 //! The clerk of one ledger: it takes the turns of stations, journals what it accepts before it answers, and keeps the
 //! history since its opening.
 //!
-//! The test `a_run_answers_each_event_in_order` in `src/clerks.rt` of the crate `library_examples` is an example.
+//! The test `a_run_answers_each_event_in_order` in `src/clerks.rt` of the crate `test_examples` is an example.
 #![tactic(auto)]
 
 mod batches;

@@ -1,9 +1,9 @@
 //! The console: a ledger that stations in a row share, driven by a script of commands.
 //!
-//! The crate `program_front` does all of it; here it is handed the words and the streams of the system.
+//! The crate `front_program` does all of it; here it is handed the words and the streams of the system.
 #![tactic(auto)]
 
-use program_front::{run_console, words_given};
+use front_program::{run_console, words_given};
 use std::process::ExitCode;
 
 fn main(rt: HostRuntime) -> ExitCode {

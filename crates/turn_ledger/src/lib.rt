@@ -6,7 +6,7 @@
 //! an account; it is checked against the rules in their order, and either refused with the first
 //! [`EntryRefusal`] that holds, which changes nothing, or posted.
 //!
-//! The test `an_example_of_a_turn` in `src/ledgers.rt` of the crate `library_examples` is an example.
+//! The test `an_example_of_a_turn` in `src/ledgers.rt` of the crate `test_examples` is an example.
 #![tactic(auto)]
 
 mod account_balances;

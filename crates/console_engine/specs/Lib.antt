@@ -1,9 +1,0 @@
-pub mod Faults
-pub mod Clerk
-pub mod Lines
-pub use Rattle.script_grammar.specs.Grammar
-pub use Rattle.script_grammar.specs.Script
-pub use Rattle.sector_device.specs.Crash
-pub use Rattle.sector_device.specs.Device
-pub use Rattle.sector_device.specs.MemoryDevice
-pub use Rattle.sector_device.specs.Picks

@@ -1,0 +1,8 @@
+pub mod ConsoleWords
+pub mod ConsoleSettings
+pub use Rattle.front_scripts.specs.Lines
+pub use Rattle.sector_device.specs.Crash
+pub mod Statuses
+pub mod Requests
+pub mod Status
+pub mod Serving

@@ -1,0 +1,45 @@
+//! What the programs do with the words of their command lines: they read them, open the file, have an engine do what is
+//! asked for, and tell how that ended.
+//!
+//! [`run_derbyfig`] is all of `derbyfig`, and [`run_console`] all of `turn_console`. [`run_program`] and [`options`]
+//! are the parts of the latter that take words.
+//!
+//! The programs `derbyfig` and `turn_console` are examples.
+#![tactic(auto)]
+
+mod command_table;
+mod commands;
+mod console_faults;
+mod console_program;
+mod console_settings;
+mod console_words;
+mod derbyfig;
+mod faults;
+mod host;
+mod office_plan;
+mod option_table;
+mod request;
+mod running;
+mod status;
+mod telling;
+mod words;
+mod wrong_words;
+
+pub use ledger_folder::{ArchiveFault, Archived, Archiving};
+pub use commands::VERSION;
+pub use front_scripts::{LineFault, ScriptFault};
+pub use console_program::run_program;
+pub use console_settings::Options;
+pub use console_words::options;
+pub use derbyfig::run_derbyfig;
+pub use faults::Fault;
+pub use host::{run_console, run_derbyfig_words, words_given};
+pub use ledger_file::{FileFault, Formatting, LedgerRefusal};
+pub use ledger_inspection::{Date, Format, Inspection, JournalWish, Locking, Selection, Task};
+pub use office_service::{FileLocks, Serving, Surroundings};
+pub use office_plan::plan_office;
+pub use request::{Copying, OlderLedger, Origin, Request, Running, ScriptFile};
+pub use running::run_on_device;
+pub use status::Status;
+pub use words::read_request;
+pub use wrong_words::WrongWords;

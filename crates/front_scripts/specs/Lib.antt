@@ -1,0 +1,9 @@
+pub mod Faults
+pub mod Clerk
+pub mod Lines
+pub use Rattle.text_grammar.specs.Grammar
+pub use Rattle.text_grammar.specs.Script
+pub use Rattle.sector_device.specs.Crash
+pub use Rattle.sector_device.specs.Device
+pub use Rattle.sector_device.specs.MemoryDevice
+pub use Rattle.sector_device.specs.Picks

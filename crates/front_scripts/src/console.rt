@@ -1,0 +1,195 @@
+//! Runs the commands of a script, one after another.
+ghost use Rattle.std.specs.Prelude.{◌≢◌, ℕ, IfErr};
+ghost use Rattle.text_grammar.specs.declared.faults.LineFault.{LineFault};
+ghost use Rattle.front_scripts.specs.declared.faults.ScriptFault.TheVariants.{Line};
+
+use crate::faults::ScriptFault;
+use crate::power::PowerLoss;
+use crate::printing::{print_balances, print_day, print_line, print_refusal, print_turn};
+use crate::refusals::Refusal;
+use crate::script_day::NoDay;
+use crate::scripted_clerk::ScriptedClerk;
+use gate_journal::format;
+use text_grammar::{Bits, Command};
+use text_streams::{Output, StreamFault};
+use sector_device::Device;
+use std::alloc::Global;
+use std::io::Write;
+use std::num::NonZeroU64;
+use std::sync::Wait;
+use std::thread::Threads;
+use turn_clerk::TurnRefusal;
+use turn_ledger::Entry;
+
+/// The console where a script has come to: with its device alone, or with an office open on it.
+#[derive(Drop)]
+pub enum Console<D: Device> {
+    /// No office is open; this is the device.
+    Closed(D),
+    /// An office is open, with its clerk.
+    Open(ScriptedClerk<D>),
+}
+
+impl<D: PowerLoss + Drop> Console<D> {
+    /// Runs a command and prints what it answers. A fault is that of the output, or running out of memory in a day.
+    pub fn run<W: Write, R: Threads + Wait + Sync>(
+        mut self,
+        rt: &R,
+        alloc: Global,
+        command: Command<'_>,
+        output: &mut Output<'_, W>,
+    ) -> Result<Console<D>, ScriptFault>
+        ensures { IfErr result (λ fault. (line : ℕ) (cause : LineFault) → fault ≢ Line line cause) }
+    {
+        match command {
+            Command::Format { slots } => self.format(slots, output)?,
+            Command::Open { stations, x, up } => {
+                return Ok(self.open(alloc, stations, x, up, output)?);
+            }
+            Command::Post { station, entry } => self.post(station, entry, output)?,
+            Command::Turn { station } => self.turn(station, output)?,
+            Command::Bits => self.bits(output)?,
+            Command::Balances => self.balances(output)?,
+            Command::Crash => return Ok(self.crash(alloc, output)?),
+            Command::Day { moves } => return self.day(rt, alloc, moves, output),
+        }
+        Ok(self)
+    }
+
+    fn format<W: Write>(
+        &mut self,
+        slots: NonZeroU64,
+        output: &mut Output<'_, W>,
+    ) -> Result<(), StreamFault> {
+        let Console::Closed(device) = self else {
+            return print_refusal(Refusal::OfficeOpen, output);
+        };
+        match format(device, slots.get()) {
+            Ok(()) => output.line(format_args!("formatted {slots}")),
+            Err(refusal) => print_refusal(Refusal::Format(refusal), output),
+        }
+    }
+
+    fn open<W: Write>(
+        self,
+        alloc: Global,
+        stations: u64,
+        x: Bits<'_>,
+        up: Bits<'_>,
+        output: &mut Output<'_, W>,
+    ) -> Result<Console<D>, StreamFault> {
+        let device = match self {
+            Console::Closed(device) => device,
+            open => {
+                print_refusal(Refusal::OfficeOpen, output)?;
+                return Ok(open);
+            }
+        };
+        match ScriptedClerk::open(alloc, device, stations, x, up) {
+            Ok(clerk) => {
+                let next = clerk.next();
+                let total = clerk.ledger().total();
+                output.line(format_args!("opened {stations} next {next} total {total}"))?;
+                Ok(Console::Open(clerk))
+            }
+            Err((device, refusal)) => {
+                print_refusal(refusal, output)?;
+                Ok(Console::Closed(device))
+            }
+        }
+    }
+
+    fn post<W: Write>(
+        &mut self,
+        station: u64,
+        entry: Entry,
+        output: &mut Output<'_, W>,
+    ) -> Result<(), StreamFault> {
+        let Console::Open(clerk) = self else {
+            return print_refusal(Refusal::NoOffice, output);
+        };
+        match clerk.post(station, entry) {
+            Ok(count) => output.line(format_args!("held {station} {count}")),
+            Err(refusal) => print_refusal(refusal, output),
+        }
+    }
+
+    fn turn<W: Write>(
+        &mut self,
+        station: u64,
+        output: &mut Output<'_, W>,
+    ) -> Result<(), StreamFault> {
+        let Console::Open(clerk) = self else {
+            return print_refusal(Refusal::NoOffice, output);
+        };
+        if let Err(refusal) = clerk.turn(station) {
+            print_refusal(Refusal::Turn(refusal), output)?;
+        } else if let Some(turn) = clerk.history().last() {
+            print_turn(turn, output)?;
+        }
+        // an answer is worth little while it lies in a buffer
+        output.flush()
+    }
+
+    fn bits<W: Write>(&self, output: &mut Output<'_, W>) -> Result<(), StreamFault> {
+        match self {
+            Console::Open(clerk) => print_line(clerk.line(), output),
+            Console::Closed(_) => print_refusal(Refusal::NoOffice, output),
+        }
+    }
+
+    fn balances<W: Write>(&self, output: &mut Output<'_, W>) -> Result<(), StreamFault> {
+        match self {
+            Console::Open(clerk) => print_balances(clerk.ledger(), output),
+            Console::Closed(_) => print_refusal(Refusal::NoOffice, output),
+        }
+    }
+
+    fn day<W: Write, R: Threads + Wait + Sync>(
+        self,
+        rt: &R,
+        alloc: Global,
+        moves: u64,
+        output: &mut Output<'_, W>,
+    ) -> Result<Console<D>, ScriptFault>
+        ensures { IfErr result (λ fault. (line : ℕ) (cause : LineFault) → fault ≢ Line line cause) }
+    {
+        let clerk = match self {
+            Console::Open(clerk) => clerk,
+            closed => {
+                print_refusal(Refusal::NoOffice, output)?;
+                return Ok(closed);
+            }
+        };
+        if clerk.is_faulted() {
+            print_refusal(Refusal::Turn(TurnRefusal::Faulted), output)?;
+            return Ok(Console::Open(clerk));
+        }
+        match clerk.day(rt, alloc, moves) {
+            Ok((clerk, report)) => {
+                print_day(clerk.history(), &report, output)?;
+                output.flush()?;
+                Ok(Console::Open(clerk))
+            }
+            Err(NoDay::Refused(device, refusal)) => {
+                print_refusal(refusal, output)?;
+                Ok(Console::Closed(device))
+            }
+            Err(NoDay::Memory) => Err(ScriptFault::Memory),
+        }
+    }
+
+    fn crash<W: Write>(
+        self,
+        alloc: Global,
+        output: &mut Output<'_, W>,
+    ) -> Result<Console<D>, StreamFault> {
+        let device = match self {
+            Console::Closed(device) => device,
+            Console::Open(clerk) => clerk.into_device(),
+        };
+        let device = device.lose_power(alloc);
+        output.line(format_args!("crashed"))?;
+        Ok(Console::Closed(device))
+    }
+}

@@ -1,0 +1,224 @@
+//! Why nothing, or not all, was added to an archive.
+ghost use Rattle.std.specs.Prelude.{◌≡◌, ◌↔◌};
+ghost use Rattle.ledger_folder.specs.Faults.{TellsNumbers, IsReadFault, IsElsewhere, of_file, of_device};
+
+use device_files::FileFault;
+use journal_recovery::OpenRefusal;
+use ledger_reading::ReadRefusal;
+use std::alloc::AllocError;
+use std::fmt;
+use thiserror::Error;
+
+/// Why the folder of an archive, or of copies, can't be had.
+#[derive(Clone, Copy, Debug, Error)]
+pub enum FolderFault {
+    /// There is none.
+    #[error("there is no such folder; make it first")]
+    Missing,
+    /// Something else is there.
+    #[error("it is no folder")]
+    NoFolder,
+    /// Another program adds to the archive in it.
+    #[error("another program adds to this archive; wait until it has ended")]
+    InUse,
+    /// The system fails to open, lock, list, change or sync it.
+    #[error("the system fails to open, lock, list, change or sync it")]
+    Failed,
+    /// It is for copies, and the archive's folder too, where a copy would be taken for a file of the archive.
+    #[error("it is the archive's folder; the copies need another one")]
+    OfArchive,
+    /// It is for copies, and another office makes its own in it, or another program adds to an archive in it.
+    #[error("another program adds to this folder; end that one first, or take another folder")]
+    Taken,
+    /// It is for copies, and no file can be made in it.
+    #[error("no file can be made in it")]
+    Unwritable,
+}
+
+/// A ledger of an archive, whose name is the number of its first batch in twenty digits.
+#[derive(Clone, Copy, Debug)]
+pub struct Volume<'a> {
+    pub folder: &'a str,
+    pub base: u64,
+}
+
+impl fmt::Display for Volume<'_> {
+    fn fmt<W: fmt::Write>(&self, f: &mut fmt::Formatter<W>) -> fmt::Result {
+        write!(f, "{}/{:020}", self.folder, self.base)
+    }
+}
+
+/// A ledger, in a file or on a disk, or one of an archive.
+#[derive(Clone, Copy, Debug)]
+pub enum Part<'a> {
+    /// In a file or on a disk.
+    File(&'a str),
+    /// Of an archive.
+    Volume(Volume<'a>),
+}
+
+/// Its path.
+impl fmt::Display for Part<'_> {
+    fn fmt<W: fmt::Write>(&self, f: &mut fmt::Formatter<W>) -> fmt::Result {
+        match self {
+            Part::File(path) => f.write_str(path),
+            Part::Volume(volume) => write!(f, "{volume}"),
+        }
+    }
+}
+
+/// Why an archive doesn't have all that its ledger lists, or can't be read. What was added before stands.
+#[derive(Clone, Copy, Debug, Error)]
+pub enum ArchiveFault<'a> {
+    /// There is no memory.
+    #[error("out of memory")]
+    Memory,
+    /// The ledger, or one of the archive, can't be looked at.
+    #[error("{part}: {fault}")]
+    Unread {
+        part: Part<'a>,
+        fault: FileFault,
+    },
+    /// It isn't sound.
+    #[error("{part}: {refusal}")]
+    NoLedger {
+        part: Part<'a>,
+        refusal: OpenRefusal,
+    },
+    /// It was sound, and a record can't be read again.
+    #[error("{part}: {refusal}")]
+    Lost {
+        part: Part<'a>,
+        refusal: ReadRefusal,
+    },
+    /// The first record of the archive's newest ledger doesn't have the number that is its name, or it has no record.
+    #[error("{volume}: it isn't of this archive: its first record doesn't have the number that is its name")]
+    Foreign {
+        volume: Volume<'a>,
+    },
+    /// The folder can't be had.
+    #[error("{folder}: {fault}")]
+    Folder {
+        folder: &'a str,
+        fault: FolderFault,
+    },
+    /// It has no ledger of an archive.
+    #[error("{folder}: it has no ledger of an archive")]
+    Empty {
+        folder: &'a str,
+    },
+    /// One or more ledgers of the archive are missing before this one.
+    #[error("{volume}: its earliest batch is {first}, and {before} ends before {end}; those between are missing")]
+    Missing {
+        volume: Volume<'a>,
+        first: u64,
+        before: Volume<'a>,
+        end: u64,
+    },
+    /// The ledger lists no record from the archive's end on, but only later ones.
+    #[error("{path}: its earliest batch is {first}, and the archive ends before {end}; those between are lost")]
+    Gap {
+        path: &'a str,
+        first: u64,
+        end: u64,
+    },
+    /// It ends before the archive does.
+    #[error("{path}: its next batch is {next}, and that of the archive is {end}; it isn't the archive's ledger, or an old copy, or lost those between; derbyfig restore makes a ledger that has them")]
+    Short {
+        path: &'a str,
+        next: u64,
+        end: u64,
+    },
+    /// A batch that both have isn't the same in both.
+    #[error("{path}: its batch {batch} isn't the one in the archive; it isn't the archive's ledger")]
+    Other {
+        path: &'a str,
+        batch: u64,
+    },
+    /// It held something else where the archive ends.
+    #[error("{path}: before batch {end}, where the archive ends, it held other balances or seals; it isn't the archive's ledger")]
+    Differs {
+        path: &'a str,
+        end: u64,
+    },
+    /// The ledger that is to be added can't be made.
+    #[error("{folder}/unfinished: {fault}")]
+    Unmade {
+        folder: &'a str,
+        fault: FileFault,
+    },
+    /// It can't be written.
+    #[error("{folder}/unfinished: it can't be written")]
+    Unwritten {
+        folder: &'a str,
+    },
+}
+
+impl<'a> ArchiveFault<'a> {
+    // A ledger can't be looked at. Out of memory stays out of memory, here and below.
+    pub(crate) fn of_file(part: Part<'a>, fault: FileFault) -> ArchiveFault<'a>
+        ensures told { result ≡ of_file part.entry fault }
+        ensures elsewhere { IsElsewhere result }
+    {
+        match fault {
+            FileFault::Memory => ArchiveFault::Memory,
+            fault => ArchiveFault::Unread { part, fault },
+        }
+    }
+
+    // The ledger isn't sound.
+    pub(crate) fn of_opening(path: &'a str, refusal: OpenRefusal) -> ArchiveFault<'a>
+        ensures read { IsReadFault result ↔ (refusal ≡ OpenRefusal.Device) }
+        ensures numbers { TellsNumbers result }
+    {
+        match refusal {
+            OpenRefusal::Memory => ArchiveFault::Memory,
+            refusal => {
+                let part = Part::File(path);
+                ArchiveFault::NoLedger { part, refusal }
+            }
+        }
+    }
+
+    // One of the archive isn't.
+    pub(crate) fn of_volume(volume: Volume<'a>, refusal: OpenRefusal) -> ArchiveFault<'a>
+        ensures { IsElsewhere result }
+    {
+        match refusal {
+            OpenRefusal::Memory => ArchiveFault::Memory,
+            refusal => {
+                let part = Part::Volume(volume);
+                ArchiveFault::NoLedger { part, refusal }
+            }
+        }
+    }
+
+    // The folder can't be had.
+    pub(crate) fn of_folder(folder: &'a str, fault: FolderFault) -> ArchiveFault<'a>
+        ensures told { result ≡ ArchiveFault.Folder folder.entry fault }
+        ensures elsewhere { IsElsewhere result }
+    {
+        ArchiveFault::Folder { folder, fault }
+    }
+
+    // The ledger that is to be added can't be made.
+    pub(crate) fn of_device(folder: &'a str, fault: FileFault) -> ArchiveFault<'a>
+        ensures told { result ≡ of_device folder.entry fault }
+        ensures elsewhere { IsElsewhere result }
+    {
+        match fault {
+            FileFault::Memory => ArchiveFault::Memory,
+            fault => ArchiveFault::Unmade { folder, fault },
+        }
+    }
+}
+
+impl From<AllocError> for ArchiveFault<'_> {
+    ghost use Rattle.ledger_folder.specs.declared.faults.ArchiveFault.TheVariants.{Memory};
+
+    ghost from_gives = { λ _ fault. fault ≡ Memory };
+
+    fn from(_: AllocError) -> Self {
+        ArchiveFault::Memory
+    }
+}

@@ -1,0 +1,456 @@
+//! An office that is kept open, from its pipes and its device to what is told of its end.
+ghost use Rattle.std.specs.Prelude.{◌≡◌, ◌≢◌, ◌≤◌, ◌↔◌, if◌then◌else◌, min, false, Err, IsTrue, IfErr, OnOk};
+ghost use Rattle.turn_clerk.specs.declared.refusals.TurnRefusal.{TurnRefusal};
+ghost use Rattle.office_service.specs.Ends.{NoneFailed, NoneWasRefused, TellsRefusal, reason_of};
+
+use crate::archivist::Archivist;
+use crate::faults::{OfficeFault, PipeFault};
+use crate::locks::{Locks, SeatedClients};
+use crate::pipes::{Side, open_pipe};
+use crate::runtime::Runtime;
+use crate::seating::Seating;
+use crate::serving::{CounterFolder, Plan, Serving};
+use crate::source::{Source, Target};
+use device_files::FileNumber;
+use four_state::{FEWEST_STATIONS, Line, MOST_STATIONS};
+use journal_recovery::OpenRefusal;
+use ledger_file::{FileDevice, Formatting, format_ledger, open_ledger};
+use office_sessions::{
+    Closed, Conversation, Counter, Entry, Identity, Keeper, Kept, Kind, are_threads_granted,
+    keep_open,
+};
+use office_day::{End, StationDay, TurnRefusal};
+use text_streams::{Output, StreamFault};
+use sector_device::Device;
+use std::alloc::{AllocError, Global};
+use std::fs::{File, Files};
+use std::io::{Read, Write};
+use turn_clerk::Clerk;
+
+/// After how many turns an office is closed and opened again, if its banks have as many slots: so many its history
+/// holds at most.
+pub const SPAN: u64 = 5_000;
+
+/// This number, as a statement; the body does nothing.
+pub fn span_in_numbers()
+    ensures { SPAN ≡ 5000 }
+{}
+
+// How many turns a span has. If the office has an archive, they are no more than a bank has slots, so that what isn't
+// archived is in the two banks.
+fn turns_of_span(slots: u64, has_archive: bool) -> u64
+    ensures fits { IsTrue has_archive → result ≤ slots }
+    ensures value { result ≡ if has_archive then min slots 5000 else 5000 }
+{
+    if has_archive { slots.min(SPAN) } else { SPAN }
+}
+
+/// What an office meets beside its files: the streams of the terminal, and who sees the locks of counters' folders.
+#[derive(Drop)]
+pub struct Surroundings<I: Read, O: Write, L: Locks + Copy> {
+    pub input: I,
+    pub output: O,
+    pub locks: L,
+}
+
+// A counter, by pipes or by the terminal.
+type AnyCounter<I, O> = Counter<Source<File, I>, Target<File, O>>;
+
+/// Keeps an office open as it is asked for and planned. If it keeps an archive, what that lacks is added before the
+/// first turn, whenever the office is closed for a while, and at its end. What is told of it goes to the writer. The
+/// call waits until the office is closed.
+///
+/// # Errors
+/// [`OfficeFault`].
+pub fn serve<
+    'a,
+    R: Runtime,
+    I: Read + Send + Drop + 'static,
+    O: Write + Send + Drop + 'static,
+    L: Locks + Copy + Send + 'static,
+    W: Write,
+>(
+    rt: &R,
+    serving: &Serving<'a>,
+    plan: Plan,
+    surroundings: Surroundings<I, O, L>,
+    writer: &mut W,
+) -> Result<(), OfficeFault<'a>> {
+    let Surroundings {
+        input,
+        output: told,
+        locks,
+    } = surroundings;
+    let mut output = Output::new(rt.alloc(), writer)?;
+    let counters = open_counters(rt, serving, input, told)?;
+    let office = ready_office(rt, serving, plan, &mut output)?;
+    keep_on(rt, office, counters, locks, &mut output)
+}
+
+// What an office is opened on, and who keeps its archive.
+#[derive(Drop)]
+struct Ready<'a, 'r, R> {
+    clerk: Clerk<FileDevice>,
+    seating: Seating<'a>,
+    archivist: Archivist<'a, 'r, R>,
+    // How many turns a span has.
+    moves: u64,
+}
+
+// Opens the archive and the ledger, brings the archive up to that, and gives each counter its station.
+fn ready_office<'a, 'r, R: Runtime, W: Write>(
+    rt: &'r R,
+    serving: &Serving<'a>,
+    plan: Plan,
+    output: &mut Output<'_, W>,
+) -> Result<Ready<'a, 'r, R>, OfficeFault<'a>> {
+    let mut archivist = Archivist::open(rt, serving)?;
+    let device = open_device(rt, serving, plan.formatting, output)?;
+    let clerk = archivist.add_of(open_clerk(rt.alloc(), serving.path, device)?)?;
+    let moves = turns_of_span(clerk.slots(), serving.archive.is_some());
+    let seating = seat(rt, serving, clerk.next(), plan, &mut archivist)?;
+    let stations = seating.stations(plan.stations);
+    Ok(Ready {
+        clerk: on_line_of(serving.path, clerk, stations)?,
+        seating,
+        archivist,
+        moves,
+    })
+}
+
+// Gives each counter its station, if the system grants the threads, and keeps that in the archive too.
+fn seat<'a, R: Runtime>(
+    rt: &R,
+    serving: &Serving<'a>,
+    next: u64,
+    plan: Plan,
+    archivist: &mut Archivist<'a, '_, R>,
+) -> Result<Seating<'a>, OfficeFault<'a>> {
+    let seating = Seating::begin(rt, serving, next)?;
+    let stations = seating.stations(plan.stations);
+    if !are_threads_granted(rt, rt.alloc(), stations, seating.seats.len())? {
+        return Err(OfficeFault::Threads);
+    }
+    archivist.learn(&seating)?;
+    Ok(seating)
+}
+
+// Keeps the office open until it is closed.
+fn keep_on<
+    'a,
+    R: Runtime,
+    I: Read + Send + Drop + 'static,
+    O: Write + Send + Drop + 'static,
+    L: Locks + Copy + Send + 'static,
+    W: Write,
+>(
+    rt: &R,
+    office: Ready<'a, '_, R>,
+    counters: Vec<AnyCounter<I, O>>,
+    locks: L,
+    output: &mut Output<'_, W>,
+) -> Result<(), OfficeFault<'a>> {
+    let counters = seated(rt.alloc(), counters, &office.seating)?;
+    tell_opened(&office.clerk, output)?;
+    let Ready {
+        clerk,
+        mut seating,
+        archivist,
+        moves,
+    } = office;
+    let folders = seating.take_folders(rt.alloc());
+    let clients = SeatedClients { locks, folders };
+    match keep_open(rt, rt.alloc(), clerk, counters, clients, moves, archivist) {
+        Ok((closed, archivist)) => {
+            let next = closed.clerk.next();
+            let _clerk = end(closed, archivist, output)?;
+            seating.close(rt, next)
+        }
+        Err((_, refusal)) => Err(OfficeFault::from(refusal)),
+    }
+}
+
+// Tells that the office is open.
+fn tell_opened<D: Device, W: Write>(
+    clerk: &Clerk<D>,
+    output: &mut Output<'_, W>,
+) -> Result<(), StreamFault> {
+    let (stations, next, total) = (
+        clerk.line().stations(),
+        clerk.next(),
+        clerk.ledger().total(),
+    );
+    output.line(format_args!("opened {stations} next {next} total {total}"))?;
+    output.flush()
+}
+
+// The counters at their stations.
+fn seated<I: Read + Drop, O: Write + Drop>(
+    alloc: Global,
+    counters: Vec<AnyCounter<I, O>>,
+    seating: &Seating<'_>,
+) -> Result<Vec<AnyCounter<I, O>>, AllocError> {
+    let mut counters = counters;
+    for (counter, station) in counters.iter_mut().zip(seating.seats.iter()) {
+        counter.station = *station;
+        counter.since = seating.since();
+        counter.identity = seating.identity(alloc, *station)?;
+    }
+    Ok(counters)
+}
+
+// Tells how the office ended, and adds to its archive what that lacks. The clerk comes back of one that ended well.
+fn end<'a, R: Runtime, W: Write>(
+    closed: Closed<FileDevice>,
+    mut archivist: Archivist<'a, '_, R>,
+    output: &mut Output<'_, W>,
+) -> Result<Clerk<FileDevice>, OfficeFault<'a>> {
+    let clerk = tell_closed(closed, output)?;
+    if let Some(fault) = archivist.fault() {
+        return Err(fault);
+    }
+    let clerk = archivist.add_of(clerk)?;
+    if let Kept::UpTo(next) = archivist.kept() {
+        output.line(format_args!("archived {next}"))?;
+        output.flush()?;
+    }
+    Ok(clerk)
+}
+
+// The counters, each by its pipes, and the terminal behind them, before they have their stations.
+fn open_counters<'a, R: Files<File = File> + AllocGlobal, I: Read + Drop, O: Write + Drop>(
+    rt: &R,
+    serving: &Serving<'a>,
+    input: I,
+    output: O,
+) -> Result<Vec<AnyCounter<I, O>>, OfficeFault<'a>> {
+    let mut counters = Vec::with_capacity(rt.alloc(), serving.counters.len())?;
+    let mut opened = Vec::new(rt.alloc());
+    for CounterFolder { folder, .. } in &serving.counters {
+        let counter = open_counter(rt, folder, serving.hello, &mut opened)?;
+        counters.push(counter).or(Err(OfficeFault::Memory))?;
+    }
+    if serving.terminal {
+        let (input, output) = (Source::Terminal(input), Target::Terminal(output));
+        let counter = unseated(rt.alloc(), input, output, Kind::Terminal, false);
+        counters.push(counter).or(Err(OfficeFault::Memory))?;
+    }
+    Ok(counters)
+}
+
+// The counter of a folder.
+fn open_counter<'a, R: Files<File = File> + AllocGlobal, I: Read, O: Write>(
+    rt: &R,
+    folder: &'a str,
+    awaits_hello: bool,
+    opened: &mut Vec<FileNumber>,
+) -> Result<AnyCounter<I, O>, OfficeFault<'a>> {
+    let input = pipe_of(rt, folder, Side::In, opened)?;
+    let output = pipe_of(rt, folder, Side::Out, opened)?;
+    let (input, output) = (Source::Pipe(input), Target::Pipe(output));
+    Ok(unseated(rt.alloc(), input, output, Kind::Pipes, awaits_hello))
+}
+
+// A counter that has no station yet.
+fn unseated<I: Read, O: Write>(
+    alloc: Global,
+    input: Source<File, I>,
+    output: Target<File, O>,
+    kind: Kind,
+    awaits_hello: bool,
+) -> AnyCounter<I, O> {
+    Counter {
+        station: 0,
+        since: 0,
+        identity: Identity::nobody(alloc),
+        input,
+        output,
+        kind,
+        awaits_hello,
+    }
+}
+
+fn pipe_of<'a, R: Files<File = File> + AllocGlobal>(
+    rt: &R,
+    folder: &'a str,
+    side: Side,
+    opened: &mut Vec<FileNumber>,
+) -> Result<File, OfficeFault<'a>> {
+    open_pipe(rt, folder, side, opened).map_err(|refusal| {
+        OfficeFault::Pipe(PipeFault {
+            folder,
+            side,
+            refusal,
+        })
+    })
+}
+
+// The device, formatted first if that is asked for.
+fn open_device<'a, R: Files<File = File> + AllocGlobal, W: Write>(
+    rt: &R,
+    serving: &Serving<'a>,
+    formatting: Option<Formatting>,
+    output: &mut Output<'_, W>,
+) -> Result<FileDevice, OfficeFault<'a>> {
+    let path = serving.path;
+    let opened = match formatting {
+        Some(formatting) => format_ledger(rt, path, formatting),
+        None => open_ledger(rt, path, serving.sectors.unwrap_or(0)),
+    };
+    let device = opened.map_err(|refusal| OfficeFault::of_file(path, refusal))?;
+    if let Some(Formatting { slots, .. }) = formatting {
+        output.line(format_args!("formatted {slots}"))?;
+        // whatever keeps the office from being opened, the ledger is made
+        output.flush()?;
+    }
+    Ok(device)
+}
+
+// The clerk of the ledger on the device, on a line of the fewest stations.
+fn open_clerk<'a, D: Device + Drop>(
+    alloc: Global,
+    path: &'a str,
+    device: D,
+) -> Result<Clerk<D>, OfficeFault<'a>> {
+    match Clerk::open(alloc, device, first_line(FEWEST_STATIONS)?) {
+        Ok(clerk) => Ok(clerk),
+        Err((_, refusal)) => Err(OfficeFault::NoLedger { path, refusal }),
+    }
+}
+
+// The clerk on a line of so many stations. One that was just opened has met no fault.
+fn on_line_of<'a, D: Device + Drop>(
+    path: &'a str,
+    clerk: Clerk<D>,
+    stations: u64,
+) -> Result<Clerk<D>, OfficeFault<'a>> {
+    let refusal = OpenRefusal::Device;
+    let begun = clerk.begin_anew(first_line(stations)?);
+    begun.or(Err(OfficeFault::NoLedger { path, refusal }))
+}
+
+// The line that an office begins with: any would do, since it heals. On this one the bottom station alone is
+// privileged.
+fn first_line<'a>(stations: u64) -> Result<Line, OfficeFault<'a>> {
+    let bits = [false; MOST_STATIONS as usize];
+    let count = stations.min(MOST_STATIONS) as usize;
+    match Line::from_bits(stations, &bits[..count], &bits[..count]) {
+        Ok(line) => Ok(line),
+        Err(refusal) => Err(OfficeFault::Line(refusal)),
+    }
+}
+
+// Tells how the office ended: its turns, the line, and what was asked and not answered. The clerk comes back of one
+// that ended well.
+fn tell_closed<'a, D: Device + Drop, W: Write>(
+    closed: Closed<D>,
+    output: &mut Output<'_, W>,
+) -> Result<Clerk<D>, OfficeFault<'a>>
+    ensures refused { OnOk result (NoneWasRefused closed.stations.items) }
+    ensures threads { OnOk result (closed.is_abandoned ≡ false) }
+{
+    let line = closed.audit.last;
+    let privileges = line.privileges();
+    output.line(format_args!("closed after {} turns", closed.turns))?;
+    output.line(format_args!("bits {line} privileges {privileges}"))?;
+    for (station, day) in closed.stations.iter().enumerate() {
+        tell_unanswered(station, day, output)?;
+    }
+    for (station, conversation) in closed.conversations.iter().enumerate() {
+        tell_unheard(station, conversation.unheard(), output)?;
+        tell_untold(station, conversation, output)?;
+    }
+    output.flush()?;
+    ended(closed.is_abandoned, closed.stations.as_slice())?;
+    Ok(closed.clerk)
+}
+
+// Tells of the requests of a station that were submitted and not answered.
+fn tell_unanswered<W: Write>(
+    station: usize,
+    day: &StationDay,
+    output: &mut Output<'_, W>,
+) -> Result<(), StreamFault> {
+    for ask in &day.unanswered {
+        let reference = ask.entry.reference();
+        output.line(format_args!("unanswered {station} {reference}"))?;
+    }
+    Ok(())
+}
+
+// Tells of the entries that a station's client asked to post too late.
+fn tell_unheard<W: Write>(
+    station: usize,
+    entries: &[Entry],
+    output: &mut Output<'_, W>,
+) -> Result<(), StreamFault> {
+    for entry in entries {
+        let reference = entry.reference();
+        output.line(format_args!("unanswered {station} {reference}"))?;
+    }
+    Ok(())
+}
+
+// Tells of the answers to entries that weren't written to a station's client.
+fn tell_untold<W: Write>(
+    station: usize,
+    conversation: &Conversation,
+    output: &mut Output<'_, W>,
+) -> Result<(), StreamFault> {
+    for response in conversation.untold() {
+        if response.is_answer() {
+            output.line(format_args!("untold {station} {response}"))?;
+        }
+    }
+    Ok(())
+}
+
+// How an office ended: well, if no station was refused its thread or its turn. A failed device is
+// reported as one: other stations, which met it later, name it otherwise.
+fn ended<'a>(is_abandoned: bool, stations: &[StationDay]) -> Result<(), OfficeFault<'a>>
+    ensures refused { OnOk result (NoneWasRefused stations.now) }
+    ensures threads { OnOk result (is_abandoned ≡ false) }
+    ensures device { (reason : TurnRefusal) → result ≡ Err (OfficeFault.Refused reason)
+        → reason ≢ TurnRefusal.Device → NoneFailed stations.now }
+{
+    if is_abandoned {
+        return Err(OfficeFault::Threads);
+    }
+    if !none_failed(stations) {
+        return Err(OfficeFault::Refused(TurnRefusal::Device));
+    }
+    refusal_of(stations)
+}
+
+// Whether the device failed for no station.
+fn none_failed(stations: &[StationDay]) -> bool
+    ensures { IsTrue result ↔ NoneFailed stations.now }
+{
+    stations
+        .iter()
+        .all(|day| day.end != End::Refused(TurnRefusal::Device))
+}
+
+// Why the first station was refused its turn that was. No other end needs to be told: a station ends as `Stopped` only
+// after another one ended, and as `Tries` only after 2^64 - 1 refusals in a row.
+fn refusal_of<'a>(stations: &[StationDay]) -> Result<(), OfficeFault<'a>>
+    ensures none { OnOk result (NoneWasRefused stations.now) }
+    ensures refused { IfErr result (TellsRefusal stations.now) }
+{
+    for day in stations {
+        if let Some(refusal) = reason_of(day.end) {
+            return Err(OfficeFault::Refused(refusal));
+        }
+    }
+    Ok(())
+}
+
+// Why a station was refused its last turn, if it ended by that.
+fn reason_of(end: End) -> Option<TurnRefusal>
+    ensures { result ≡ reason_of end }
+{
+    match end {
+        End::Refused(reason) => Some(reason),
+        End::NotStarted | End::Reached | End::Stopped | End::Tries | End::Closed => None,
+    }
+}

@@ -1,0 +1,33 @@
+//! The engine of an office that is kept open: on a file or a disk, for counters by named pipes and for the terminal.
+//!
+//! [`serve`] opens the pipes, the device and the archive, keeps the office open, and tells how it ended.
+//! [`close_office`] asks it from outside to close, and [`ask_standing`] how it stands.
+#![tactic(auto)]
+
+mod archivist;
+mod closing;
+mod faults;
+mod keeping;
+mod locks;
+mod looking_back;
+mod pipes;
+mod runtime;
+mod seating;
+mod serving;
+mod source;
+mod speaking;
+mod standing;
+
+pub use closing::close_office;
+pub use faults::{OfficeFault, PipeFault};
+pub use keeping::{SPAN, Surroundings, serve, span_in_numbers};
+pub use office_sessions::REQUESTS;
+pub use locks::{FileLocks, Locks};
+pub use ledger_counters::{CountersFault, RosterFault, RosterPath};
+pub use pipes::{PipeRefusal, Side, open_pipe};
+pub use runtime::Runtime;
+pub use seating::TERMINAL;
+pub use serving::{CounterFolder, Plan, Serving};
+pub use source::{Source, Target};
+pub use speaking::ControlFault;
+pub use standing::{Told, ask_standing};

@@ -1,0 +1,140 @@
+//! Asking an office from outside how it stands.
+use crate::pipes::{PipeRefusal, Side, listen};
+use crate::speaking::{ControlFault, Speaker, at_pipe};
+use text_grammar::{Cut, LineCutter};
+use std::alloc::{AllocError, Global};
+use std::fmt;
+use std::fs::{File, Files};
+use std::io::{ErrorKind, Read};
+use std::time::{Clock, SystemTime, UNIX_EPOCH};
+
+/// What the answer begins with, which no other one does.
+const NAME: &str = "office ";
+
+/// How many bytes are read at most: more than an earlier client left.
+const MOST: u64 = 100_000_000;
+
+/// How an office stands, as its line tells it.
+#[derive(Drop)]
+pub struct Told {
+    line: String,
+}
+
+/// A fact a line, its name and its value, without the end of the last line.
+impl fmt::Display for Told {
+    fn fmt<W: fmt::Write>(&self, f: &mut fmt::Formatter<W>) -> fmt::Result {
+        let facts = self.line.strip_prefix(NAME).unwrap_or("");
+        for (place, word) in facts.split_whitespace().enumerate() {
+            match (place, place % 2) {
+                (0, _) => f.write_str(word)?,
+                (_, 0) => write!(f, "\n{word}")?,
+                _ => write!(f, " {word}")?,
+            }
+        }
+        Ok(())
+    }
+}
+
+/// Asks the office that has a counter how it stands, and waits until that is told, or the office has ended. The folder
+/// is the counter's. What stands in its pipes from before is answered, or dropped, first.
+///
+/// # Errors
+/// [`ControlFault`].
+pub fn ask_standing<'a, R: Files<File = File> + AllocGlobal + Clock>(
+    rt: &R,
+    folder: &'a str,
+) -> Result<Told, ControlFault<'a>> {
+    let mut speaker = Speaker::at(rt, folder)?;
+    let mut listener = Listener::at(rt, folder)?;
+    let number = own_number(rt);
+    let memory = at_pipe(folder, Side::In, PipeRefusal::Memory);
+    let Ok(hello) = format!(in rt.alloc(); "hello {number}") else {
+        return Err(memory);
+    };
+    let Ok(said) = format!(in rt.alloc(); " ?\n{hello}\nstatus\n") else {
+        return Err(memory);
+    };
+    speaker.say(said.as_bytes())?;
+    listener.await_line(hello.as_bytes())?;
+    listener.hear()?;
+    match listener.told(rt.alloc()) {
+        Ok(Some(told)) => Ok(told),
+        Ok(None) => Err(ControlFault::Untold(folder)),
+        Err(AllocError) => Err(memory),
+    }
+}
+
+/// A number that hardly anybody else takes: the time.
+pub(crate) fn own_number<R: Clock>(rt: &R) -> u64 {
+    let Ok(now) = SystemTime::now(rt) else {
+        return 0;
+    };
+    match now.duration_since(UNIX_EPOCH) {
+        Ok(since) => u64::try_from(since.as_nanos()).unwrap_or(0),
+        Err(_) => 0,
+    }
+}
+
+// Who hears what an office tells a counter, line by line.
+#[derive(Drop)]
+struct Listener<'a> {
+    folder: &'a str,
+    pipe: File,
+    cutter: LineCutter,
+}
+
+impl<'a> Listener<'a> {
+    fn at<R: Files<File = File> + AllocGlobal>(
+        rt: &R,
+        folder: &'a str,
+    ) -> Result<Listener<'a>, ControlFault<'a>> {
+        let found = listen(rt, folder);
+        let pipe = found.map_err(|refusal| at_pipe(folder, Side::Out, refusal))?;
+        let memory = at_pipe(folder, Side::Out, PipeRefusal::Memory);
+        Ok(Listener {
+            folder,
+            pipe,
+            cutter: LineCutter::new(rt.alloc()).or(Err(memory))?,
+        })
+    }
+
+    // Hears all up to this line.
+    fn await_line(&mut self, line: &[u8]) -> Result<(), ControlFault<'a>> {
+        for _ in 0..MOST {
+            self.hear()?;
+            if self.cutter.line() == line {
+                return Ok(());
+            }
+        }
+        Err(ControlFault::Untold(self.folder))
+    }
+
+    // Hears the next line, which the cutter then lends.
+    fn hear(&mut self) -> Result<(), ControlFault<'a>> {
+        let mut byte = [0];
+        for _ in 0..MOST {
+            match self.pipe.read(&mut byte) {
+                // no office is there any more
+                Ok(0) => return Err(ControlFault::NotOpen(self.folder)),
+                Ok(_) => {
+                    if self.cutter.push(byte[0]) != Cut::Nothing {
+                        return Ok(());
+                    }
+                }
+                Err(error) if error.kind() == ErrorKind::Interrupted => {}
+                Err(_) => break,
+            }
+        }
+        Err(ControlFault::Untold(self.folder))
+    }
+
+    // How the office stands, if the line that was heard tells that.
+    fn told(&self, alloc: Global) -> Result<Option<Told>, AllocError> {
+        let line = std::str::from_utf8(self.cutter.line()).unwrap_or("");
+        if !line.starts_with(NAME) {
+            return Ok(None);
+        }
+        let line = format!(in alloc; "{line}")?;
+        Ok(Some(Told { line }))
+    }
+}

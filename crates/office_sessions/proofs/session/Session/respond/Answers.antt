@@ -1,0 +1,19 @@
+use Rattle.std.specs.Prelude.{List}
+use Rattle.std.proofs.Common.{sym, ◌∙◌, subst}
+use Rattle.std.proofs.Math.Logic.{∥∥₁_map}
+use Rattle.rtrb.specs.Ring.{sent, received}
+use Rattle.station_desk.specs.Messages.{entries_of}
+use Rattle.office_sessions.specs.declared.responses.Response.{Response}
+use Rattle.office_sessions.specs.Conversation.{WereTakenUp, pending}
+use Rattle.office_sessions.proofs.TakenUp.{taken-told, other-answers}
+use Rattle.office_sessions.proofs.session.Session.respond.Goals as goal
+
+pub invariant_of-self-clause-said : goal.invariant_of-self-clause-said
+invariant_of-self-clause-said c =
+    let old = c.args.self.now in
+    ∥∥₁_map old.said (λ taken.
+    subst (λ (told : List Response). WereTakenUp (received old.messages) told (entries_of old.postings.feed.asked) (pending old.next)) (sym c.push_reserved.ensures.sent.0)
+    (taken-told c.args.response c.requires.other.1 taken))
+
+pub invariant_of-self-clause-told : goal.invariant_of-self-clause-told
+invariant_of-self-clause-told c = other-answers (sent c.args.self.now.responses) c.args.response c.push_reserved.ensures.sent.0 c.requires.other.0 ∙ c.args.self.now.told

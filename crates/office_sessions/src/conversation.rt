@@ -1,0 +1,253 @@
+//! What was said at a counter, and what it was told.
+ghost use Rattle.std.specs.Prelude.{◌≡◌, ◌⊎◌, ◌<◌, ◌≤◌, [], ◌∷◌, ◌++◌, false, length, true, IfOk, IsTrue, OnOk};
+ghost use Rattle.office_sessions.specs.Conversation.{pending, posting_of, IsOther, IsBehindUnanswered, StaysOver, IsToldNoMore};
+
+use crate::messages::Message;
+use crate::recent::Recent;
+use crate::responses::Response;
+use crate::session::CAPACITY;
+use crate::wakers::Wakers;
+use rtrb::{Consumer, Producer};
+use text_grammar::Request;
+use std::alloc::{AllocError, Global};
+use std::collections::vec_deque;
+use std::iter::Skip;
+use std::marker::Model;
+use std::sync::Arc;
+use std::thread::sleep;
+use std::time::{Clock, Duration};
+use turn_ledger::Entry;
+
+/// How often it is looked whether a counter's reader has handed on all that it has read, and how many milliseconds lie
+/// between two looks.
+const LOOKS: u64 = 400;
+
+const PAUSE: u64 = 5;
+
+/// What was said at a counter of an office that closes, and what it was told. Contracts see both, by the ends of the
+/// rings whose other ends the counter's threads have; a program sees what came too late, and what the counter wasn't
+/// told.
+#[derive(Drop)]
+pub struct Conversation {
+    messages: Consumer<Message>,
+    responses: Producer<Response>,
+    unheard: Vec<Entry>,
+    recent: Recent,
+    wakers: Arc<Wakers>,
+    // Whether no question is answered any more: one was left without an answer, for which the next would be taken.
+    is_silent: bool,
+    // Whether the counter was told that the office closes, behind which it is told nothing.
+    is_told_closing: bool,
+}
+
+impl Model for Conversation {
+    ghost use Rattle.rtrb.specs.Ring.{sent, received};
+    ghost use Rattle.office_sessions.specs.Conversation.{ConversationState};
+
+    ghost Value = { ConversationState };
+
+    ghost view = { λ c. record {
+      said = received c.messages;
+      told = sent c.responses;
+      unheard = c.unheard.items;
+      is_silent = c.is_silent;
+    } };
+}
+
+impl Conversation {
+    ghost use Rattle.rtrb.specs.Ring.{sent, received};
+
+    /// With these ends of the rings, and these entries that nobody submitted.
+    pub(crate) fn new(
+        messages: Consumer<Message>,
+        responses: Producer<Response>,
+        unheard: Vec<Entry>,
+        recent: Recent,
+        wakers: Arc<Wakers>,
+        is_told_closing: bool,
+    ) -> Conversation
+        ensures { result ≡ record {
+          said = received messages;
+          told = sent responses;
+          unheard = unheard.items;
+          is_silent = is_told_closing;
+        } }
+    {
+        Conversation {
+            messages,
+            responses,
+            unheard,
+            recent,
+            wakers,
+            is_silent: is_told_closing,
+            is_told_closing,
+        }
+    }
+
+    /// Takes what the counter's reader still hands on, until that is all that it has read; but not for ever. Unless
+    /// all before it is answered, nothing of it is.
+    pub(crate) fn take_late<C: Clock>(
+        &mut self,
+        clock: &C,
+        is_answered: bool,
+    ) -> Result<(), AllocError>
+        ensures over { OnOk result (StaysOver self.old self.new) }
+        ensures silent { OnOk result (IsBehindUnanswered is_answered self.old.unheard
+            → self.new.told ≡ self.old.told) }
+    {
+        for _ in 0..LOOKS {
+            let is_last = self.wakers.has_handed_on();
+            self.take_waiting(is_answered)?;
+            if is_last {
+                break;
+            }
+            self.wakers.reader.unpark();
+            sleep(clock, Duration::from_millis(PAUSE));
+        }
+        Ok(())
+    }
+
+    // Takes what the reader has handed on.
+    fn take_waiting(&mut self, is_answered: bool) -> Result<(), AllocError>
+        ensures over { OnOk result (StaysOver self.old self.new) }
+        ensures silent { OnOk result (IsBehindUnanswered is_answered self.old.unheard
+            → self.new.told ≡ self.old.told) }
+        ensures listed { OnOk result (length self.old.unheard ≤ length self.new.unheard) }
+    {
+        for _ in 0..CAPACITY {
+            let Ok(message) = self.messages.pop() else {
+                break;
+            };
+            list(&message, &mut self.unheard)?;
+            self.refuse(&message, is_answered);
+        }
+        Ok(())
+    }
+
+    /// Answers a question that comes too late, if all before it is answered.
+    pub(crate) fn refuse(&mut self, message: &Message, is_answered: bool)
+        ensures over { StaysOver self.old self.new }
+        ensures no_more { self.old.is_silent ≡ true → self.new ≡ self.old }
+        ensures silent { IsBehindUnanswered is_answered self.old.unheard
+            → self.new.told ≡ self.old.told }
+        ensures unheard { self.new.unheard ≡ self.old.unheard }
+    {
+        if !is_answered {
+            return;
+        }
+        if !self.unheard.is_empty() {
+            return;
+        }
+        match message {
+            Message::Asked(
+                Request::Balance { .. }
+                | Request::Find { .. }
+                | Request::Last
+                | Request::First { .. }
+                | Request::Copy
+                | Request::Archive
+                | Request::Status
+                | Request::Name,
+            ) => self.tell(Response::Closed),
+            Message::Asked(Request::Hello { number }) => {
+                self.tell(Response::Hello { number: *number })
+            }
+            Message::Asked(Request::Help) => self.tell(Response::Help),
+            Message::Wrong(wrong) => self.tell(Response::Wrong(*wrong)),
+            Message::Asked(Request::Post(_) | Request::Close) | Message::Ended => {}
+        }
+    }
+
+    /// Answers the question that would have come next, if all before it is answered.
+    pub(crate) fn refuse_next(&mut self, next: Option<Message>, is_answered: bool)
+        ensures over { StaysOver self.old self.new }
+        ensures silent { IsBehindUnanswered is_answered self.old.unheard
+            → self.new.told ≡ self.old.told }
+        ensures unheard { self.new.unheard ≡ self.old.unheard }
+    {
+        if let Some(message) = next {
+            self.refuse(&message, is_answered);
+        }
+    }
+
+    /// Tells the counter that the office closes.
+    pub(crate) fn tell_closing(&mut self)
+        ensures over { StaysOver self.old self.new }
+        ensures told { IsToldNoMore self.old.told self.new.told }
+    {
+        if !self.is_told_closing {
+            self.hand_on(Response::Closing);
+        }
+        self.is_silent = true;
+        self.is_told_closing = true;
+    }
+
+    // Tells the counter something else than an answer. Where there is no place for it, it is told no more of that kind.
+    fn tell(&mut self, response: Response)
+        requires other { IsOther response }
+        ensures over { StaysOver self.old self.new }
+        ensures no_more { self.old.is_silent ≡ true → self.new ≡ self.old }
+        ensures told { (self.new.told ≡ self.old.told ++ response ∷ [])
+            ⊎ ((self.new.told ≡ self.old.told) × (self.new.is_silent ≡ true)) }
+        ensures unheard { self.new.unheard ≡ self.old.unheard }
+    {
+        if self.is_silent {
+            return;
+        }
+        if !self.hand_on(response) {
+            self.is_silent = true;
+        }
+    }
+
+    // Hands a response that is no answer to the counter's writer, if there is a place for it.
+    fn hand_on(&mut self, response: Response) -> bool
+        requires other { IsOther response }
+        ensures over { StaysOver self.old self.new }
+        ensures told { IsTrue result → self.new.told ≡ self.old.told ++ response ∷ [] }
+        ensures untold { result ≡ false → self.new.told ≡ self.old.told }
+        ensures unheard { self.new.unheard ≡ self.old.unheard }
+        ensures silent { self.new.is_silent ≡ self.old.is_silent }
+    {
+        match self.responses.push(response) {
+            Ok(()) => {
+                self.recent.note(response);
+                self.wakers.note_given();
+                true
+            }
+            Err(_) => false,
+        }
+    }
+
+    /// The entries that the counter asked to post, and that came too late to be submitted, in order.
+    pub fn unheard(&self) -> &[Entry]
+        ensures { result.now ≡ self.now.unheard }
+    {
+        self.unheard.as_slice()
+    }
+
+    /// The last of its responses, in order, that its writer isn't done with by now, since the stream takes no more.
+    pub fn untold(&self) -> Skip<vec_deque::Iter<'_, Response>> {
+        self.recent.last(self.wakers.unwritten())
+    }
+}
+
+/// The entry that the next message asks to post, if it does.
+pub(crate) fn listed(alloc: Global, next: Option<Message>) -> Result<Vec<Entry>, AllocError>
+    ensures { IfOk result (λ entries. entries.items ≡ pending next) }
+{
+    let mut entries = Vec::new(alloc);
+    if let Some(message) = next {
+        list(&message, &mut entries)?;
+    }
+    Ok(entries)
+}
+
+// Lists the entry that a message asks to post, if it does.
+fn list(message: &Message, unheard: &mut Vec<Entry>) -> Result<(), AllocError>
+    ensures { OnOk result (unheard.new.items ≡ unheard.old.items ++ posting_of message.now) }
+{
+    if let Message::Asked(Request::Post(entry)) = message {
+        unheard.push(*entry)?;
+    }
+    Ok(())
+}

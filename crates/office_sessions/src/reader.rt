@@ -1,0 +1,147 @@
+//! The thread that reads what a counter says.
+use crate::messages::{Message, WrongLine};
+use crate::scheduler::Scheduler;
+use crate::wakers::Wakers;
+use rtrb::Producer;
+use text_grammar::{Cut, LineCutter, Request, read_request};
+use std::io::{ErrorKind, Read};
+use std::sync::Wait;
+
+/// How many bytes are read at once.
+const CHUNK: usize = 4_096;
+
+/// What the line that is read begins with.
+#[derive(Clone, Copy, PartialEq, Eq)]
+enum Beginning {
+    /// Nothing but blanks yet.
+    Blank,
+    Comment,
+    Word,
+}
+
+impl Beginning {
+    // With one byte more.
+    fn and(self, byte: u8) -> Beginning {
+        match (self, byte) {
+            (Beginning::Blank, b' ') => Beginning::Blank,
+            (Beginning::Blank, b'#') => Beginning::Comment,
+            (Beginning::Blank, _) => Beginning::Word,
+            (Beginning::Comment | Beginning::Word, _) => self,
+        }
+    }
+}
+
+/// What reads a counter.
+#[derive(Drop)]
+pub(crate) struct Reader<I: Read> {
+    input: I,
+    cutter: LineCutter,
+    beginning: Beginning,
+    // Whether requests are dropped until the client says hello.
+    awaits_hello: bool,
+    messages: Producer<Message>,
+}
+
+impl<I: Read + Drop> Reader<I> {
+    /// Before the first line.
+    pub(crate) fn new(
+        input: I,
+        cutter: LineCutter,
+        messages: Producer<Message>,
+        awaits_hello: bool,
+    ) -> Reader<I> {
+        Reader {
+            input,
+            cutter,
+            beginning: Beginning::Blank,
+            awaits_hello,
+            messages,
+        }
+    }
+
+    /// Hands on what each line says, until nothing comes any more, or the office's life is over.
+    pub(crate) fn read_all<R: Wait>(&mut self, rt: &R, wakers: &Wakers, scheduler: &Scheduler) {
+        let mut chunk = [0; CHUNK];
+        for _ in rt.forever() {
+            wakers.note_handed_on(true);
+            if scheduler.is_over() {
+                return;
+            }
+            let read = self.input.read(&mut chunk);
+            wakers.note_handed_on(false);
+            match read {
+                Ok(0) => break,
+                Ok(count) => self.take(rt, wakers, scheduler, &chunk[..count]),
+                Err(error) if error.kind() == ErrorKind::Interrupted => {}
+                Err(_) => break,
+            }
+        }
+        let cut = self.cutter.end();
+        self.take_cut(rt, wakers, scheduler, cut);
+        self.hand_on(rt, wakers, scheduler, Message::Ended);
+        wakers.note_handed_on(true);
+    }
+
+    // Takes bytes that were read.
+    fn take<R: Wait>(&mut self, rt: &R, wakers: &Wakers, scheduler: &Scheduler, bytes: &[u8]) {
+        for byte in bytes {
+            let cut = self.cutter.push(*byte);
+            self.take_cut(rt, wakers, scheduler, cut);
+            self.beginning = match cut {
+                Cut::Nothing => self.beginning.and(*byte),
+                Cut::Line | Cut::TooLong => Beginning::Blank,
+            };
+        }
+    }
+
+    // Takes a line, if one has ended.
+    fn take_cut<R: Wait>(&mut self, rt: &R, wakers: &Wakers, scheduler: &Scheduler, cut: Cut) {
+        if let Some(message) = self.message(cut) {
+            self.hand_on(rt, wakers, scheduler, message);
+        }
+    }
+
+    // What the line says that has ended; nothing where it has no words, or none has ended.
+    fn message(&mut self, cut: Cut) -> Option<Message> {
+        if cut == Cut::Nothing {
+            return None;
+        }
+        if cut == Cut::TooLong {
+            let is_comment = self.beginning == Beginning::Comment;
+            return (!is_comment).then_some(Message::Wrong(WrongLine::TooLong));
+        }
+        match read_request(self.cutter.line()) {
+            Ok(Some(request)) => Some(self.heard(request)),
+            Ok(None) => None,
+            Err(fault) => Some(Message::Wrong(WrongLine::Fault(fault))),
+        }
+    }
+
+    // The request, unless its client did not say hello, and has to.
+    fn heard(&mut self, request: Request) -> Message {
+        if matches!(request, Request::Hello { .. }) {
+            self.awaits_hello = false;
+        }
+        if self.awaits_hello {
+            return Message::Wrong(WrongLine::NoHello);
+        }
+        Message::Asked(request)
+    }
+
+    // Hands a message to the dispatcher, and waits for a place where there is none.
+    fn hand_on<R: Wait>(
+        &mut self,
+        rt: &R,
+        wakers: &Wakers,
+        scheduler: &Scheduler,
+        message: Message,
+    ) {
+        for _ in rt.forever() {
+            if self.messages.push(message).is_ok() {
+                scheduler.wake_dispatcher();
+                return;
+            }
+            wakers.reader.park(rt);
+        }
+    }
+}

@@ -1,0 +1,117 @@
+//! A search for a reference, step by step.
+ghost use Rattle.std.specs.Prelude.{◌≡◌, ◌↔◌, true, false, IsTrue, IfOk, IfSome, Some};
+ghost use Rattle.text_grammar.specs.declared.requests.Request.TheVariants.{Find};
+ghost use Rattle.office_sessions.specs.declared.messages.Message.TheVariants.{Asked};
+ghost use Rattle.office_sessions.specs.Conversation.{IsOther, told_of_posting, told_of_step, counted_with, found_with, IsResponseTo, MeetsAt, EndsAt, IsLast};
+
+use crate::responses::Response;
+use line_lock::{FindRefusal, Posting, Reached, SearchStep, Sought};
+use station_desk::Question;
+
+/// How far the search is that a counter asked for last.
+#[derive(Clone, Copy, Debug)]
+pub(crate) struct Search {
+    // The number of the record that is looked at next.
+    from: u64,
+    // The number behind the last record that is looked at, which the first step that looks at records tells: what is
+    // posted while the search goes on is none of its records.
+    end: u64,
+    // How many records with the reference were found.
+    count: u64,
+}
+
+/// What comes of one step.
+#[derive(Clone, Copy, Debug)]
+pub(crate) struct Step {
+    /// What the counter is told of it, if anything.
+    pub response: Option<Response>,
+    /// Whether the search is over.
+    pub is_last: bool,
+}
+
+impl Step {
+    // A step of which nothing is told.
+    const UNDER_WAY: Step = Step {
+        response: None,
+        is_last: false,
+    };
+
+    // The last one, of which this is told.
+    fn last(response: Response) -> Step
+        ensures { result ≡ record { response = Some response; is_last = true } }
+    {
+        Step {
+            response: Some(response),
+            is_last: true,
+        }
+    }
+}
+
+impl Search {
+    /// A search that begins with the first record, and goes up to the last that there is at its first step.
+    pub(crate) const BEGINNING: Search = Search {
+        from: 0,
+        end: u64::MAX,
+        count: 0,
+    };
+
+    /// What is asked next.
+    pub(crate) fn question(&self, reference: u64) -> Question
+        ensures { result ≡ Question.Search (Sought.Reference reference) self.now.from self.now.end }
+    {
+        Question::Search {
+            sought: Sought::Reference(reference),
+            from: self.from,
+            end: self.end,
+        }
+    }
+
+    /// Goes on by what was found.
+    pub(crate) fn go_on(&mut self, reference: u64, found: Result<SearchStep, FindRefusal>) -> Step
+        ensures other { IfSome result.response IsOther }
+        ensures right { IfSome result.response (IsResponseTo (Asked (Find reference))) }
+        ensures meets { IfOk found (λ step. MeetsAt self.old.from step.reached self.new.from) }
+        ensures moment { IfOk found (λ step. EndsAt self.old.end step.reached self.new.end) }
+        ensures told { result.response ≡ told_of_step self.old.count reference found }
+        ensures counted { self.new.count ≡ found_with self.old.count found }
+        ensures last { IsTrue result.is_last ↔ IsLast found }
+    {
+        let step = match found {
+            Ok(step) => step,
+            Err(refusal) => return Step::last(Response::NotFound(refusal)),
+        };
+        match step.reached {
+            Reached::Further { number, end, .. } => {
+                self.from = number;
+                self.end = end;
+                self.tell(reference, step.posting)
+            }
+            Reached::LookingBack => Step::UNDER_WAY,
+            Reached::All { since, .. } => Step::last(Response::FoundInAll {
+                count: self.count,
+                since,
+            }),
+        }
+    }
+
+    // Tells of the record that was found, if one was.
+    fn tell(&mut self, reference: u64, posting: Option<Posting>) -> Step
+        ensures told { result.response ≡ told_of_posting reference posting }
+        ensures counted { self.new.count ≡ counted_with self.old.count posting }
+        ensures from { self.new.from ≡ self.old.from }
+        ensures end { self.new.end ≡ self.old.end }
+        ensures goes_on { result.is_last ≡ false }
+    {
+        let Some(posting) = posting else {
+            return Step::UNDER_WAY;
+        };
+        self.count = self.count.saturating_add(1);
+        Step {
+            response: Some(Response::Found {
+                number: posting.number,
+                reference,
+            }),
+            is_last: false,
+        }
+    }
+}

@@ -1,0 +1,286 @@
+//! How a counter's entries are posted: each reference once.
+ghost use Rattle.std.specs.Prelude.{◌≤◌, IfSome, ◌≡◌, ◌≢◌, ◌<◌, IsTrue, Some, None};
+ghost use Rattle.rtrb.specs.Ring.{known_free};
+ghost use Rattle.text_grammar.specs.declared.requests.Request.TheVariants.{Post, Last, First};
+ghost use Rattle.station_desk.specs.Rings.{StandsAt};
+ghost use Rattle.office_sessions.specs.declared.messages.Message.TheVariants.{Asked};
+ghost use Rattle.office_sessions.specs.Conversation.{MayLook};
+ghost use Rattle.office_sessions.specs.Looked.{earlier_by};
+ghost use Rattle.turn_ledger.specs.Entry.{reference_of};
+
+use crate::look::{Look, Seen, farther, judge};
+use crate::postings::Submission;
+use crate::recess::{Came, Wish};
+use crate::responses::{Judgement, Response};
+use crate::scheduler::Scheduler;
+use crate::session::{Earlier, Session};
+use station_desk::{FindRefusal, Report};
+use std::sync::Wait;
+use turn_ledger::Entry;
+
+impl Session {
+    // Posts the entry that is asked for next, for whose response there is a place; false if that can't be done yet. One
+    // with a reference is submitted only if that is above all that were posted here or are under way.
+    pub(super) fn post<R: Wait>(&mut self, rt: &R, scheduler: &Scheduler, entry: Entry) -> bool
+        requires place { self.old.postings.unanswered < known_free self.old.responses }
+        requires next { self.old.next ≡ Some (Asked (Post entry)) }
+        ensures feed { StandsAt self.old.postings.feed self.new.postings.feed }
+        ensures handled { IsTrue result → self.new.next ≡ None }
+    {
+        if entry.reference() > 0 && self.earlier != Earlier::Known {
+            return self.post_first(rt, scheduler, entry);
+        }
+        self.submit(rt, scheduler, entry)
+    }
+
+    // The same, if it isn't known whether its reference is above: that is found out first.
+    fn post_first<R: Wait>(&mut self, rt: &R, scheduler: &Scheduler, entry: Entry) -> bool
+        requires place { self.old.postings.unanswered < known_free self.old.responses }
+        requires next { self.old.next ≡ Some (Asked (Post entry)) }
+        ensures feed { StandsAt self.old.postings.feed self.new.postings.feed }
+        ensures handled { IsTrue result → self.new.next ≡ None }
+    {
+        if self.postings.unanswered > 0 {
+            return false;
+        }
+        match self.look_back(rt, scheduler) {
+            None => false,
+            Some(Err(refusal)) => self.tell_judgement(entry, Judgement::NotSeen(refusal)),
+            Some(Ok(())) => match self.earlier {
+                Earlier::Known => self.submit(rt, scheduler, entry),
+                Earlier::OutOfSight(since) => {
+                    self.tell_judgement(entry, Judgement::Unknown(since))
+                }
+                Earlier::Unlooked => false,
+            },
+        }
+    }
+
+    // Submits the entry, or, if its reference isn't above or is too far above, judges it behind all that was asked
+    // before.
+    fn submit<R: Wait>(&mut self, rt: &R, scheduler: &Scheduler, entry: Entry) -> bool
+        requires known { 0 < reference_of entry → self.old.earlier ≡ Earlier.Known }
+        requires place { self.old.postings.unanswered < known_free self.old.responses }
+        requires next { self.old.next ≡ Some (Asked (Post entry)) }
+        ensures feed { StandsAt self.old.postings.feed self.new.postings.feed }
+        ensures handled { IsTrue result → self.new.next ≡ None }
+    {
+        match self.hand_in(scheduler, entry) {
+            Submission::Submitted => true,
+            Submission::NoPlace => false,
+            Submission::NotAbove => {
+                self.postings.unanswered == 0 && self.judge_repeated(rt, scheduler, entry)
+            }
+            Submission::TooFar => {
+                self.postings.unanswered == 0 && self.tell_judgement(entry, Judgement::Reference)
+            }
+        }
+    }
+
+    // Hands the entry to the feed, if its reference is above.
+    fn hand_in(&mut self, scheduler: &Scheduler, entry: Entry) -> Submission
+        requires known { 0 < reference_of entry → self.old.earlier ≡ Earlier.Known }
+        requires place { self.old.postings.unanswered < known_free self.old.responses }
+        requires next { self.old.next ≡ Some (Asked (Post entry)) }
+        ensures feed { StandsAt self.old.postings.feed self.new.postings.feed }
+        ensures submitted { result ≡ Submission.Submitted → self.new.next ≡ None }
+        ensures next { result ≢ Submission.Submitted → self.new.next ≡ self.old.next }
+        ensures room { self.new.responses ≡ self.old.responses }
+        ensures unanswered { result ≢ Submission.Submitted
+            → self.new.postings.unanswered ≡ self.old.postings.unanswered }
+    {
+        let submission = self.postings.submit(entry);
+        match submission {
+            Submission::Submitted => {
+                self.next = None;
+                scheduler.note_submitted();
+            }
+            Submission::NoPlace | Submission::NotAbove | Submission::TooFar => {}
+        }
+        submission
+    }
+
+    // Answers an entry whose reference isn't above those that were posted, by what stands under it.
+    fn judge_repeated<R: Wait>(&mut self, rt: &R, scheduler: &Scheduler, entry: Entry) -> bool
+        requires place { self.old.postings.unanswered < known_free self.old.responses }
+        requires behind { self.old.postings.unanswered ≡ 0 }
+        requires next { self.old.next ≡ Some (Asked (Post entry)) }
+        ensures feed { self.new.postings.feed ≡ self.old.postings.feed }
+        ensures handled { IsTrue result → self.new.next ≡ None }
+    {
+        let judgement = match self.look(rt, scheduler, entry.reference()) {
+            None => return false,
+            Some(Ok(seen)) => judge(&entry, &seen),
+            Some(Err(refusal)) => Judgement::NotSeen(refusal),
+        };
+        self.tell_judgement(entry, judgement)
+    }
+
+    // Tells what became of the entry that is asked for next, and isn't submitted.
+    fn tell_judgement(&mut self, entry: Entry, judgement: Judgement) -> bool
+        requires place { self.old.postings.unanswered < known_free self.old.responses }
+        requires next { self.old.next ≡ Some (Asked (Post entry)) }
+        ensures told { IsTrue result }
+        ensures feed { self.new.postings.feed ≡ self.old.postings.feed }
+        ensures next { self.new.next ≡ None }
+    {
+        let response = Response::Judged { entry, judgement };
+        self.next = None;
+        self.responses.push_reserved(response);
+        self.recent.note(response);
+        self.wakers.note_given();
+        true
+    }
+
+    // Looks at the counter's own postings up to that reference, step by step; None until that is done.
+    fn look<R: Wait>(
+        &mut self,
+        rt: &R,
+        scheduler: &Scheduler,
+        limit: u64,
+    ) -> Option<Result<Seen, FindRefusal>>
+        requires behind { self.old.postings.unanswered ≡ 0 }
+        requires right { MayLook self.old.next self.old.station limit }
+        ensures feed { self.new.postings.feed ≡ self.old.postings.feed }
+        ensures next { self.new.next ≡ self.old.next }
+        ensures room { self.new.responses ≡ self.old.responses }
+        ensures unanswered { self.new.postings.unanswered ≡ self.old.postings.unanswered }
+    {
+        let question = self.look.question(self.station, limit);
+        let Some(Report::Searched(step)) = self.report(rt, scheduler, question) else {
+            return None;
+        };
+        let seen = self.look.go_on(step);
+        if seen.is_some() {
+            self.look = Look::starting_at(self.first);
+            return seen;
+        }
+        let question = self.look.question(self.station, limit);
+        let _ = self.report(rt, scheduler, question);
+        None
+    }
+
+    // Looks which references were posted here before the office was opened, if that isn't known; None until it is.
+    fn look_back<R: Wait>(
+        &mut self,
+        rt: &R,
+        scheduler: &Scheduler,
+    ) -> Option<Result<(), FindRefusal>>
+        requires behind { self.old.postings.unanswered ≡ 0 }
+        requires right { MayLook self.old.next self.old.station u64.MAX }
+        ensures feed { self.new.postings.feed ≡ self.old.postings.feed }
+        ensures next { self.new.next ≡ self.old.next }
+        ensures room { self.new.responses ≡ self.old.responses }
+        ensures unanswered { self.new.postings.unanswered ≡ self.old.postings.unanswered }
+    {
+        if self.earlier != Earlier::Unlooked {
+            return Some(Ok(()));
+        }
+        match self.look_far(rt, scheduler)? {
+            Ok(seen) => {
+                self.learn(seen);
+                Some(Ok(()))
+            }
+            Err(refusal) => Some(Err(refusal)),
+        }
+    }
+
+    // Looks at all of the counter's own postings: in the records in sight, and if none is there, in the archive, for
+    // which a recess is called; None until that is done.
+    fn look_far<R: Wait>(
+        &mut self,
+        rt: &R,
+        scheduler: &Scheduler,
+    ) -> Option<Result<Seen, FindRefusal>>
+        requires behind { self.old.postings.unanswered ≡ 0 }
+        requires right { MayLook self.old.next self.old.station u64.MAX }
+        ensures feed { self.new.postings.feed ≡ self.old.postings.feed }
+        ensures next { self.new.next ≡ self.old.next }
+        ensures room { self.new.responses ≡ self.old.responses }
+        ensures unanswered { self.new.postings.unanswered ≡ self.old.postings.unanswered }
+    {
+        let since = match self.out_of_sight {
+            Some(since) => since,
+            None => match self.look(rt, scheduler, u64::MAX)? {
+                Ok(seen) if seen.posting.is_none() && seen.since > 0 => seen.since,
+                seen => return Some(seen),
+            },
+        };
+        self.out_of_sight = Some(since);
+        let came = self.what_came(rt, scheduler, Wish::Last)?;
+        self.out_of_sight = None;
+        let in_archive = match came {
+            Came::Last(seen) => seen,
+            Came::Archive(_) | Came::Copy(_) => None,
+        };
+        Some(Ok(farther(since, in_archive)))
+    }
+
+    // Learns which reference was posted last.
+    fn learn(&mut self, seen: Seen)
+        ensures learned { self.old.earlier ≡ Earlier.Unlooked → self.new.earlier ≡ earlier_by seen }
+        ensures else_same { self.old.earlier ≢ Earlier.Unlooked → self.new.earlier ≡ self.old.earlier }
+        ensures greatest { IfSome seen.posting (λ last.
+            reference_of last.entry ≤ self.new.postings.posted) }
+        ensures never_falls { self.old.postings.posted ≤ self.new.postings.posted }
+        ensures feed { self.new.postings.feed ≡ self.old.postings.feed }
+        ensures next { self.new.next ≡ self.old.next }
+        ensures room { self.new.responses ≡ self.old.responses }
+        ensures unanswered { self.new.postings.unanswered ≡ self.old.postings.unanswered }
+    {
+        if let Some(last) = seen.posting {
+            self.postings.raise(last.entry.reference());
+        }
+        if self.earlier == Earlier::Unlooked {
+            self.earlier = match (seen.posting, seen.since) {
+                (None, 1..) => Earlier::OutOfSight(seen.since),
+                (Some(_), _) | (None, 0) => Earlier::Known,
+            };
+        }
+    }
+
+    // Tells which reference was posted here last; false if that isn't known yet.
+    pub(super) fn tell_last<R: Wait>(&mut self, rt: &R, scheduler: &Scheduler) -> bool
+        requires place { self.old.postings.unanswered < known_free self.old.responses }
+        requires behind { self.old.postings.unanswered ≡ 0 }
+        requires next { self.old.next ≡ Some (Asked Last) }
+        ensures feed { self.new.postings.feed ≡ self.old.postings.feed }
+        ensures next { self.new.next ≡ self.old.next }
+    {
+        match self.look_far(rt, scheduler) {
+            None => false,
+            Some(Ok(seen)) => {
+                self.learn(seen);
+                self.respond(Response::Last(seen))
+            }
+            Some(Err(refusal)) => self.respond(Response::NotFound(refusal)),
+        }
+    }
+
+    // Lets references begin with that one, if it is above all that were posted here as far as one sees; false if that
+    // isn't known yet.
+    pub(super) fn begin_with<R: Wait>(
+        &mut self,
+        rt: &R,
+        scheduler: &Scheduler,
+        reference: u64,
+    ) -> bool
+        requires place { self.old.postings.unanswered < known_free self.old.responses }
+        requires behind { self.old.postings.unanswered ≡ 0 }
+        requires next { self.old.next ≡ Some (Asked (First reference)) }
+        ensures feed { self.new.postings.feed ≡ self.old.postings.feed }
+        ensures next { self.new.next ≡ self.old.next }
+    {
+        match self.look_back(rt, scheduler) {
+            None => return false,
+            Some(Err(refusal)) => return self.respond(Response::NotFound(refusal)),
+            Some(Ok(())) => {}
+        }
+        if reference <= self.postings.greatest() {
+            return self.respond(Response::NotFirst { reference });
+        }
+        self.earlier = Earlier::Known;
+        self.postings.raise(reference - 1);
+        self.respond(Response::First { reference })
+    }
+}

@@ -1,5 +1,0 @@
-use Rattle.script_grammar.proofs.GrammarLemmas.{one_word}
-use Rattle.script_grammar.proofs.places.next.Goals as goal
-
-pub returns : goal.returns
-returns g c = one_word _ _ _ _ _ c.read.result c.in_ok-word.ensures.ok c.read.ensures.ok c.read.ensures.err

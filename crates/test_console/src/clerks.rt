@@ -1,0 +1,215 @@
+//! The words of a clerk.
+use crate::bench::Bench;
+use crate::console::{Hand, Scene};
+use crate::copies::tell_batches;
+use crate::devices::set_fault;
+use crate::entries::read_entries;
+use crate::lines::read_line;
+use crate::said::Said;
+use crate::told::Told;
+use office_sessions::Look;
+use station_desk::Question;
+use turn_clerk::{Clerk, Event, Sought, Turn, TurnRefusal};
+
+/// `clerk STATIONS XBITS UPBITS`: opens a clerk on the device.
+pub fn open_clerk(device: Bench, hand: &mut Hand, said: &mut Said<'_>, told: &mut Told) -> Scene {
+    let Some(line) = read_line(said, told) else {
+        return Scene::Device(device);
+    };
+    match Clerk::open(hand.alloc, device, line) {
+        Ok(clerk) => {
+            told.ledger(clerk.next(), clerk.ledger());
+            Scene::Clerk(clerk)
+        }
+        Err(refused) => Scene::Device(told.handed_back(refused)),
+    }
+}
+
+/// A word of a clerk, which goes on behind it.
+pub fn run(
+    clerk: Clerk<Bench>,
+    hand: &mut Hand,
+    name: &str,
+    said: &mut Said<'_>,
+    told: &mut Told,
+) -> Clerk<Bench> {
+    match name {
+        "anew" => return begin_anew(clerk, said, told),
+        "catch_up" => return lend(clerk, hand, told),
+        _ => {}
+    }
+    let mut clerk = clerk;
+    ask(&mut clerk, hand, name, said, told);
+    clerk
+}
+
+// `anew N X UP`: begins anew on that line.
+fn begin_anew(clerk: Clerk<Bench>, said: &mut Said<'_>, told: &mut Told) -> Clerk<Bench> {
+    let Some(line) = read_line(said, told) else {
+        return clerk;
+    };
+    match clerk.begin_anew(line) {
+        Ok(clerk) => {
+            told.ledger(clerk.next(), clerk.ledger());
+            clerk
+        }
+        Err(clerk) => {
+            told.line("not begun: it is faulted");
+            clerk
+        }
+    }
+}
+
+// `catch_up`: lends the device to the archive, which adds what it lacks, and tells its batches.
+fn lend(clerk: Clerk<Bench>, hand: &mut Hand, told: &mut Told) -> Clerk<Bench> {
+    let Some(archive) = &mut hand.archive else {
+        told.line("not asked: no archive");
+        return clerk;
+    };
+    let clerk = clerk.lend(archive);
+    tell_batches(archive, told);
+    clerk
+}
+
+// A word of a clerk that stays in hand.
+fn ask(
+    clerk: &mut Clerk<Bench>,
+    hand: &mut Hand,
+    name: &str,
+    said: &mut Said<'_>,
+    told: &mut Told,
+) {
+    match name {
+        "turn" => turn(clerk, hand, said, told),
+        "event" => add_event(hand, said, told),
+        "run" => run_events(clerk, hand, told),
+        "find" => find(clerk, said, told),
+        "latest" => latest(clerk, said, told),
+        "look" => begin_look(hand, said, told),
+        "step" => step(clerk, hand, told),
+        "fault" => set_fault(hand, said, told),
+        _ => tell(clerk, name, said, told),
+    }
+}
+
+// A word for what a clerk tells of itself.
+fn tell(clerk: &Clerk<Bench>, name: &str, said: &mut Said<'_>, told: &mut Told) {
+    match name {
+        "ledger" => told.ledger(clerk.next(), clerk.ledger()),
+        "line" => told.line_of(&clerk.line()),
+        "room" => told.named("slots, free", &(clerk.slots(), clerk.room())),
+        "history" => tell_history(clerk, told),
+        "moves" => told.value(&clerk.moves()),
+        "opening" => opening(clerk, said, told),
+        "in_flight" => tell_in_flight(clerk, told),
+        "faulted" => told.value(&clerk.is_faulted()),
+        "shown" => told.value(clerk),
+        _ => told.line("no such word of a clerk"),
+    }
+}
+
+fn tell_history(clerk: &Clerk<Bench>, told: &mut Told) {
+    for turn in clerk.history() {
+        told.turn(turn);
+    }
+}
+
+fn tell_in_flight(clerk: &Clerk<Bench>, told: &mut Told) {
+    match clerk.in_flight() {
+        Some(batch) => told.named("in flight", &(clerk.in_flight_station(), batch.as_slice())),
+        None => told.line("nothing in flight"),
+    }
+}
+
+// `find REFERENCE FROM END`
+fn find(clerk: &mut Clerk<Bench>, said: &mut Said<'_>, told: &mut Told) {
+    let (reference, from, end) = (said.number(), said.number(), said.number());
+    if said.is_right(told) {
+        told.outcome(&clerk.search(Sought::Reference(reference), from, end));
+    }
+}
+
+// `latest STATION LIMIT FROM`
+fn latest(clerk: &mut Clerk<Bench>, said: &mut Said<'_>, told: &mut Told) {
+    let (station, limit, from) = (said.station(), said.number(), said.number());
+    if said.is_right(told) {
+        told.outcome(&clerk.search(Sought::OfStation { station, limit }, from, u64::MAX));
+    }
+}
+
+// `look STATION LIMIT FROM`: begins a look at a station's postings.
+fn begin_look(hand: &mut Hand, said: &mut Said<'_>, told: &mut Told) {
+    let (station, limit) = (said.station(), said.number());
+    let look = Look::starting_at(said.number());
+    if said.is_right(told) {
+        hand.look = Some((look, station, limit));
+    }
+}
+
+// `step`: the next step of the look that was begun.
+fn step(clerk: &mut Clerk<Bench>, hand: &mut Hand, told: &mut Told) {
+    let Some((look, station, limit)) = &mut hand.look else {
+        told.line("not asked: no look");
+        return;
+    };
+    let Question::Search { sought, from, end } = look.question(*station, *limit) else {
+        return;
+    };
+    match look.go_on(clerk.search(sought, from, end)) {
+        Some(seen) => told.outcome(&seen),
+        None => told.line("goes on"),
+    }
+}
+
+// `turn STATION [ENTRY]..`
+fn turn(clerk: &mut Clerk<Bench>, hand: &mut Hand, said: &mut Said<'_>, told: &mut Told) {
+    let station = said.station();
+    read_entries(said, &mut hand.entries);
+    if !said.is_right(told) {
+        return;
+    }
+    told.turned(&clerk.turn(station, hand.entries.as_slice()));
+}
+
+// `event STATION [ENTRY]..`: the next event of a run.
+fn add_event(hand: &mut Hand, said: &mut Said<'_>, told: &mut Told) {
+    let station = said.station();
+    read_entries(said, &mut hand.entries);
+    let Ok(entries) = hand.entries.clone() else {
+        told.line("no memory");
+        return;
+    };
+    if hand.events.push(Event { station, entries }).is_err() {
+        told.line("no memory");
+    }
+}
+
+// `run`: the events so far, each with its reply.
+fn run_events(clerk: &mut Clerk<Bench>, hand: &mut Hand, told: &mut Told) {
+    let mut replies = Vec::new(hand.alloc);
+    match clerk.run(hand.events.as_slice(), &mut replies) {
+        Ok(()) => {
+            tell_replies(&replies, told);
+            hand.events.clear();
+        }
+        Err(error) => told.refused(&error),
+    }
+}
+
+fn tell_replies(replies: &[Result<Turn, TurnRefusal>], told: &mut Told) {
+    for reply in replies {
+        told.turned(reply);
+    }
+}
+
+// `opening ACCOUNT`: the line, the number of the next batch, and what the account held when the clerk was opened.
+fn opening(clerk: &Clerk<Bench>, said: &mut Said<'_>, told: &mut Told) {
+    let account = said.small();
+    if !said.is_right(told) {
+        return;
+    }
+    told.line_of(&clerk.opening());
+    told.named("next", &clerk.opening_next());
+    told.named("balance", &clerk.opening_balance(account));
+    told.named("sealed", &clerk.opening_sealed(account));
+}

@@ -1,0 +1,150 @@
+//! Words that copy or list what a device holds. The device in hand is the old one, and the other one the new one.
+use crate::bench::Bench;
+use crate::console::{Hand, Scene};
+use crate::listings::tell_next;
+use crate::said::Said;
+use crate::told::Told;
+use ledger_drawing::locate;
+use gate_journal::OldJournal;
+use journal_recovery::{copy, may_hold_postings, migrate, recover};
+use ledger_reading::{Listing, Sound, look};
+use office_day::MemoryArchive;
+
+/// `migrate SLOTS`, `copy SLOTS`: an older ledger, or one of the present layout, to the other device.
+pub fn to_other(
+    device: Bench,
+    hand: &mut Hand,
+    name: &str,
+    said: &mut Said<'_>,
+    told: &mut Told,
+) -> Scene {
+    let slots = said.number();
+    let Some(new) = &mut hand.other else {
+        told.line("not asked: no other device");
+        return Scene::Device(device);
+    };
+    if slots == 0 {
+        told.line("not asked: no slots");
+        return Scene::Device(device);
+    }
+    let (device, made) = match name {
+        "migrate" => migrate(hand.alloc, device, new, slots),
+        _ => copy(hand.alloc, device, new, slots),
+    };
+    told.done(&made);
+    Scene::Device(device)
+}
+
+/// `old`: opens the journal of an older ledger, tells its numbers, its balances and its records, and lets go of it.
+pub fn show_old(device: Bench, told: &mut Told) -> Scene {
+    match OldJournal::open(device) {
+        Ok(mut journal) => {
+            tell_old(&mut journal, told);
+            Scene::Device(journal.into_device())
+        }
+        Err(refused) => Scene::Device(told.handed_back(refused)),
+    }
+}
+
+fn tell_old(journal: &mut OldJournal<Bench>, told: &mut Told) {
+    told.named("version, slots", &(journal.version(), journal.slots()));
+    told.named("bank, epoch", &(journal.live_bank(), journal.epoch()));
+    told.named("base, next", &(journal.base(), journal.next()));
+    match journal.read_balances() {
+        Ok(balances) => told.value(&balances.as_slice()),
+        Err(refusal) => told.refused(&refusal),
+    }
+    for number in journal.base()..journal.next() {
+        if number < journal.base() || number >= journal.next() {
+            break;
+        }
+        told.record_read(&journal.read_record(number));
+    }
+}
+
+/// `list`: what a ledger of any layout holds, and each record that is in sight.
+pub fn list(device: Bench, hand: &mut Hand, told: &mut Told) -> Scene {
+    match look(hand.alloc, device) {
+        Ok(sound) => list_all(sound, told),
+        Err(refused) => Scene::Device(told.handed_back(refused)),
+    }
+}
+
+fn list_all(sound: Sound<Bench>, told: &mut Told) -> Scene {
+    let numbers = sound.journal.numbers();
+    told.value(&numbers);
+    told.ledger(numbers.next, &sound.ledger);
+    match sound.journal.list(sound.ledger) {
+        Ok(mut listing) => {
+            tell_all(&mut listing, told);
+            Scene::Device(listing.into_device())
+        }
+        Err(refused) => Scene::Device(told.handed_back(refused)),
+    }
+}
+
+fn tell_all(listing: &mut Listing<Bench>, told: &mut Told) {
+    for _ in 0..listing.left() {
+        tell_next(listing, told);
+    }
+    told.named("left", &listing.left());
+}
+
+/// `recover`: what the device holds, as a ledger.
+pub fn recovered(device: Bench, hand: &mut Hand, told: &mut Told) -> Scene {
+    match recover(hand.alloc, device) {
+        Ok(found) => {
+            told.ledger(found.journal.next(), &found.ledger);
+            Scene::Device(found.journal.into_device())
+        }
+        Err(refused) => Scene::Device(told.handed_back(refused)),
+    }
+}
+
+/// `locate`: where that is for which a device isn't recovered.
+pub fn located(device: Bench, hand: &mut Hand, told: &mut Told) -> Scene {
+    match recover(hand.alloc, device) {
+        Ok(found) => {
+            told.line("sound");
+            Scene::Device(found.journal.into_device())
+        }
+        Err((mut device, refusal)) => {
+            told.outcome(&locate(&mut device, refusal));
+            Scene::Device(device)
+        }
+    }
+}
+
+/// `postings`: whether the device may hold postings.
+pub fn postings(device: Bench, hand: &mut Hand, told: &mut Told) -> Scene {
+    let (device, answer) = may_hold_postings(hand.alloc, device);
+    told.outcome(&answer);
+    Scene::Device(device)
+}
+
+/// `archive FIRST`: an archive in memory, of a ledger whose next batch has that number.
+pub fn new_archive(hand: &mut Hand, said: &mut Said<'_>, told: &mut Told) {
+    let first = said.number();
+    if said.is_right(told) {
+        hand.archive = Some(MemoryArchive::new(hand.alloc, first));
+    }
+}
+
+/// `catch_up`: adds to that archive what it lacks of the ledger, and tells whether it never failed, and its batches.
+pub fn catch_up(device: Bench, hand: &mut Hand, told: &mut Told) -> Scene {
+    let Some(archive) = &mut hand.archive else {
+        told.line("not asked: no archive");
+        return Scene::Device(device);
+    };
+    let (device, is_kept) = archive.catch_up(device);
+    told.value(&is_kept);
+    tell_batches(archive, told);
+    Scene::Device(device)
+}
+
+/// A line for each batch of an archive.
+pub fn tell_batches(archive: &MemoryArchive, told: &mut Told) {
+    for batch in archive.batches() {
+        told.value(&batch.as_slice());
+    }
+}

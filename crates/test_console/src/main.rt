@@ -1,0 +1,102 @@
+//! A console for tests: a line asks for one public call of the library, and what the call answers is printed. But for
+//! the words in an office and the three calls of a device, no word has a type parameter, so that it is proved once, as
+//! it is compiled.
+//!
+//! A [`Console`] has a device, or what stands on it, in hand. A word that isn't one of that is told, and changes
+//! nothing. What a call requires is asked first.
+#![tactic(auto)]
+
+mod bench;
+mod callers;
+mod clerks;
+mod closings;
+mod console;
+mod copies;
+mod crashes;
+mod days;
+mod desks;
+mod devices;
+mod entries;
+mod fillings;
+mod journals;
+mod ledgers;
+mod lines;
+mod listings;
+mod offices;
+mod said;
+mod spans;
+mod stacked;
+mod stations;
+mod switch;
+mod told;
+
+use console::Console;
+use text_streams::{StreamFault, write_all};
+use std::alloc::Global;
+use std::io::{BufRead, BufReader, Read, Write};
+use std::process::ExitCode;
+use std::sync::Wait;
+use std::thread::Threads;
+
+// How much is told at most before it is written.
+const FULL: usize = 65_536;
+
+// How long a line may be.
+const LONGEST: usize = 65_536;
+
+// Puts the next line in the place of the last one; false if there is none.
+fn read_line<I: BufRead>(input: &mut I, line: &mut String) -> Result<bool, StreamFault> {
+    line.clear();
+    match input.read_line(line) {
+        Ok(count) => Ok(count > 0),
+        Err(_) => Err(StreamFault::Read),
+    }
+}
+
+// Writes what was told.
+fn hand_over<W: Write>(console: &mut Console, output: &mut W) -> Result<(), StreamFault> {
+    write_all(output, console.told().as_bytes())?;
+    console.forget_told();
+    Ok(())
+}
+
+// Does what each line asks for, and writes what it is told if a line asks for that, or it has become much.
+fn converse<R: Threads + Wait + Sync, I: BufRead, W: Write>(
+    rt: &R,
+    console: &mut Console,
+    line: &mut String,
+    input: &mut I,
+    output: &mut W,
+) -> Result<(), StreamFault> {
+    for _ in 0..u64::MAX {
+        if !read_line(input, line)? {
+            break;
+        }
+        if console.run(rt, line.as_str()) || console.told().len() >= FULL {
+            hand_over(console, output)?;
+        }
+    }
+    hand_over(console, output)
+}
+
+// Behind its start it takes no memory but for a call.
+fn run<R: Threads + Wait + Sync, I: Read + Drop, W: Write>(
+    rt: &R,
+    alloc: Global,
+    input: I,
+    output: &mut W,
+) -> Result<(), StreamFault> {
+    let mut line = String::with_capacity(alloc, LONGEST)?;
+    let Ok(mut input) = BufReader::new(alloc, input) else {
+        return Err(StreamFault::Memory);
+    };
+    let mut console = Console::new(alloc)?;
+    converse(rt, &mut console, &mut line, &mut input, output)
+}
+
+fn main(rt: HostRuntime) -> ExitCode {
+    match run(&rt, rt.alloc(), rt.stdin(), &mut rt.stdout()) {
+        Ok(()) => ExitCode::SUCCESS,
+        Err(_) => ExitCode::FAILURE,
+    }
+}
