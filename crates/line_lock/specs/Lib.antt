@@ -5,3 +5,4 @@ pub mod Told
 pub mod Lent
 pub mod Asked
 pub mod AskedLaws
+pub mod Locked

@@ -12,13 +12,13 @@ use crate::office::Office;
 use crate::opened_on::OpenedOn;
 use crate::seat::Seat;
 use four_state::Line;
+use journal_recovery::OpenRefusal;
 use sector_device::Device;
 use std::alloc::Global;
 use std::fmt::Display;
 use std::marker::Brand;
 use std::sync::ledger::{Blank, Ledger as Count};
 use thiserror::Error;
-use turn_clerk::OpenRefusal;
 
 /// What is done in an office between its opening and its closing.
 pub trait OfficeWork<D: Device>: Drop {

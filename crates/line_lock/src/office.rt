@@ -26,11 +26,12 @@ use crate::refusals::{BalanceRefusal, WithinRefusal};
 use crate::seat::Seat;
 use crate::told::Room;
 use four_state::Line;
+use journal_recovery::OpenRefusal;
 use sector_device::Device;
 use std::alloc::Global;
 use std::sync::ledger::{Blank, Ledger as Count};
 use std::sync::{Mutex, Wait};
-use turn_clerk::{Clerk, FindRefusal, OpenRefusal, SearchStep, Sought, Taken, Turn, TurnRefusal};
+use turn_clerk::{Clerk, FindRefusal, SearchStep, Sought, Taken, Turn, TurnRefusal};
 use turn_ledger::Entry;
 
 /// One clerk that several stations share, one turn at a time.

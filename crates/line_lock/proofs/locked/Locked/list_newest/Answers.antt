@@ -4,7 +4,7 @@ use Rattle.line_lock.proofs.locked.Locked.list_newest.Goals as goal
 
 pub returns-clause-acknowledged : goal.returns-clause-acknowledged
 returns-clause-acknowledged g c before turn last =
-    let opened = c.self.invariant.4 in
+    let opened = c.self.invariant.opened in
     record {
       clerk = c.self.inside.clerk;
       opened = opened;

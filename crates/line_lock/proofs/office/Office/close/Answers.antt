@@ -11,7 +11,7 @@ use Rattle.line_lock.proofs.office.Office.close.Goals as goal
 pub returns-clause-stations : goal.returns-clause-stations
 returns-clause-stations g c =
     let clerk = c.locked.inside.clerk in
-    sym (ap stations c.legal_history.ensures.legal.line ∙ stations-after (moves_of clerk.history) clerk.opening.line) ∙ c.locked.invariant.1
+    sym (ap stations c.legal_history.ensures.legal.line ∙ stations-after (moves_of clerk.history) clerk.opening.line) ∙ c.locked.invariant.for_each
 
 pub returns-clause-one_seat : goal.returns-clause-one_seat
 returns-clause-one_seat g c = λ station there.
@@ -26,4 +26,4 @@ returns-clause-failed g c =
     let listed : length clerk.history ≡ sum_by (λ (seat : SeatState). length seat.turns) seats =
     subst (λ (seats : List SeatState). length clerk.history ≡ sum_by (λ (seat : SeatState). length seat.turns) seats) c.as_slice.ensures.value c.in_default.ensures.counted in
     let many : length seats ≡ g.L.Ledger.parts = sym (ap length c.as_slice.ensures.value) ∙ c.in_default.ensures.as_many in
-    omega (arith, both, listed, many, c.audit.ensures.whole, c.audit.ensures.amount, c.audit.ensures.total, c.gathered.ensures.parts, c.gathered.ensures.amount, c.locked.invariant.0)
+    omega (arith, both, listed, many, c.audit.ensures.whole, c.audit.ensures.amount, c.audit.ensures.total, c.gathered.ensures.parts, c.gathered.ensures.amount, c.locked.invariant.counted)
