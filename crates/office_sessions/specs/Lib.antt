@@ -2,4 +2,5 @@ pub mod Conversation
 pub mod Kept
 pub mod Looked
 pub mod Rising
+pub mod Session
 pub mod Standing

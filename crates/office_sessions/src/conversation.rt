@@ -8,7 +8,6 @@ use crate::responses::Response;
 use crate::session::CAPACITY;
 use crate::wakers::Wakers;
 use rtrb::{Consumer, Producer};
-use text_grammar::Request;
 use std::alloc::{AllocError, Global};
 use std::collections::vec_deque;
 use std::iter::Skip;
@@ -16,6 +15,7 @@ use std::marker::Model;
 use std::sync::Arc;
 use std::thread::sleep;
 use std::time::{Clock, Duration};
+use text_grammar::Request;
 use turn_ledger::Entry;
 
 /// How often it is looked whether a counter's reader has handed on all that it has read, and how many milliseconds lie

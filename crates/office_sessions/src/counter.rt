@@ -10,12 +10,12 @@ use crate::session::{CAPACITY, Session};
 use crate::wakers::Wakers;
 use crate::writer::Writer;
 use rtrb::RingBuffer;
-use text_grammar::LineCutter;
 use station_desk::Feed;
 use std::alloc::{AllocError, Global};
 use std::io::{Read, Write};
 use std::sync::{Arc, Wait};
 use std::thread::{Threads, spawn};
+use text_grammar::LineCutter;
 
 /// What is written to a terminal where a line is awaited.
 const PROMPT: &str = "office> ";

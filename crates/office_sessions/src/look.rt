@@ -11,11 +11,10 @@ ghost use Rattle.office_sessions.specs.Looked.{seen_with, seen_farther, GoesOnBy
 use crate::responses::Judgement;
 use gate_journal::Journal;
 use journal_recovery::LookBack;
-use line_lock::{FindRefusal, Posting, Reached, SearchStep, Sought, later_posting};
-use office_day::Device;
+use sector_device::Device;
 use station_desk::Question;
 use std::fmt;
-use turn_clerk::search;
+use turn_clerk::{FindRefusal, Posting, Reached, SearchStep, Sought, later_posting, search};
 use turn_ledger::{Entry, Ledger};
 
 /// More steps than any ledger needs: of 2,000,000 records, and as many slots of a bank that is looked back to.

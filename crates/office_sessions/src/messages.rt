@@ -1,6 +1,6 @@
 //! What counters say.
-use text_grammar::{LineFault, Request};
 use std::fmt;
+use text_grammar::{LineFault, Request};
 
 /// What a counter's reader hands on.
 #[derive(Clone, Copy, Debug, PartialEq, Eq)]

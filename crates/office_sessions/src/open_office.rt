@@ -14,16 +14,17 @@ use crate::scheduler::Scheduler;
 use crate::session::Session;
 use crate::standing::Clients;
 use crate::wakers::Wakers;
-use office_day::{
-    Adjourned, Audit, Clerk, Device, Feed, Left, Life, OfficeRefusal, StationDay, all_reconciled,
-    run_spans,
-};
+use line_lock::OfficeRefusal;
+use office_day::{Adjourned, Audit, Left, Life, StationDay, all_reconciled, run_spans};
+use sector_device::Device;
+use station_desk::Feed;
 use std::alloc::{AllocError, Global};
 use std::io::{Read, Write};
 use std::sync::{Arc, Wait};
 use std::thread::{Threads, sleep};
 use std::time::{Clock, Duration};
 use thiserror::Error;
+use turn_clerk::Clerk;
 
 /// How often it is looked whether the counters were told all, before the office is left; and how many milliseconds lie
 /// between two looks.

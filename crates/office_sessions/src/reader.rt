@@ -3,9 +3,9 @@ use crate::messages::{Message, WrongLine};
 use crate::scheduler::Scheduler;
 use crate::wakers::Wakers;
 use rtrb::Producer;
-use text_grammar::{Cut, LineCutter, Request, read_request};
 use std::io::{ErrorKind, Read};
 use std::sync::Wait;
+use text_grammar::{Cut, LineCutter, Request, read_request};
 
 /// How many bytes are read at once.
 const CHUNK: usize = 4_096;

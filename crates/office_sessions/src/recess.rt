@@ -7,7 +7,8 @@ ghost use Rattle.office_sessions.specs.Standing.{archived_of};
 use crate::look::Seen;
 use crate::scheduler::Scheduler;
 use gate_journal::{Borrower, Journal};
-use office_day::{Device, Recess};
+use office_day::Recess;
+use sector_device::Device;
 use std::sync::Wait;
 
 /// Why there is no copy. The first that holds.

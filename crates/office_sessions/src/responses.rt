@@ -8,9 +8,10 @@ use crate::look::Seen;
 use crate::messages::WrongLine;
 use crate::recess::CounterCopyRefusal;
 use crate::standing::Standing;
-use line_lock::{BalanceRefusal, FindRefusal};
+use line_lock::BalanceRefusal;
 use station_desk::{Answer, Outcome};
 use std::fmt;
+use turn_clerk::FindRefusal;
 use turn_ledger::{Entry, EntryRefusal};
 
 /// The requests of counters, as `help` tells them.

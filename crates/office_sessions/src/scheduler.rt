@@ -5,12 +5,13 @@
 //! woken.
 use crate::recess::{Came, Kept, Wish};
 use four_state::Rule;
-use station_desk::{Errand, Gate, Question, Report, Turn};
+use station_desk::{Errand, Gate, Question, Report};
 use std::alloc::{AllocError, Global};
 use std::sync::atomic::{AtomicBool, AtomicU64, Ordering};
 use std::sync::{Mutex, Wait};
 use std::thread::Parker;
 use std::time::Duration;
+use turn_clerk::Turn;
 
 /// How often a station looks whether all others have begun, before all are sent home and begin anew. Behind each span
 /// that ended so it looks four times as often, up to an hour.

@@ -5,8 +5,8 @@ ghost use Rattle.office_sessions.specs.declared.messages.Message.TheVariants.{As
 ghost use Rattle.office_sessions.specs.Conversation.{IsOther, told_of_posting, told_of_step, counted_with, found_with, IsResponseTo, MeetsAt, EndsAt, IsLast};
 
 use crate::responses::Response;
-use line_lock::{FindRefusal, Posting, Reached, SearchStep, Sought};
 use station_desk::Question;
+use turn_clerk::{FindRefusal, Posting, Reached, SearchStep, Sought};
 
 /// How far the search is that a counter asked for last.
 #[derive(Clone, Copy, Debug)]

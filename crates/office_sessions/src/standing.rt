@@ -3,7 +3,7 @@ ghost use Rattle.std.specs.Prelude.{◌≡◌};
 ghost use Rattle.office_sessions.specs.Standing.{archived_of};
 
 use crate::recess::Kept;
-use station_desk::Room;
+use line_lock::Room;
 use std::fmt;
 
 /// How an office stands.

@@ -4,10 +4,10 @@ use crate::responses::Response;
 use crate::scheduler::Scheduler;
 use crate::wakers::Wakers;
 use rtrb::Consumer;
-use text_streams::write_all;
 use std::alloc::{AllocError, Global};
 use std::io::Write;
 use std::sync::Wait;
+use text_streams::write_all;
 
 /// How many bytes are gathered at most before they are written.
 const FULL: usize = 4_096;

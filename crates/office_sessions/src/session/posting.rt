@@ -1,11 +1,11 @@
 //! How a counter's entries are posted: each reference once.
 ghost use Rattle.std.specs.Prelude.{◌≤◌, IfSome, ◌≡◌, ◌≢◌, ◌<◌, IsTrue, Some, None};
-ghost use Rattle.rtrb.specs.Ring.{known_free};
 ghost use Rattle.text_grammar.specs.declared.requests.Request.TheVariants.{Post, Last, First};
 ghost use Rattle.station_desk.specs.Rings.{StandsAt};
 ghost use Rattle.office_sessions.specs.declared.messages.Message.TheVariants.{Asked};
 ghost use Rattle.office_sessions.specs.Conversation.{MayLook};
 ghost use Rattle.office_sessions.specs.Looked.{earlier_by};
+ghost use Rattle.office_sessions.specs.Session.{HasPlace, OnlyTells, TellsNothing};
 ghost use Rattle.turn_ledger.specs.Entry.{reference_of};
 
 use crate::look::{Look, Seen, farther, judge};
@@ -14,15 +14,16 @@ use crate::recess::{Came, Wish};
 use crate::responses::{Judgement, Response};
 use crate::scheduler::Scheduler;
 use crate::session::{Earlier, Session};
-use station_desk::{FindRefusal, Report};
+use station_desk::Report;
 use std::sync::Wait;
+use turn_clerk::FindRefusal;
 use turn_ledger::Entry;
 
 impl Session {
     // Posts the entry that is asked for next, for whose response there is a place; false if that can't be done yet. One
     // with a reference is submitted only if that is above all that were posted here or are under way.
     pub(super) fn post<R: Wait>(&mut self, rt: &R, scheduler: &Scheduler, entry: Entry) -> bool
-        requires place { self.old.postings.unanswered < known_free self.old.responses }
+        requires place { HasPlace self.old }
         requires next { self.old.next ≡ Some (Asked (Post entry)) }
         ensures feed { StandsAt self.old.postings.feed self.new.postings.feed }
         ensures handled { IsTrue result → self.new.next ≡ None }
@@ -35,7 +36,7 @@ impl Session {
 
     // The same, if it isn't known whether its reference is above: that is found out first.
     fn post_first<R: Wait>(&mut self, rt: &R, scheduler: &Scheduler, entry: Entry) -> bool
-        requires place { self.old.postings.unanswered < known_free self.old.responses }
+        requires place { HasPlace self.old }
         requires next { self.old.next ≡ Some (Asked (Post entry)) }
         ensures feed { StandsAt self.old.postings.feed self.new.postings.feed }
         ensures handled { IsTrue result → self.new.next ≡ None }
@@ -60,7 +61,7 @@ impl Session {
     // before.
     fn submit<R: Wait>(&mut self, rt: &R, scheduler: &Scheduler, entry: Entry) -> bool
         requires known { 0 < reference_of entry → self.old.earlier ≡ Earlier.Known }
-        requires place { self.old.postings.unanswered < known_free self.old.responses }
+        requires place { HasPlace self.old }
         requires next { self.old.next ≡ Some (Asked (Post entry)) }
         ensures feed { StandsAt self.old.postings.feed self.new.postings.feed }
         ensures handled { IsTrue result → self.new.next ≡ None }
@@ -80,7 +81,7 @@ impl Session {
     // Hands the entry to the feed, if its reference is above.
     fn hand_in(&mut self, scheduler: &Scheduler, entry: Entry) -> Submission
         requires known { 0 < reference_of entry → self.old.earlier ≡ Earlier.Known }
-        requires place { self.old.postings.unanswered < known_free self.old.responses }
+        requires place { HasPlace self.old }
         requires next { self.old.next ≡ Some (Asked (Post entry)) }
         ensures feed { StandsAt self.old.postings.feed self.new.postings.feed }
         ensures submitted { result ≡ Submission.Submitted → self.new.next ≡ None }
@@ -102,7 +103,7 @@ impl Session {
 
     // Answers an entry whose reference isn't above those that were posted, by what stands under it.
     fn judge_repeated<R: Wait>(&mut self, rt: &R, scheduler: &Scheduler, entry: Entry) -> bool
-        requires place { self.old.postings.unanswered < known_free self.old.responses }
+        requires place { HasPlace self.old }
         requires behind { self.old.postings.unanswered ≡ 0 }
         requires next { self.old.next ≡ Some (Asked (Post entry)) }
         ensures feed { self.new.postings.feed ≡ self.old.postings.feed }
@@ -118,7 +119,7 @@ impl Session {
 
     // Tells what became of the entry that is asked for next, and isn't submitted.
     fn tell_judgement(&mut self, entry: Entry, judgement: Judgement) -> bool
-        requires place { self.old.postings.unanswered < known_free self.old.responses }
+        requires place { HasPlace self.old }
         requires next { self.old.next ≡ Some (Asked (Post entry)) }
         ensures told { IsTrue result }
         ensures feed { self.new.postings.feed ≡ self.old.postings.feed }
@@ -141,10 +142,7 @@ impl Session {
     ) -> Option<Result<Seen, FindRefusal>>
         requires behind { self.old.postings.unanswered ≡ 0 }
         requires right { MayLook self.old.next self.old.station limit }
-        ensures feed { self.new.postings.feed ≡ self.old.postings.feed }
-        ensures next { self.new.next ≡ self.old.next }
-        ensures room { self.new.responses ≡ self.old.responses }
-        ensures unanswered { self.new.postings.unanswered ≡ self.old.postings.unanswered }
+        ensures stays { TellsNothing self.old self.new }
     {
         let question = self.look.question(self.station, limit);
         let Some(Report::Searched(step)) = self.report(rt, scheduler, question) else {
@@ -168,10 +166,7 @@ impl Session {
     ) -> Option<Result<(), FindRefusal>>
         requires behind { self.old.postings.unanswered ≡ 0 }
         requires right { MayLook self.old.next self.old.station u64.MAX }
-        ensures feed { self.new.postings.feed ≡ self.old.postings.feed }
-        ensures next { self.new.next ≡ self.old.next }
-        ensures room { self.new.responses ≡ self.old.responses }
-        ensures unanswered { self.new.postings.unanswered ≡ self.old.postings.unanswered }
+        ensures stays { TellsNothing self.old self.new }
     {
         if self.earlier != Earlier::Unlooked {
             return Some(Ok(()));
@@ -194,10 +189,7 @@ impl Session {
     ) -> Option<Result<Seen, FindRefusal>>
         requires behind { self.old.postings.unanswered ≡ 0 }
         requires right { MayLook self.old.next self.old.station u64.MAX }
-        ensures feed { self.new.postings.feed ≡ self.old.postings.feed }
-        ensures next { self.new.next ≡ self.old.next }
-        ensures room { self.new.responses ≡ self.old.responses }
-        ensures unanswered { self.new.postings.unanswered ≡ self.old.postings.unanswered }
+        ensures stays { TellsNothing self.old self.new }
     {
         let since = match self.out_of_sight {
             Some(since) => since,
@@ -223,10 +215,7 @@ impl Session {
         ensures greatest { IfSome seen.posting (λ last.
             reference_of last.entry ≤ self.new.postings.posted) }
         ensures never_falls { self.old.postings.posted ≤ self.new.postings.posted }
-        ensures feed { self.new.postings.feed ≡ self.old.postings.feed }
-        ensures next { self.new.next ≡ self.old.next }
-        ensures room { self.new.responses ≡ self.old.responses }
-        ensures unanswered { self.new.postings.unanswered ≡ self.old.postings.unanswered }
+        ensures stays { TellsNothing self.old self.new }
     {
         if let Some(last) = seen.posting {
             self.postings.raise(last.entry.reference());
@@ -241,11 +230,10 @@ impl Session {
 
     // Tells which reference was posted here last; false if that isn't known yet.
     pub(super) fn tell_last<R: Wait>(&mut self, rt: &R, scheduler: &Scheduler) -> bool
-        requires place { self.old.postings.unanswered < known_free self.old.responses }
+        requires place { HasPlace self.old }
         requires behind { self.old.postings.unanswered ≡ 0 }
         requires next { self.old.next ≡ Some (Asked Last) }
-        ensures feed { self.new.postings.feed ≡ self.old.postings.feed }
-        ensures next { self.new.next ≡ self.old.next }
+        ensures stays { OnlyTells self.old self.new }
     {
         match self.look_far(rt, scheduler) {
             None => false,
@@ -265,11 +253,10 @@ impl Session {
         scheduler: &Scheduler,
         reference: u64,
     ) -> bool
-        requires place { self.old.postings.unanswered < known_free self.old.responses }
+        requires place { HasPlace self.old }
         requires behind { self.old.postings.unanswered ≡ 0 }
         requires next { self.old.next ≡ Some (Asked (First reference)) }
-        ensures feed { self.new.postings.feed ≡ self.old.postings.feed }
-        ensures next { self.new.next ≡ self.old.next }
+        ensures stays { OnlyTells self.old self.new }
     {
         match self.look_back(rt, scheduler) {
             None => return false,

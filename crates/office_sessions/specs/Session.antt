@@ -1,0 +1,22 @@
+-- What a counter's session keeps while the counter is told something, or nothing.
+use Rattle.std.specs.Prelude.{◌≡◌, ◌<◌}
+use Rattle.rtrb.specs.Ring.{known_free}
+use Rattle.office_sessions.specs.declared.session.Session.{Session}
+
+-- There is a place for one response more than those to the entries that are under way.
+abbrev pub HasPlace : Session → Type 0
+HasPlace session = session.postings.unanswered < known_free session.responses
+
+-- The counter was told at most something else than an answer: nothing was submitted or collected, and what is handled
+-- next is that.
+pub record OnlyTells (old new : Session) : Type 0 where
+  pub feed : new.postings.feed ≡ old.postings.feed
+  pub next : new.next ≡ old.next
+  pub unanswered : new.postings.unanswered ≡ old.postings.unanswered
+
+-- It was told nothing at all.
+pub record TellsNothing (old new : Session) : Type 0 where
+  pub feed : new.postings.feed ≡ old.postings.feed
+  pub next : new.next ≡ old.next
+  pub unanswered : new.postings.unanswered ≡ old.postings.unanswered
+  pub room : new.responses ≡ old.responses

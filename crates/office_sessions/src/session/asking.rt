@@ -1,0 +1,167 @@
+//! What a counter asks that is no entry: of its station, or of a recess.
+ghost use Rattle.std.specs.Prelude.{◌≡◌, IfSome, Some};
+ghost use Rattle.text_grammar.specs.declared.requests.Request.TheVariants.{Balance, Find, Archive, Copy, Status};
+ghost use Rattle.office_sessions.specs.declared.messages.Message.TheVariants.{Asked};
+ghost use Rattle.office_sessions.specs.Conversation.{IsOther, IsAskedBy, IsResponseTo};
+ghost use Rattle.office_sessions.specs.Session.{HasPlace, OnlyTells, TellsNothing};
+
+use crate::recess::{Came, Kept, Wish};
+use crate::responses::Response;
+use crate::scheduler::Scheduler;
+use crate::search::{Search, Step};
+use crate::session::Session;
+use crate::standing::{Clients, Standing};
+use station_desk::{Question, Report};
+use std::sync::Wait;
+
+impl Session {
+    // What the station reports on a question, which is put to it once, behind all that was asked before.
+    pub(super) fn report<R: Wait>(
+        &mut self,
+        rt: &R,
+        scheduler: &Scheduler,
+        question: Question,
+    ) -> Option<Report>
+        requires behind { self.old.postings.unanswered ≡ 0 }
+        requires right { IsAskedBy self.old.next self.old.search self.old.station
+            self.old.look.from question }
+        ensures stays { TellsNothing self.old self.new }
+        ensures station { self.new.station ≡ self.old.station }
+    {
+        if !self.is_asked {
+            self.is_asked = true;
+            scheduler.put_question(rt, self.station, question);
+            return None;
+        }
+        let report = scheduler.take_report(rt, self.station)?;
+        self.is_asked = false;
+        Some(report)
+    }
+
+    // Tells what an account holds; false if that isn't known yet.
+    pub(super) fn tell_balance<R: Wait>(
+        &mut self,
+        rt: &R,
+        scheduler: &Scheduler,
+        account: u32,
+    ) -> bool
+        requires place { HasPlace self.old }
+        requires behind { self.old.postings.unanswered ≡ 0 }
+        requires next { self.old.next ≡ Some (Asked (Balance account)) }
+        ensures stays { OnlyTells self.old self.new }
+    {
+        match self.report(rt, scheduler, Question::Balance(account)) {
+            Some(Report::Balance(answer)) => self.respond(Response::of_balance(account, answer)),
+            Some(Report::Searched(_) | Report::Room(_)) | None => false,
+        }
+    }
+
+    // Tells under which numbers a reference was posted, one after another; false until the last is told.
+    pub(super) fn tell_found<R: Wait>(
+        &mut self,
+        rt: &R,
+        scheduler: &Scheduler,
+        reference: u64,
+    ) -> bool
+        requires place { HasPlace self.old }
+        requires behind { self.old.postings.unanswered ≡ 0 }
+        requires next { self.old.next ≡ Some (Asked (Find reference)) }
+        ensures stays { OnlyTells self.old self.new }
+    {
+        let question = self.search.question(reference);
+        let Some(Report::Searched(found)) = self.report(rt, scheduler, question) else {
+            return false;
+        };
+        let step = self.search.go_on(reference, found);
+        self.tell_step(step);
+        if step.is_last {
+            self.search = Search::BEGINNING;
+            return true;
+        }
+        let question = self.search.question(reference);
+        let _ = self.report(rt, scheduler, question);
+        false
+    }
+
+    // What came of a wish, for which a recess is called once, behind all that was asked before.
+    pub(super) fn what_came<R: Wait>(
+        &mut self,
+        rt: &R,
+        scheduler: &Scheduler,
+        wish: Wish,
+    ) -> Option<Came>
+        requires behind { self.old.postings.unanswered ≡ 0 }
+        ensures stays { TellsNothing self.old self.new }
+    {
+        if !self.is_asked {
+            self.is_asked = true;
+            scheduler.call_recess(rt, self.station, wish);
+            return None;
+        }
+        let came = scheduler.take_what_came(rt, self.station)?;
+        self.is_asked = false;
+        Some(came)
+    }
+
+    // Tells how far the archive is; false if that isn't known yet. Where it can't be kept the office closes, and tells
+    // that.
+    pub(super) fn tell_archived<R: Wait>(&mut self, rt: &R, scheduler: &Scheduler) -> bool
+        requires place { HasPlace self.old }
+        requires behind { self.old.postings.unanswered ≡ 0 }
+        requires next { self.old.next ≡ Some (Asked Archive) }
+        ensures stays { OnlyTells self.old self.new }
+    {
+        match self.what_came(rt, scheduler, Wish::Archive) {
+            Some(Came::Archive(Kept::UpTo(next))) => self.respond(Response::Archived { next }),
+            Some(Came::Archive(Kept::NoArchive)) => self.respond(Response::NoArchive),
+            Some(Came::Archive(Kept::Failed) | Came::Copy(_) | Came::Last(_)) | None => false,
+        }
+    }
+
+    // Tells of a copy; false if it isn't made yet.
+    pub(super) fn tell_copied<R: Wait>(&mut self, rt: &R, scheduler: &Scheduler) -> bool
+        requires place { HasPlace self.old }
+        requires behind { self.old.postings.unanswered ≡ 0 }
+        requires next { self.old.next ≡ Some (Asked Copy) }
+        ensures stays { OnlyTells self.old self.new }
+    {
+        match self.what_came(rt, scheduler, Wish::Copy) {
+            Some(Came::Copy(Ok(next))) => self.respond(Response::Copied { next }),
+            Some(Came::Copy(Err(refusal))) => self.respond(Response::NoCopy(refusal)),
+            Some(Came::Archive(_) | Came::Last(_)) | None => false,
+        }
+    }
+
+    // Tells how the office stands; false if that isn't known yet.
+    pub(super) fn tell_standing<R: Wait, C: Clients>(
+        &mut self,
+        rt: &R,
+        scheduler: &Scheduler,
+        clients: &mut C,
+    ) -> bool
+        requires place { HasPlace self.old }
+        requires behind { self.old.postings.unanswered ≡ 0 }
+        requires next { self.old.next ≡ Some (Asked Status) }
+        ensures stays { OnlyTells self.old self.new }
+    {
+        let Some(Report::Room(room)) = self.report(rt, scheduler, Question::Room) else {
+            return false;
+        };
+        let (kept, turns) = (scheduler.kept(rt), scheduler.turns());
+        let others = clients.others(self.station);
+        self.respond(Response::Standing(Standing::new(room, kept, turns, others)))
+    }
+
+    // Tells what comes of a step of a search, if anything.
+    fn tell_step(&mut self, step: Step)
+        requires place { HasPlace self.old }
+        requires other { IfSome step.response IsOther }
+        requires right { IfSome self.old.next (λ message.
+            IfSome step.response (IsResponseTo message)) }
+        ensures stays { OnlyTells self.old self.new }
+    {
+        if let Some(response) = step.response {
+            self.respond(response);
+        }
+    }
+}

@@ -1,0 +1,53 @@
+//! How a conversation with a counter ends.
+ghost use Rattle.std.specs.Prelude.{◌≡◌, ◌⊎◌, ◌<◌, length, IfOk};
+ghost use Rattle.rtrb.specs.Ring.{sent};
+ghost use Rattle.office_sessions.specs.Conversation.{pending, IsOver, IsToldNoMore};
+
+use crate::conversation::{Conversation, listed};
+use crate::session::Session;
+use station_desk::Feed;
+use std::alloc::{AllocError, Global};
+use std::time::Clock;
+
+impl Session {
+    /// Ends the conversation: what the counter asks to post by now is listed, other questions are refused, and it is
+    /// told that the office closes. Nothing is answered behind an entry that isn't.
+    ///
+    /// # Errors
+    /// Out of memory.
+    pub(crate) fn end<C: Clock>(
+        self,
+        clock: &C,
+        alloc: Global,
+    ) -> Result<(Feed, Conversation), AllocError>
+        ensures feed { IfOk result (λ both. both.0 ≡ self.postings.feed) }
+        ensures over { IfOk result (λ both. IsOver both.0 both.1) }
+        ensures silent { (0 < self.postings.unanswered) ⊎ (0 < length (pending self.next))
+            → IfOk result (λ both. IsToldNoMore (sent self.responses) both.1.told) }
+    {
+        let Session {
+            next,
+            messages,
+            responses,
+            postings,
+            wakers,
+            recent,
+            is_told_closing,
+            ..
+        } = self;
+        let unheard = listed(alloc, next)?;
+        let mut conversation = Conversation::new(
+            messages,
+            responses,
+            unheard,
+            recent,
+            wakers,
+            is_told_closing,
+        );
+        let is_answered = postings.unanswered == 0;
+        conversation.refuse_next(next, is_answered);
+        conversation.take_late(clock, is_answered)?;
+        conversation.tell_closing();
+        Ok((postings.into_feed(), conversation))
+    }
+}
