@@ -1,5 +1,6 @@
-ghost use Rattle.std.specs.Prelude.{◌≡◌, ◌*◌, ◌<◌, ◌≤◌, ◌^◌, false, IfOk};
+ghost use Rattle.std.specs.Prelude.{◌≡◌, ◌<◌, ◌≤◌, false, IfOk};
 ghost use Rattle.device_files.specs.ReadBuffer.{IsEmpty};
+ghost use Rattle.device_files.specs.Opened.{IsJustOpened};
 
 use crate::buffer::ReadBuffer;
 use crate::device_file::DeviceFile;
@@ -39,10 +40,7 @@ impl<F: DeviceFile + Drop> DeviceOn<F> {
         sectors: u64,
     ) -> Result<DeviceOn<F>, FileRefusal>
         ensures enough { IfOk result (λ device. sectors ≤ device.inner.sectors) }
-        ensures fits { IfOk result (λ device. device.inner.sectors * 512 < 2 ^ 63) }
-        ensures failures { IfOk result (λ device.
-            (device.inner.failures ≡ 0) × (device.refused ≡ 0)) }
-        ensures works { IfOk result (λ device. device.stopped ≡ false) }
+        ensures opened { IfOk result IsJustOpened }
     {
         Ok(Self::open_with_cause(rt, alloc, path, sectors)?)
     }
@@ -55,10 +53,7 @@ impl<F: DeviceFile + Drop> DeviceOn<F> {
         sectors: u64,
     ) -> Result<DeviceOn<F>, FileFault>
         ensures enough { IfOk result (λ device. sectors ≤ device.inner.sectors) }
-        ensures fits { IfOk result (λ device. device.inner.sectors * 512 < 2 ^ 63) }
-        ensures failures { IfOk result (λ device.
-            (device.inner.failures ≡ 0) × (device.refused ≡ 0)) }
-        ensures works { IfOk result (λ device. device.stopped ≡ false) }
+        ensures opened { IfOk result IsJustOpened }
     {
         check_length(sectors)?;
         let file = LockedFile::open(rt, alloc, path, Making::IfMissing)?;
@@ -77,10 +72,7 @@ impl<F: DeviceFile + Drop> DeviceOn<F> {
         sectors: u64,
     ) -> Result<DeviceOn<F>, FileFault>
         ensures enough { IfOk result (λ device. sectors ≤ device.inner.sectors) }
-        ensures fits { IfOk result (λ device. device.inner.sectors * 512 < 2 ^ 63) }
-        ensures failures { IfOk result (λ device.
-            (device.inner.failures ≡ 0) × (device.refused ≡ 0)) }
-        ensures works { IfOk result (λ device. device.stopped ≡ false) }
+        ensures opened { IfOk result IsJustOpened }
     {
         let file = LockedFile::open(rt, alloc, path, Making::Never)?;
         if !file.is_disk() {

@@ -1,7 +1,8 @@
 //! Files and disks that are open and locked, and not yet devices.
-ghost use Rattle.std.specs.Prelude.{◌≡◌, ◌*◌, ◌<◌, ◌≤◌, ◌^◌, false, true, max, length, vec_len, None, IsSome, IfOk, OnOk};
+ghost use Rattle.std.specs.Prelude.{◌≡◌, ◌*◌, ◌<◌, ◌^◌, false, true, max, length, vec_len, None, IsSome, IfOk, OnOk};
 ghost use Rattle.device_files.specs.ReadBuffer.{IsEmpty};
 ghost use Rattle.device_files.specs.LockedFile.{LockedState};
+ghost use Rattle.device_files.specs.Opened.{IsJustOpened};
 
 use crate::buffer::ReadBuffer;
 use crate::device::{DeviceOn, device_over};
@@ -163,10 +164,7 @@ impl<'a, F: DeviceFile + Drop> LockedFile<'a, F> {
             device.inner.sectors ≡ max self.entry.sectors wanted.sectors) }
         ensures disk { self.entry.is_disk ≡ true → IfOk result (λ device.
             device.inner.sectors ≡ self.entry.sectors) }
-        ensures fits { IfOk result (λ device. device.inner.sectors * 512 < 2 ^ 63) }
-        ensures failures { IfOk result (λ device.
-            (device.inner.failures ≡ 0) × (device.refused ≡ 0)) }
-        ensures works { IfOk result (λ device. device.stopped ≡ false) }
+        ensures opened { IfOk result IsJustOpened }
     {
         let made = self.made();
         let LockedFile {
