@@ -8,11 +8,11 @@ use crate::map::Map;
 use crate::place::Place;
 use crate::section::{COLUMNS, Section};
 use crate::style::STYLE;
-use text_streams::{Output, StreamFault};
 use sector_device::Device;
 use std::alloc::Global;
 use std::fmt;
 use std::io::Write;
+use text_streams::{Output, StreamFault};
 
 /// The width of the picture; this and all below are in pixels.
 const WIDTH: u64 = 864;

@@ -1,7 +1,7 @@
 //! Why a device wasn't drawn.
-use text_streams::StreamFault;
 use sector_device::DeviceFault;
 use std::alloc::AllocError;
+use text_streams::StreamFault;
 use thiserror::Error;
 
 /// Why a device wasn't drawn. The writer may have a first part of the drawing.

@@ -23,5 +23,5 @@ pub use drawing::draw;
 pub use faults::DrawFault;
 pub use journal_recovery::{Cause, OpenRefusal};
 pub use place::Place;
-pub use text_streams::StreamFault;
 pub use sector_device::{Device, DeviceFault};
+pub use text_streams::StreamFault;

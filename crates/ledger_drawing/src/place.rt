@@ -1,8 +1,6 @@
 //! Where on a device something is wrong.
 ghost use Rattle.std.specs.Prelude.{◌≡◌, ◌+◌, ◌*◌, ◌<◌, ◌^◌};
-ghost use Rattle.ledger_drawing.specs.Places.{number_in as number_of_bank};
 
-use gate_journal::{Bank, Plan};
 use sector_device::SECTOR;
 use std::fmt;
 
@@ -17,6 +15,7 @@ pub struct Place {
     pub sector: u64,
     /// The byte of the sector, 0 to 511.
     pub byte: u16,
+    pub ghost within: { byte < 512 },
 }
 
 impl Place {
@@ -30,16 +29,6 @@ impl Place {
             .saturating_mul(SECTOR as u64)
             .saturating_add(self.byte as u64)
     }
-}
-
-/// The number of a bank, if the layout has banks.
-pub(crate) fn number_in(plan: Plan, bank: Bank) -> Option<u8>
-    ensures { result ≡ number_of_bank plan bank }
-{
-    if !plan.has_banks() {
-        return None;
-    }
-    Some(bank.number())
 }
 
 /// The sector and the byte, and behind them the bank and the slot that it is in.

@@ -1,7 +1,9 @@
 //! Where damage is found: heads of banks, in the present layout.
+ghost use Rattle.std.specs.Prelude.{◌<◌};
+
 use crate::scenes::formatted;
-use ledger_drawing::{Place, locate};
 use journal_recovery::{Cause, OpenRefusal, recover};
+use ledger_drawing::{Place, locate};
 use sector_device::{Device, MemoryDevice, SECTOR};
 use std::alloc::Global;
 use std::test::Fail;
@@ -29,8 +31,11 @@ fn is_found(
     alloc: Global,
     changes: &[Change],
     number: u64,
-    (sector, byte): (u64, u16),
-) -> Result<bool, Fail> {
+    sector: u64,
+    byte: u16,
+) -> Result<bool, Fail>
+    requires { byte < 512 }
+{
     let (slot, cause) = (number, Cause::Bank);
     let place = Place {
         bank: Some(u8::from(number == 1)),
@@ -54,9 +59,9 @@ fn damaged_heads_are_found(rt: HostRuntime) -> Result<(), Fail> {
     let alloc = rt.alloc();
     let second = [(1, 0, 0), (28, 0, 0xa5)];
     assert!(rt;
-        is_found(alloc, &[(2, 4, 1)], 0, (2, 4))?
-            && is_found(alloc, &[(2, 24, 1), (2, 7, 1)], 0, (2, 7))?
-            && is_found(alloc, &second, 1, (29, 0))?
+        is_found(alloc, &[(2, 4, 1)], 0, 2, 4)?
+            && is_found(alloc, &[(2, 24, 1), (2, 7, 1)], 0, 2, 7)?
+            && is_found(alloc, &second, 1, 29, 0)?
     );
     Ok(())
 }
