@@ -9,8 +9,9 @@ use Rattle.ledger_counters.specs.Faults as counters
 use Rattle.ledger_counters.specs.declared.refusal.CountersFault.{CountersFault}
 use Rattle.office_service.specs.declared.faults.OfficeFault.{OfficeFault}
 use Rattle.office_service.specs.declared.faults.OfficeFault.TheVariants as office
-use Rattle.office_service.specs.declared.speaking.ControlFault.{ControlFault}
-use Rattle.office_service.specs.declared.speaking.ControlFault.TheVariants as control
+use Rattle.office_service.specs.declared.counter_fault.CounterFault.{CounterFault}
+use Rattle.office_service.specs.declared.counter_fault.CounterRefusal.{CounterRefusal}
+use Rattle.office_service.specs.declared.counter_fault.CounterRefusal.TheVariants as counter
 use Rattle.ledger_inspection.specs.Faults as inspection
 use Rattle.ledger_inspection.specs.declared.faults.InspectionFault.{InspectionFault}
 use Rattle.front_program.specs.Status.{of_ledger, of_opening, of_script, of_turn}
@@ -51,10 +52,13 @@ of_office (office.Counters inner) = of_counters inner
 of_office _ = Failed
 
 -- that no office is open, or that a client speaks there, is a rule's matter, and else something failed
-abbrev pub of_control : ControlFault → Status
-of_control (control.NotOpen folder) = Refused
-of_control (control.Taken folder) = Refused
-of_control _ = Failed
+abbrev of_counter : CounterRefusal → Status
+of_counter counter.NotOpen = Refused
+of_counter counter.HasClient = Refused
+of_counter _ = Failed
+
+abbrev pub of_control : CounterFault → Status
+of_control fault = of_counter fault.refusal
 
 -- that of what refused it; what can't be looked at failed
 abbrev pub status_of : Fault → Status

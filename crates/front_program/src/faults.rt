@@ -11,16 +11,17 @@ ghost use Rattle.front_program.specs.Statuses.{
 };
 
 use crate::status::Status;
-use ledger_folder::{ArchiveFault, FolderFault};
-use front_scripts::ScriptFault;
 use device_files::FileFault;
+use front_scripts::ScriptFault;
+use gate_journal::FormatRefusal;
 use journal_recovery::{MigrateRefusal, OpenRefusal};
-use ledger_file::{FormatRefusal, LedgerRefusal, PartFault};
+use ledger_counters::CountersFault;
+use ledger_file::{LedgerRefusal, PartFault};
+use ledger_folder::{ArchiveFault, FolderFault};
 use ledger_inspection::InspectionFault;
 use line_lock::OfficeRefusal;
+use office_service::{CounterFault, CounterRefusal, OfficeFault};
 use office_sessions::LiveRefusal;
-use ledger_counters::CountersFault;
-use office_service::{ControlFault, OfficeFault};
 use thiserror::Error;
 
 /// Why a command of `derbyfig` ended before it was done.
@@ -52,7 +53,7 @@ pub enum Fault<'a> {
     Office(#[from] OfficeFault<'a>),
     /// An office wasn't closed, or doesn't tell how it stands.
     #[error("{0}")]
-    Control(#[from] ControlFault<'a>),
+    Control(#[from] CounterFault<'a>),
     /// An archive doesn't have all of a ledger.
     #[error("{0}")]
     Archive(#[from] ArchiveFault<'a>),
@@ -159,11 +160,11 @@ fn of_office(fault: OfficeFault<'_>) -> Status
 }
 
 // The same for one of speaking at it from outside.
-fn of_control(fault: ControlFault<'_>) -> Status
+fn of_control(fault: CounterFault<'_>) -> Status
     ensures { result ≡ of_control fault.entry }
 {
-    match fault {
-        ControlFault::NotOpen(_) | ControlFault::Taken(_) => Status::Refused,
+    match fault.refusal {
+        CounterRefusal::NotOpen | CounterRefusal::HasClient => Status::Refused,
         _ => Status::Failed,
     }
 }

@@ -8,14 +8,14 @@ use crate::faults::OfficeFault;
 use crate::looking_back::last_in_archive;
 use crate::seating::Seating;
 use crate::serving::Serving;
+use device_files::FileNumber;
+use gate_journal::{Borrower, Journal};
+use ledger_counters::RosterPath;
 use ledger_folder::{
     ArchiveFault, Folder, FolderCopyRefusal, archive_journal, check_no_gap, copy_to_folder,
     open_copies,
 };
-use device_files::FileNumber;
-use gate_journal::{Borrower, Journal};
 use office_sessions::{CounterCopyRefusal, Keeper, Kept, Seen};
-use ledger_counters::RosterPath;
 use sector_device::Device;
 use std::fs;
 use std::fs::{File, Files};

@@ -1,5 +1,6 @@
 //! Closing an office from outside.
-use crate::speaking::{ControlFault, Speaker};
+use crate::counter_fault::{CounterFault, CounterFile, CounterRefusal};
+use crate::speaking::Speaker;
 use std::fs::{File, Files};
 use std::thread::sleep;
 use std::time::{Clock, Duration};
@@ -19,12 +20,12 @@ const TRIES: u64 = 10;
 /// at it before is answered first. No answer is read.
 ///
 /// # Errors
-/// [`ControlFault`].
+/// [`CounterFault`].
 pub fn close_office<'a, R: Files<File = File> + AllocGlobal + Clock>(
     rt: &R,
     folder: &'a str,
     seconds: u64,
-) -> Result<(), ControlFault<'a>> {
+) -> Result<(), CounterFault<'a>> {
     let mut speaker = speaker_within(rt, folder, seconds)?;
     speaker.say(SAID)?;
     for _ in 0..seconds.saturating_mul(LOOKS) {
@@ -33,7 +34,7 @@ pub fn close_office<'a, R: Files<File = File> + AllocGlobal + Clock>(
         }
         sleep(rt, Duration::from_millis(1_000 / LOOKS));
     }
-    Err(ControlFault::StillOpen(folder))
+    Err(CounterFault::new(folder, CounterFile::Folder, CounterRefusal::StillOpen))
 }
 
 // Who speaks at the counter, once no other client does.
@@ -41,10 +42,15 @@ fn speaker_within<'a, R: Files<File = File> + AllocGlobal + Clock>(
     rt: &R,
     folder: &'a str,
     seconds: u64,
-) -> Result<Speaker<'a>, ControlFault<'a>> {
+) -> Result<Speaker<'a>, CounterFault<'a>> {
     for _ in 0..seconds.saturating_mul(TRIES) {
         match Speaker::at(rt, folder) {
-            Err(ControlFault::Taken(_)) => {}
+            Err(
+                CounterFault {
+                    refusal: CounterRefusal::HasClient,
+                    ..
+                },
+            ) => {}
             speaker => return speaker,
         }
     }

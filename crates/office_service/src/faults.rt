@@ -1,43 +1,16 @@
 //! Why an office isn't kept open, or ends early.
-use crate::pipes::{PipeRefusal, Side};
-use ledger_folder::ArchiveFault;
+use crate::counter_fault::CounterFault;
 use four_state::LineRefusal;
 use journal_recovery::OpenRefusal;
+use ledger_counters::{CountersFault, RosterFault};
 use ledger_file::LedgerRefusal;
+use ledger_folder::ArchiveFault;
 use line_lock::OfficeRefusal;
 use office_sessions::LiveRefusal;
-use ledger_counters::{CountersFault, RosterFault};
-use office_day::TurnRefusal;
-use text_streams::StreamFault;
 use std::alloc::AllocError;
-use std::fmt;
+use text_streams::StreamFault;
 use thiserror::Error;
-
-/// A counter's pipe that can't be used.
-#[derive(Clone, Copy, Debug)]
-pub struct PipeFault<'a> {
-    /// The counter's folder.
-    pub folder: &'a str,
-    pub side: Side,
-    pub refusal: PipeRefusal,
-}
-
-impl fmt::Display for PipeFault<'_> {
-    fn fmt<W: fmt::Write>(&self, f: &mut fmt::Formatter<W>) -> fmt::Result {
-        let name = self.side.name();
-        let cause = match self.refusal {
-            PipeRefusal::Memory => return f.write_str("out of memory"),
-            PipeRefusal::Missing => "it isn't there; mkfifo makes it",
-            PipeRefusal::Denied => "there is no right to open it",
-            PipeRefusal::Unopened => "it can't be opened",
-            PipeRefusal::NoPipe => "it is no pipe",
-            PipeRefusal::Taken => "it is another counter's",
-            PipeRefusal::InUse => "another office has it",
-            PipeRefusal::Unlocked => "it can't be locked",
-        };
-        write!(f, "{}/{name}: {cause}", self.folder)
-    }
-}
+use turn_clerk::TurnRefusal;
 
 /// Why an office was closed by a fault, or never opened.
 #[derive(Clone, Copy, Debug, Error)]
@@ -50,7 +23,7 @@ pub enum OfficeFault<'a> {
     Write,
     /// A counter's pipe can't be used.
     #[error("{0}")]
-    Pipe(PipeFault<'a>),
+    Pipe(#[from] CounterFault<'a>),
     /// There is no ledger at the path that could be opened, or made.
     #[error("{path}: {refusal}")]
     File {

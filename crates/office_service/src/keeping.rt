@@ -4,28 +4,30 @@ ghost use Rattle.turn_clerk.specs.declared.refusals.TurnRefusal.{TurnRefusal};
 ghost use Rattle.office_service.specs.Ends.{NoneFailed, NoneWasRefused, TellsRefusal, reason_of};
 
 use crate::archivist::Archivist;
-use crate::faults::{OfficeFault, PipeFault};
+use crate::counter_fault::CounterFile;
+use crate::faults::OfficeFault;
 use crate::locks::{Locks, SeatedClients};
-use crate::pipes::{Side, open_pipe};
+use crate::pipes::open_pipe;
 use crate::runtime::Runtime;
 use crate::seating::Seating;
 use crate::serving::{CounterFolder, Plan, Serving};
 use crate::source::{Source, Target};
-use device_files::FileNumber;
+use device_files::{FileDevice, FileNumber};
 use four_state::{FEWEST_STATIONS, Line, MOST_STATIONS};
 use journal_recovery::OpenRefusal;
-use ledger_file::{FileDevice, Formatting, format_ledger, open_ledger};
+use ledger_file::{Formatting, format_ledger, open_ledger};
+use office_day::StationDay;
 use office_sessions::{
-    Closed, Conversation, Counter, Entry, Identity, Keeper, Kept, Kind, are_threads_granted,
-    keep_open,
+    Closed, Conversation, Counter, Identity, Keeper, Kept, Kind, are_threads_granted, keep_open,
 };
-use office_day::{End, StationDay, TurnRefusal};
-use text_streams::{Output, StreamFault};
 use sector_device::Device;
+use station_desk::End;
 use std::alloc::{AllocError, Global};
 use std::fs::{File, Files};
 use std::io::{Read, Write};
-use turn_clerk::Clerk;
+use text_streams::{Output, StreamFault};
+use turn_clerk::{Clerk, TurnRefusal};
+use turn_ledger::Entry;
 
 /// After how many turns an office is closed and opened again, if its banks have as many slots: so many its history
 /// holds at most.
@@ -245,8 +247,8 @@ fn open_counter<'a, R: Files<File = File> + AllocGlobal, I: Read, O: Write>(
     awaits_hello: bool,
     opened: &mut Vec<FileNumber>,
 ) -> Result<AnyCounter<I, O>, OfficeFault<'a>> {
-    let input = pipe_of(rt, folder, Side::In, opened)?;
-    let output = pipe_of(rt, folder, Side::Out, opened)?;
+    let input = open_pipe(rt, folder, CounterFile::In, opened)?;
+    let output = open_pipe(rt, folder, CounterFile::Out, opened)?;
     let (input, output) = (Source::Pipe(input), Target::Pipe(output));
     Ok(unseated(rt.alloc(), input, output, Kind::Pipes, awaits_hello))
 }
@@ -268,21 +270,6 @@ fn unseated<I: Read, O: Write>(
         kind,
         awaits_hello,
     }
-}
-
-fn pipe_of<'a, R: Files<File = File> + AllocGlobal>(
-    rt: &R,
-    folder: &'a str,
-    side: Side,
-    opened: &mut Vec<FileNumber>,
-) -> Result<File, OfficeFault<'a>> {
-    open_pipe(rt, folder, side, opened).map_err(|refusal| {
-        OfficeFault::Pipe(PipeFault {
-            folder,
-            side,
-            refusal,
-        })
-    })
 }
 
 // The device, formatted first if that is asked for.

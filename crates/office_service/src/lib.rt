@@ -6,6 +6,7 @@
 
 mod archivist;
 mod closing;
+mod counter_fault;
 mod faults;
 mod keeping;
 mod locks;
@@ -19,15 +20,14 @@ mod speaking;
 mod standing;
 
 pub use closing::close_office;
-pub use faults::{OfficeFault, PipeFault};
+pub use counter_fault::{CounterFault, CounterFile, CounterRefusal};
+pub use faults::OfficeFault;
 pub use keeping::{SPAN, Surroundings, serve, span_in_numbers};
-pub use office_sessions::REQUESTS;
-pub use locks::{FileLocks, Locks};
 pub use ledger_counters::{CountersFault, RosterFault, RosterPath};
-pub use pipes::{PipeRefusal, Side, open_pipe};
+pub use locks::{FileLocks, Locks};
+pub use office_sessions::REQUESTS;
 pub use runtime::Runtime;
 pub use seating::TERMINAL;
 pub use serving::{CounterFolder, Plan, Serving};
 pub use source::{Source, Target};
-pub use speaking::ControlFault;
 pub use standing::{Told, ask_standing};

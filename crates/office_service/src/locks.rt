@@ -1,5 +1,5 @@
 //! The locks of counters' folders, each of which a client holds for as long as it speaks there.
-use crate::speaking::ControlFault;
+use crate::counter_fault::{CounterFault, CounterFile, CounterRefusal};
 use office_sessions::Clients;
 use std::alloc::{AllocError, Global};
 use std::fs;
@@ -14,25 +14,30 @@ const PAUSE: u64 = 100;
 /// since an office that tells how it stands has it for a moment.
 ///
 /// # Errors
-/// `Taken` if another client has it. `NoLock` if it can't be opened, made or locked, or if there is no memory.
+/// `HasClient` if another client has it. `NoLock` if it can't be opened, made or locked, or if there is no memory.
 pub(crate) fn lock_folder<'a, R: Files<File = File> + AllocGlobal + Clock>(
     rt: &R,
     folder: &'a str,
-) -> Result<File, ControlFault<'a>> {
-    let path = path_of(rt.alloc(), folder).or(Err(ControlFault::NoLock(folder)))?;
+) -> Result<File, CounterFault<'a>> {
+    let no_lock = CounterFault::new(folder, CounterFile::Lock, CounterRefusal::NoLock);
+    let path = path_of(rt.alloc(), folder).or(Err(no_lock))?;
     let mut how = OpenOptions::new();
     how.read(true).write(true).create(true);
     let file = how
         .open(rt, path.as_str())
         .or_else(|_| reading(rt, path.as_str()))
-        .or(Err(ControlFault::NoLock(folder)))?;
+        .or(Err(no_lock))?;
     if matches!(file.try_lock(), Err(TryLockError::WouldBlock)) {
         sleep(rt, Duration::from_millis(PAUSE));
     }
     match file.try_lock() {
         Ok(()) => Ok(file),
-        Err(TryLockError::WouldBlock) => Err(ControlFault::Taken(folder)),
-        Err(TryLockError::Error(_)) => Err(ControlFault::NoLock(folder)),
+        Err(TryLockError::WouldBlock) => Err(CounterFault::new(
+            folder,
+            CounterFile::Folder,
+            CounterRefusal::HasClient,
+        )),
+        Err(TryLockError::Error(_)) => Err(no_lock),
     }
 }
 

@@ -1,9 +1,10 @@
 //! A station's postings in an archive.
-use ledger_folder::{Volume, end_of, numbers_in};
 use device_files::{Locking, ReadOnlyFile};
 use journal_recovery::{Recovered, recover};
-use office_sessions::{Posting, Seen, last_posting};
+use ledger_folder::{Volume, end_of, numbers_in};
+use office_sessions::{Seen, last_posting};
 use std::fs::{File, Files};
+use turn_clerk::Posting;
 
 /// The posting of a station with the greatest reference in the newest ledger of an archive that has one of it, and the
 /// number of the first batch that was looked at: that of the archive's first one, or `first` if that is greater. None

@@ -3,10 +3,10 @@ use crate::faults::OfficeFault;
 use crate::locks::SeatedFolder;
 use crate::serving::Serving;
 use crate::standing::own_number;
-use office_sessions::Identity;
 use ledger_counters::{
     CountersFault, Left, Roster, RosterFault, RosterPath, is_disk, read_roster, write_roster,
 };
+use office_sessions::Identity;
 use std::alloc::{AllocError, Global};
 use std::fs::{File, Files};
 use std::mem;

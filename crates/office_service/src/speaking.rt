@@ -1,37 +1,10 @@
 //! Speaking at an office from outside, at one of its counters.
-use crate::faults::PipeFault;
+use crate::counter_fault::{CounterFault, CounterFile, CounterRefusal};
 use crate::locks::lock_folder;
-use crate::pipes::{PipeRefusal, Side, find_pipe};
-use text_streams::write_all;
+use crate::pipes::find_pipe;
 use std::fs::{File, Files, TryLockError};
 use std::time::Clock;
-use thiserror::Error;
-
-/// Why an office isn't spoken at, or doesn't do what it is asked.
-#[derive(Clone, Copy, Debug, Error)]
-pub enum ControlFault<'a> {
-    /// The counter's pipe can't be used.
-    #[error("{0}")]
-    Pipe(PipeFault<'a>),
-    /// No office has the counter.
-    #[error("{0}: not open")]
-    NotOpen(&'a str),
-    /// A client speaks there.
-    #[error("{0}: another client has it")]
-    Taken(&'a str),
-    /// The folder's lock can't be had.
-    #[error("{0}/lock: it can't be opened or locked")]
-    NoLock(&'a str),
-    /// The pipe can't be written.
-    #[error("{0}/in: it can't be written")]
-    Unwritten(&'a str),
-    /// The office was asked to close, and goes on.
-    #[error("{0}: its office is still open")]
-    StillOpen(&'a str),
-    /// The office was asked how it stands, and closes.
-    #[error("{0}: its office doesn't tell")]
-    Untold(&'a str),
-}
+use text_streams::write_all;
 
 /// Who speaks at the counter of a folder, whose lock it holds.
 #[derive(Drop)]
@@ -47,11 +20,10 @@ impl<'a> Speaker<'a> {
     pub(crate) fn at<R: Files<File = File> + AllocGlobal + Clock>(
         rt: &R,
         folder: &'a str,
-    ) -> Result<Speaker<'a>, ControlFault<'a>> {
-        let found = find_pipe(rt, folder, Side::In);
-        let (pipe, _) = found.map_err(|refusal| at_pipe(folder, Side::In, refusal))?;
+    ) -> Result<Speaker<'a>, CounterFault<'a>> {
+        let (pipe, _) = find_pipe(rt, folder, CounterFile::In)?;
         if !is_held(&pipe, folder)? {
-            return Err(ControlFault::NotOpen(folder));
+            return Err(CounterFault::new(folder, CounterFile::Folder, CounterRefusal::NotOpen));
         }
         Ok(Speaker {
             folder,
@@ -61,31 +33,23 @@ impl<'a> Speaker<'a> {
     }
 
     /// Says these lines.
-    pub(crate) fn say(&mut self, lines: &[u8]) -> Result<(), ControlFault<'a>> {
-        write_all(&mut self.pipe, lines).or(Err(ControlFault::Unwritten(self.folder)))
+    pub(crate) fn say(&mut self, lines: &[u8]) -> Result<(), CounterFault<'a>> {
+        let unwritten = CounterFault::new(self.folder, CounterFile::In, CounterRefusal::Unwritten);
+        write_all(&mut self.pipe, lines).or(Err(unwritten))
     }
 
     /// Whether the office still has the counter.
-    pub(crate) fn is_heard(&self) -> Result<bool, ControlFault<'a>> {
+    pub(crate) fn is_heard(&self) -> Result<bool, CounterFault<'a>> {
         is_held(&self.pipe, self.folder)
     }
 }
 
 // Whether an office has the pipe, which it has locked.
-fn is_held<'a>(pipe: &File, folder: &'a str) -> Result<bool, ControlFault<'a>> {
-    let unlocked = at_pipe(folder, Side::In, PipeRefusal::Unlocked);
+fn is_held<'a>(pipe: &File, folder: &'a str) -> Result<bool, CounterFault<'a>> {
+    let unlocked = CounterFault::new(folder, CounterFile::In, CounterRefusal::Unlocked);
     match pipe.try_lock() {
         Ok(()) => pipe.unlock().and(Ok(false)).or(Err(unlocked)),
         Err(TryLockError::WouldBlock) => Ok(true),
         Err(TryLockError::Error(_)) => Err(unlocked),
     }
-}
-
-/// What is wrong with a pipe.
-pub(crate) fn at_pipe(folder: &str, side: Side, refusal: PipeRefusal) -> ControlFault<'_> {
-    ControlFault::Pipe(PipeFault {
-        folder,
-        side,
-        refusal,
-    })
 }

@@ -1,12 +1,13 @@
 //! Asking an office from outside how it stands.
-use crate::pipes::{PipeRefusal, Side, listen};
-use crate::speaking::{ControlFault, Speaker, at_pipe};
-use text_grammar::{Cut, LineCutter};
+use crate::counter_fault::{CounterFault, CounterFile, CounterRefusal};
+use crate::pipes::listen;
+use crate::speaking::Speaker;
 use std::alloc::{AllocError, Global};
 use std::fmt;
 use std::fs::{File, Files};
 use std::io::{ErrorKind, Read};
 use std::time::{Clock, SystemTime, UNIX_EPOCH};
+use text_grammar::{Cut, LineCutter};
 
 /// What the answer begins with, which no other one does.
 const NAME: &str = "office ";
@@ -39,15 +40,15 @@ impl fmt::Display for Told {
 /// is the counter's. What stands in its pipes from before is answered, or dropped, first.
 ///
 /// # Errors
-/// [`ControlFault`].
+/// [`CounterFault`].
 pub fn ask_standing<'a, R: Files<File = File> + AllocGlobal + Clock>(
     rt: &R,
     folder: &'a str,
-) -> Result<Told, ControlFault<'a>> {
+) -> Result<Told, CounterFault<'a>> {
     let mut speaker = Speaker::at(rt, folder)?;
     let mut listener = Listener::at(rt, folder)?;
     let number = own_number(rt);
-    let memory = at_pipe(folder, Side::In, PipeRefusal::Memory);
+    let memory = CounterFault::new(folder, CounterFile::Folder, CounterRefusal::Memory);
     let Ok(hello) = format!(in rt.alloc(); "hello {number}") else {
         return Err(memory);
     };
@@ -59,7 +60,7 @@ pub fn ask_standing<'a, R: Files<File = File> + AllocGlobal + Clock>(
     listener.hear()?;
     match listener.told(rt.alloc()) {
         Ok(Some(told)) => Ok(told),
-        Ok(None) => Err(ControlFault::Untold(folder)),
+        Ok(None) => Err(CounterFault::new(folder, CounterFile::Folder, CounterRefusal::Untold)),
         Err(AllocError) => Err(memory),
     }
 }
@@ -87,10 +88,9 @@ impl<'a> Listener<'a> {
     fn at<R: Files<File = File> + AllocGlobal>(
         rt: &R,
         folder: &'a str,
-    ) -> Result<Listener<'a>, ControlFault<'a>> {
-        let found = listen(rt, folder);
-        let pipe = found.map_err(|refusal| at_pipe(folder, Side::Out, refusal))?;
-        let memory = at_pipe(folder, Side::Out, PipeRefusal::Memory);
+    ) -> Result<Listener<'a>, CounterFault<'a>> {
+        let pipe = listen(rt, folder)?;
+        let memory = CounterFault::new(folder, CounterFile::Folder, CounterRefusal::Memory);
         Ok(Listener {
             folder,
             pipe,
@@ -99,23 +99,27 @@ impl<'a> Listener<'a> {
     }
 
     // Hears all up to this line.
-    fn await_line(&mut self, line: &[u8]) -> Result<(), ControlFault<'a>> {
+    fn await_line(&mut self, line: &[u8]) -> Result<(), CounterFault<'a>> {
         for _ in 0..MOST {
             self.hear()?;
             if self.cutter.line() == line {
                 return Ok(());
             }
         }
-        Err(ControlFault::Untold(self.folder))
+        Err(CounterFault::new(self.folder, CounterFile::Folder, CounterRefusal::Untold))
     }
 
     // Hears the next line, which the cutter then lends.
-    fn hear(&mut self) -> Result<(), ControlFault<'a>> {
+    fn hear(&mut self) -> Result<(), CounterFault<'a>> {
         let mut byte = [0];
         for _ in 0..MOST {
             match self.pipe.read(&mut byte) {
                 // no office is there any more
-                Ok(0) => return Err(ControlFault::NotOpen(self.folder)),
+                Ok(0) => return Err(CounterFault::new(
+                    self.folder,
+                    CounterFile::Folder,
+                    CounterRefusal::NotOpen,
+                )),
                 Ok(_) => {
                     if self.cutter.push(byte[0]) != Cut::Nothing {
                         return Ok(());
@@ -125,7 +129,7 @@ impl<'a> Listener<'a> {
                 Err(_) => break,
             }
         }
-        Err(ControlFault::Untold(self.folder))
+        Err(CounterFault::new(self.folder, CounterFile::Folder, CounterRefusal::Untold))
     }
 
     // How the office stands, if the line that was heard tells that.
