@@ -41,8 +41,8 @@ pub struct Bench {
     switch: Arc<Switch>,
     failures: u64,
     calls: Vec<Asked>,
-    // What stood in each sector that is pending, at the last sync.
-    before: Vec<(u64, Sector)>,
+    // Of each sector what stood in it at the last sync, if it is pending.
+    before: Vec<Option<Sector>>,
     later: Option<Later>,
 }
 
@@ -54,7 +54,7 @@ impl Bench {
             switch,
             failures: 0,
             calls: Vec::with_capacity(alloc, ROOM)?,
-            before: Vec::with_capacity(alloc, sectors as usize)?,
+            before: vec![in alloc; None; sectors as usize]?,
             later: None,
         })
     }
@@ -85,8 +85,7 @@ impl Bench {
 
     /// What stood in a sector at the last sync, if it is pending.
     pub fn before(&self, at: u64) -> Option<&Sector> {
-        let (_, bytes) = self.before.iter().find(|(place, _)| *place == at)?;
-        Some(bytes)
+        self.before.get(at as usize)?.as_ref()
     }
 
     /// Puts a sector there, as somebody else would: no call is noted, and the sector is durable.
@@ -117,7 +116,7 @@ impl Bench {
             mut before,
             later,
         } = self;
-        before.clear();
+        before.as_mut_slice().fill(None);
         Bench {
             inner: inner.crash(picks),
             switch,
@@ -133,12 +132,13 @@ impl Bench {
         ensures inner { self.new.inner ≡ self.old.inner }
         ensures failures { self.new.failures ≡ self.old.failures }
     {
-        if self.before(at).is_some() {
+        if at >= self.inner.sectors() {
             return;
         }
-        if at < self.inner.sectors() && self.before.len() < self.before.capacity() {
-            let bytes = *self.inner.sector(at);
-            self.before.push_reserved((at, bytes));
+        if let Some(before) = self.before.get_mut(at as usize) {
+            if before.is_none() {
+                *before = Some(*self.inner.sector(at));
+            }
         }
     }
 
@@ -183,11 +183,11 @@ impl Device for Bench {
         if self.fails(Asked::Read(at)) {
             return Err(DeviceFault);
         }
-        self.inner.read(at, into)?;
+        let answer = self.inner.read(at, into);
         if let Some(later) = &mut self.later {
             later.pass(at, into);
         }
-        Ok(())
+        answer
     }
 
     fn write(&mut self, at: u64, from: &Sector) -> Result<(), DeviceFault> {
@@ -202,7 +202,7 @@ impl Device for Bench {
         if self.fails(Asked::Sync) {
             return Err(DeviceFault);
         }
-        self.before.clear();
+        self.before.as_mut_slice().fill(None);
         self.inner.sync()
     }
 

@@ -11,13 +11,15 @@ use crate::lines::read_line;
 use crate::said::Said;
 use crate::stations::run_some;
 use crate::told::Told;
-use line_lock::{Blank, Count, Line, Office, OpenedOn, Seat, TurnRefusal};
+use four_state::Line;
+use line_lock::{Blank, Count, Office, OpenedOn, Seat};
 use sector_device::Device;
 use std::alloc::AllocError;
 use std::marker::Brand;
 use std::sync::Wait;
 use std::sync::atomic::{AtomicBool, Ordering};
 use std::thread::{Threads, for_each_mut, yield_now};
+use turn_clerk::TurnRefusal;
 
 // How often a caller is refused at most.
 const TRIES: u64 = 10_000_000;

@@ -1,4 +1,6 @@
 //! The words of a clerk.
+ghost use Rattle.std.specs.Prelude.{◌≡◌, IfOk};
+
 use crate::bench::Bench;
 use crate::console::{Hand, Scene};
 use crate::copies::tell_batches;
@@ -7,8 +9,11 @@ use crate::entries::read_entries;
 use crate::lines::read_line;
 use crate::said::Said;
 use crate::told::Told;
+use four_state::Line;
+use journal_recovery::OpenRefusal;
 use office_sessions::Look;
 use station_desk::Question;
+use std::alloc::Global;
 use turn_clerk::{Clerk, Event, Sought, Turn, TurnRefusal};
 
 /// `clerk STATIONS XBITS UPBITS`: opens a clerk on the device.
@@ -16,13 +21,24 @@ pub fn open_clerk(device: Bench, hand: &mut Hand, said: &mut Said<'_>, told: &mu
     let Some(line) = read_line(said, told) else {
         return Scene::Device(device);
     };
-    match Clerk::open(hand.alloc, device, line) {
+    match clerk_on(hand.alloc, device, line) {
         Ok(clerk) => {
             told.ledger(clerk.next(), clerk.ledger());
             Scene::Clerk(clerk)
         }
         Err(refused) => Scene::Device(told.handed_back(refused)),
     }
+}
+
+/// A clerk with that line. Nothing else is told of it: what it promises would be read at each way out of who opens one.
+pub fn clerk_on(
+    alloc: Global,
+    device: Bench,
+    line: Line,
+) -> Result<Clerk<Bench>, (Bench, OpenRefusal)>
+    ensures line { IfOk result (λ clerk. clerk.line ≡ line) }
+{
+    Clerk::open(alloc, device, line)
 }
 
 /// A word of a clerk, which goes on behind it.
@@ -48,7 +64,7 @@ fn begin_anew(clerk: Clerk<Bench>, said: &mut Said<'_>, told: &mut Told) -> Cler
     let Some(line) = read_line(said, told) else {
         return clerk;
     };
-    match clerk.begin_anew(line) {
+    match begun_anew(clerk, line) {
         Ok(clerk) => {
             told.ledger(clerk.next(), clerk.ledger());
             clerk
@@ -58,6 +74,10 @@ fn begin_anew(clerk: Clerk<Bench>, said: &mut Said<'_>, told: &mut Told) -> Cler
             clerk
         }
     }
+}
+
+fn begun_anew(clerk: Clerk<Bench>, line: Line) -> Result<Clerk<Bench>, Clerk<Bench>> {
+    clerk.begin_anew(line)
 }
 
 // `catch_up`: lends the device to the archive, which adds what it lacks, and tells its batches.

@@ -33,17 +33,32 @@ pub fn end<L: Count + OpenedOn + Send + Sync, R: Threads + Wait + Sync>(
     }
 }
 
+// Its clerk, or the office and the seats again, if that is refused.
+fn closed<L: Count + OpenedOn>(
+    office: Office<Bench, L>,
+    seats: Vec<Seat<L>>,
+    told: &mut Told,
+) -> Result<Scene, (Office<Bench, L>, Vec<Seat<L>>)> {
+    match office.close(seats) {
+        Ok(Closing { clerk, audit }) => {
+            told.audit(&audit);
+            Ok(Scene::Clerk(clerk))
+        }
+        Err((office, seats, refusal)) => {
+            told.refused(&refusal);
+            Err((office, seats))
+        }
+    }
+}
+
 fn close<L: Count + OpenedOn>(
     office: Office<Bench, L>,
     seats: Vec<Seat<L>>,
     told: &mut Told,
 ) -> Scene {
-    match office.close(seats) {
-        Ok(Closing { clerk, audit }) => {
-            told.audit(&audit);
-            Scene::Clerk(clerk)
-        }
-        Err((office, _, refusal)) => Scene::Device(told.handed_back((office.given_up(), refusal))),
+    match closed(office, seats, told) {
+        Ok(scene) => scene,
+        Err((office, _)) => Scene::Device(office.given_up()),
     }
 }
 
@@ -56,12 +71,9 @@ fn close_twice<L: Count + OpenedOn + Send + Sync, R: Threads + Wait + Sync>(
     told: &mut Told,
 ) -> Scene {
     let top = seats.pop();
-    match office.close(seats) {
-        Ok(Closing { clerk, .. }) => Scene::Clerk(clerk),
-        Err((office, seats, refusal)) => {
-            told.refused(&refusal);
-            go_on(rt, office, seats, top, turns, told)
-        }
+    match closed(office, seats, told) {
+        Ok(scene) => scene,
+        Err((office, seats)) => go_on(rt, office, seats, top, turns, told),
     }
 }
 

@@ -1,14 +1,19 @@
 //! Words that copy or list what a device holds. The device in hand is the old one, and the other one the new one.
+ghost use Rattle.std.specs.Prelude.{◌≤◌};
+
 use crate::bench::Bench;
 use crate::console::{Hand, Scene};
-use crate::listings::tell_next;
+use crate::listings::{listing_of, sound_of, tell_next};
 use crate::said::Said;
 use crate::told::Told;
-use ledger_drawing::locate;
 use gate_journal::OldJournal;
-use journal_recovery::{copy, may_hold_postings, migrate, recover};
-use ledger_reading::{Listing, Sound, look};
+use journal_recovery::{
+    MigrateRefusal, OpenRefusal, Recovered, copy, may_hold_postings, migrate, recover,
+};
+use ledger_drawing::locate;
+use ledger_reading::{Listing, Sound};
 use office_day::MemoryArchive;
+use std::alloc::Global;
 
 /// `migrate SLOTS`, `copy SLOTS`: an older ledger, or one of the present layout, to the other device.
 pub fn to_other(
@@ -27,12 +32,24 @@ pub fn to_other(
         told.line("not asked: no slots");
         return Scene::Device(device);
     }
-    let (device, made) = match name {
-        "migrate" => migrate(hand.alloc, device, new, slots),
-        _ => copy(hand.alloc, device, new, slots),
-    };
+    let (device, made) = copied(hand.alloc, device, new, name, slots);
     told.done(&made);
     Scene::Device(device)
+}
+
+fn copied(
+    alloc: Global,
+    device: Bench,
+    new: &mut Bench,
+    name: &str,
+    slots: u64,
+) -> (Bench, Result<(), MigrateRefusal>)
+    requires { 1 ≤ slots }
+{
+    match name {
+        "migrate" => migrate(alloc, device, new, slots),
+        _ => copy(alloc, device, new, slots),
+    }
 }
 
 /// `old`: opens the journal of an older ledger, tells its numbers, its balances and its records, and lets go of it.
@@ -64,7 +81,7 @@ fn tell_old(journal: &mut OldJournal<Bench>, told: &mut Told) {
 
 /// `list`: what a ledger of any layout holds, and each record that is in sight.
 pub fn list(device: Bench, hand: &mut Hand, told: &mut Told) -> Scene {
-    match look(hand.alloc, device) {
+    match sound_of(hand.alloc, device) {
         Ok(sound) => list_all(sound, told),
         Err(refused) => Scene::Device(told.handed_back(refused)),
     }
@@ -74,7 +91,7 @@ fn list_all(sound: Sound<Bench>, told: &mut Told) -> Scene {
     let numbers = sound.journal.numbers();
     told.value(&numbers);
     told.ledger(numbers.next, &sound.ledger);
-    match sound.journal.list(sound.ledger) {
+    match listing_of(sound) {
         Ok(mut listing) => {
             tell_all(&mut listing, told);
             Scene::Device(listing.into_device())
@@ -92,7 +109,7 @@ fn tell_all(listing: &mut Listing<Bench>, told: &mut Told) {
 
 /// `recover`: what the device holds, as a ledger.
 pub fn recovered(device: Bench, hand: &mut Hand, told: &mut Told) -> Scene {
-    match recover(hand.alloc, device) {
+    match found(hand.alloc, device) {
         Ok(found) => {
             told.ledger(found.journal.next(), &found.ledger);
             Scene::Device(found.journal.into_device())
@@ -101,9 +118,13 @@ pub fn recovered(device: Bench, hand: &mut Hand, told: &mut Told) -> Scene {
     }
 }
 
+fn found(alloc: Global, device: Bench) -> Result<Recovered<Bench>, (Bench, OpenRefusal)> {
+    recover(alloc, device)
+}
+
 /// `locate`: where that is for which a device isn't recovered.
 pub fn located(device: Bench, hand: &mut Hand, told: &mut Told) -> Scene {
-    match recover(hand.alloc, device) {
+    match found(hand.alloc, device) {
         Ok(found) => {
             told.line("sound");
             Scene::Device(found.journal.into_device())

@@ -1,11 +1,16 @@
 //! The words of a whole day: what stations hold, and the day itself.
+ghost use Rattle.std.specs.Prelude.{◌≡◌, length};
+ghost use Rattle.four_state.specs.Configuration.{stations};
+
 use crate::bench::Bench;
 use crate::console::{Hand, Scene};
 use crate::entries::read_entries;
 use crate::lines::read_line;
 use crate::said::Said;
 use crate::told::Told;
-use office_day::{Day, HeldEntries, StationDay, run_day};
+use four_state::Line;
+use office_day::{Day, DayRefusal, HeldEntries, StationDay, run_day};
+use std::alloc::Global;
 use std::sync::Wait;
 use std::thread::Threads;
 
@@ -41,12 +46,12 @@ pub fn have_day<R: Threads + Wait + Sync>(
     let Some(line) = read_line(said, told) else {
         return Scene::Device(device);
     };
-    let (moves, tries, held) = (said.number(), read_tries(said), hand.held.as_slice());
+    let (moves, tries, held) = (said.number(), said.number_or(TRIES), hand.held.as_slice());
     if held.len() != line.stations() as usize {
         told.line("not asked: not as many stations hold something");
         return Scene::Device(device);
     }
-    let day = run_day(rt, hand.alloc, device, line, held, moves, tries);
+    let day = day_of(rt, hand.alloc, device, line, held, moves, tries);
     hand.held.clear();
     match day {
         Ok(day) => account_for(day, told),
@@ -54,12 +59,18 @@ pub fn have_day<R: Threads + Wait + Sync>(
     }
 }
 
-// How often a station tries, if the line says so.
-fn read_tries(said: &mut Said<'_>) -> u64 {
-    match said.word() {
-        Some(word) => word.parse::<u64>().unwrap_or(TRIES),
-        None => TRIES,
-    }
+fn day_of<R: Threads + Wait + Sync>(
+    rt: &R,
+    alloc: Global,
+    device: Bench,
+    line: Line,
+    held: &[HeldEntries],
+    moves: u64,
+    tries: u64,
+) -> Result<Day<Bench>, (Bench, DayRefusal)>
+    requires held { length held.now ≡ stations line }
+{
+    run_day(rt, alloc, device, line, held, moves, tries)
 }
 
 // Tells of a day. Its clerk is in hand then.

@@ -3,8 +3,8 @@ use crate::console::{Hand, Scene};
 use crate::said::Said;
 use crate::told::Told;
 use four_state::{Line, LineRefusal, Rule};
-use text_grammar::Bits;
 use sweep_auditor::{Move, audit};
+use text_grammar::Bits;
 
 /// The line that three words spell: how many stations, their bits x and their bits up. What is wrong is told.
 pub fn read_line(said: &mut Said<'_>, told: &mut Told) -> Option<Line> {

@@ -4,14 +4,14 @@ use crate::console::{Hand, Scene};
 use crate::devices::set_fault;
 use crate::said::Said;
 use crate::told::Told;
-use gate_journal::MOST_SLOTS;
-use ledger_archive::{Seam, add, compare, follow, skip_to};
-use ledger_reading::{Listing, Sound, look};
+use gate_journal::{MOST_SLOTS, ReadRefusal};
+use journal_recovery::OpenRefusal;
+use ledger_reading::{Listing, Seam, Sound, add, compare, follow, look, skip_to};
 use std::alloc::Global;
 
 /// `listing`: lists what the device holds.
 pub fn open_listing(device: Bench, hand: &mut Hand, told: &mut Told) -> Scene {
-    match listing_of(hand.alloc, device, told) {
+    match listed(hand.alloc, device, told) {
         Ok(listing) => {
             tell_numbers(&listing, told);
             Scene::Listing(listing)
@@ -21,15 +21,22 @@ pub fn open_listing(device: Bench, hand: &mut Hand, told: &mut Told) -> Scene {
 }
 
 // What a device holds, or the device, if that can't be listed, which is told.
-fn listing_of(alloc: Global, device: Bench, told: &mut Told) -> Result<Listing<Bench>, Bench> {
-    let listed = match look(alloc, device) {
-        Ok(sound) => sound.journal.list(sound.ledger),
+fn listed(alloc: Global, device: Bench, told: &mut Told) -> Result<Listing<Bench>, Bench> {
+    let listed = match sound_of(alloc, device) {
+        Ok(sound) => listing_of(sound),
         Err(refused) => return Err(told.handed_back(refused)),
     };
-    match listed {
-        Ok(listing) => Ok(listing),
-        Err(refused) => Err(told.handed_back(refused)),
-    }
+    listed.map_err(|refused| told.handed_back(refused))
+}
+
+/// What a device holds, if it is sound.
+pub fn sound_of(alloc: Global, device: Bench) -> Result<Sound<Bench>, (Bench, OpenRefusal)> {
+    look(alloc, device)
+}
+
+/// Its records, to be listed.
+pub fn listing_of(sound: Sound<Bench>) -> Result<Listing<Bench>, (Bench, ReadRefusal)> {
+    sound.journal.list(sound.ledger)
 }
 
 /// A word of a listing.
@@ -123,7 +130,7 @@ fn follow_other(listing: &mut Listing<Bench>, hand: &mut Hand, told: &mut Told) 
     let Some(other) = taken(hand, told) else {
         return;
     };
-    hand.other = match look(hand.alloc, other) {
+    hand.other = match sound_of(hand.alloc, other) {
         Ok(sound) => {
             let made = follow(listing, sound.journal.numbers().next, &sound.ledger);
             told.done(&made);
@@ -134,7 +141,7 @@ fn follow_other(listing: &mut Listing<Bench>, hand: &mut Hand, told: &mut Told) 
 }
 
 fn device_of(sound: Sound<Bench>) -> Bench {
-    match sound.journal.list(sound.ledger) {
+    match listing_of(sound) {
         Ok(listing) => listing.into_device(),
         Err((device, _)) => device,
     }
@@ -145,7 +152,7 @@ fn compare_other(listing: &mut Listing<Bench>, hand: &mut Hand, told: &mut Told)
     let Some(other) = taken(hand, told) else {
         return;
     };
-    hand.other = match listing_of(hand.alloc, other, told) {
+    hand.other = match listed(hand.alloc, other, told) {
         Ok(mut newest) => {
             compare_with(listing, &mut newest, told);
             Some(newest.into_device())

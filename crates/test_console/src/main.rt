@@ -31,12 +31,12 @@ mod switch;
 mod told;
 
 use console::Console;
-use text_streams::{StreamFault, write_all};
-use std::alloc::Global;
+use std::alloc::{AllocError, Global};
 use std::io::{BufRead, BufReader, Read, Write};
 use std::process::ExitCode;
 use std::sync::Wait;
 use std::thread::Threads;
+use text_streams::{StreamFault, write_all};
 
 // How much is told at most before it is written.
 const FULL: usize = 65_536;
@@ -79,19 +79,23 @@ fn converse<R: Threads + Wait + Sync, I: BufRead, W: Write>(
     hand_over(console, output)
 }
 
-// Behind its start it takes no memory but for a call.
+// A console, and a line with room for the longest: behind its start it takes no memory but for a call.
+fn begun(alloc: Global) -> Result<(Console, String), AllocError> {
+    let line = String::with_capacity(alloc, LONGEST)?;
+    Ok((Console::new(alloc)?, line))
+}
+
 fn run<R: Threads + Wait + Sync, I: Read + Drop, W: Write>(
     rt: &R,
     alloc: Global,
     input: I,
     output: &mut W,
 ) -> Result<(), StreamFault> {
-    let mut line = String::with_capacity(alloc, LONGEST)?;
-    let Ok(mut input) = BufReader::new(alloc, input) else {
-        return Err(StreamFault::Memory);
-    };
-    let mut console = Console::new(alloc)?;
-    converse(rt, &mut console, &mut line, &mut input, output)
+    let (mut console, mut line) = begun(alloc)?;
+    match BufReader::new(alloc, input) {
+        Ok(mut input) => converse(rt, &mut console, &mut line, &mut input, output),
+        Err(_) => Err(StreamFault::Memory),
+    }
 }
 
 fn main(rt: HostRuntime) -> ExitCode {

@@ -6,10 +6,11 @@ use crate::entries::read_entries;
 use crate::lines::read_line;
 use crate::said::Said;
 use crate::told::Told;
-use line_lock::{
-    Closing, Count, Line, Office, OfficeWork, OpenedOn, Seat, Sought, TurnRefusal, with_office,
-};
+use four_state::Line;
+use line_lock::{Closing, Count, Office, OfficeRefusal, OfficeWork, OpenedOn, Seat, with_office};
+use std::alloc::Global;
 use std::sync::Wait;
+use turn_clerk::{Sought, TurnRefusal};
 
 /// An office that isn't opened yet, with what is to be done in it, a line for each call.
 #[derive(Drop)]
@@ -54,13 +55,23 @@ pub fn play<R: Wait>(rt: &R, planned: Planned, hand: &mut Hand, told: &mut Told)
         told: &mut *told,
         lines: lines.as_str(),
     };
-    match with_office(alloc, device, line, work) {
-        Ok((Closing { clerk, audit }, ())) => {
+    match worked(alloc, device, line, work) {
+        Ok(Closing { clerk, audit }) => {
             told.audit(&audit);
             Scene::Clerk(clerk)
         }
         Err(refused) => Scene::Device(told.handed_back(refused)),
     }
+}
+
+fn worked<R: Wait>(
+    alloc: Global,
+    device: Bench,
+    line: Line,
+    work: Playing<'_, R>,
+) -> Result<Closing<Bench>, (Bench, OfficeRefusal<TurnRefusal>)> {
+    let (closing, ()) = with_office(alloc, device, line, work)?;
+    Ok(closing)
 }
 
 // What is done in an office.

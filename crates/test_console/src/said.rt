@@ -1,11 +1,10 @@
 //! The words of a line.
 use crate::told::Told;
-use std::str::SplitWhitespace;
 
 /// The words of a line, from the next one on.
 #[derive(Drop)]
 pub struct Said<'a> {
-    words: SplitWhitespace<'a>,
+    rest: &'a str,
     // Whether one was missing, or was no number.
     is_wrong: bool,
 }
@@ -14,40 +13,65 @@ impl<'a> Said<'a> {
     /// All words of a line.
     pub fn of(line: &'a str) -> Said<'a> {
         Said {
-            words: line.split_whitespace(),
+            rest: line,
             is_wrong: false,
         }
     }
 
     /// The next word.
     pub fn word(&mut self) -> Option<&'a str> {
-        self.words.next()
+        let words = self.rest.trim_start();
+        let (word, rest) = words.split_once(' ').unwrap_or((words, ""));
+        self.rest = rest;
+        if word.is_empty() {
+            return None;
+        }
+        Some(word)
     }
 
     /// The number that the next word writes.
     pub fn number(&mut self) -> u64 {
-        let number = match self.words.next() {
-            Some(word) => word.parse::<u64>().ok(),
-            None => None,
-        };
-        self.is_wrong = self.is_wrong || number.is_none();
-        number.unwrap_or(0)
+        match self.word() {
+            Some(word) => self.read_number(word),
+            None => {
+                self.is_wrong = true;
+                0
+            }
+        }
+    }
+
+    /// The same, or that one if no word is left.
+    pub fn number_or(&mut self, other: u64) -> u64 {
+        match self.word() {
+            Some(word) => self.read_number(word),
+            None => other,
+        }
+    }
+
+    fn read_number(&mut self, word: &str) -> u64 {
+        match word.parse::<u64>() {
+            Ok(number) => number,
+            Err(_) => {
+                self.is_wrong = true;
+                0
+            }
+        }
     }
 
     /// The same of a number below 2³²; any larger one is the largest.
     pub fn small(&mut self) -> u32 {
-        u32::try_from(self.number()).unwrap_or(u32::MAX)
+        self.number().min(u32::MAX as u64) as u32
     }
 
     /// The same of the number of a station.
     pub fn station(&mut self) -> u8 {
-        u8::try_from(self.number()).unwrap_or(u8::MAX)
+        self.number().min(u8::MAX as u64) as u8
     }
 
     /// How many bytes the next word writes, as two hexadecimal digits each. They are the first of those handed in
     /// then.
     pub fn bytes(&mut self, into: &mut [u8]) -> usize {
-        let count = decoded(self.words.next().unwrap_or(""), into);
+        let count = decoded(self.word().unwrap_or(""), into);
         self.is_wrong = self.is_wrong || count == 0;
         count
     }

@@ -3,14 +3,17 @@ ghost use Rattle.std.specs.Prelude.{◌≡◌, length};
 ghost use Rattle.four_state.specs.Configuration.{stations};
 
 use crate::bench::Bench;
+use crate::clerks::clerk_on;
 use crate::console::{Hand, Scene};
 use crate::copies::tell_batches;
 use crate::lines::read_line;
 use crate::said::Said;
 use crate::stations::desk_of;
 use crate::told::Told;
-use line_lock::Line;
-use office_day::{Adjourned, Desk, Errand, Gate, HeldEntries, Life, run_spans};
+use four_state::Line;
+use line_lock::OfficeRefusal;
+use office_day::{Adjourned, HeldEntries, Life, MemoryArchive, run_spans};
+use station_desk::{Desk, Errand, Gate};
 use std::alloc::{AllocError, Global};
 use std::sync::Wait;
 use std::sync::atomic::{AtomicU64, Ordering};
@@ -111,18 +114,39 @@ fn live<R: Threads + Wait + Sync>(
         turns,
         taken: AtomicU64::new(0),
     };
-    let clerk = match Clerk::open(hand.alloc, device, line) {
+    let clerk = match clerk_on(hand.alloc, device, line) {
         Ok(clerk) => clerk,
         Err(refused) => return Scene::Device(told.handed_back(refused)),
     };
-    let office = Adjourned { clerk, desks };
-    match run_spans(rt, hand.alloc, office, &gate, archive, moves) {
-        Ok(Life { clerk, .. }) => {
+    match lived(
+        rt,
+        hand.alloc,
+        Adjourned { clerk, desks },
+        &gate,
+        archive,
+        moves,
+    ) {
+        Ok(clerk) => {
             tell_batches(archive, told);
             Scene::Clerk(clerk)
         }
         Err(refused) => Scene::Device(told.handed_back(refused)),
     }
+}
+
+// The clerk of the last span.
+fn lived<R: Threads + Wait + Sync>(
+    rt: &R,
+    alloc: Global,
+    office: Adjourned<Bench>,
+    gate: &Until,
+    archive: &mut MemoryArchive,
+    moves: u64,
+) -> Result<Clerk<Bench>, (Bench, OfficeRefusal<AllocError>)>
+    requires as_many { length office.desks.items ≡ stations office.clerk.line }
+{
+    let Life { clerk, .. } = run_spans(rt, alloc, office, gate, archive, moves)?;
+    Ok(clerk)
 }
 
 fn desks_of(alloc: Global, held: &[HeldEntries]) -> Result<Vec<Desk>, AllocError> {

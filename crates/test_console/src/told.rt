@@ -35,29 +35,34 @@ impl Told {
         self.text.clear();
     }
 
+    // Adds this. All else adds by it, since each place that writes to the text is dear to prove.
+    fn add<L: Display + Drop>(&mut self, words: L) {
+        let _ = write!(self.text, "{words}");
+    }
+
     /// Adds a line that says this.
     pub fn line(&mut self, words: &str) {
-        let _ = writeln!(self.text, "{words}");
+        self.add(format_args!("{words}\n"));
     }
 
     /// Adds a line with the text of a value.
     pub fn text_of<V: Display>(&mut self, value: &V) {
-        let _ = writeln!(self.text, "{value}");
+        self.add(format_args!("{value}\n"));
     }
 
     /// Adds a line with a value.
     pub fn value<V: Debug>(&mut self, value: &V) {
-        let _ = writeln!(self.text, "{value:?}");
+        self.add(format_args!("{value:?}\n"));
     }
 
     /// Adds a line that begins so, with a value.
     pub fn named<V: Debug>(&mut self, name: &str, value: &V) {
-        let _ = writeln!(self.text, "{name} {value:?}");
+        self.add(format_args!("{name} {value:?}\n"));
     }
 
     /// Adds a line with a refusal: its name and its text.
     pub fn refused<E: Debug + Display>(&mut self, refusal: &E) {
-        let _ = writeln!(self.text, "refused {refusal:?}: {refusal}");
+        self.add(format_args!("refused {refusal:?}: {refusal}\n"));
     }
 
     /// Adds a line with what a call answered: its value, or its refusal.
@@ -111,7 +116,7 @@ impl Told {
     /// Adds a line with the bits of a line of stations, and how many privileges it has.
     pub fn line_of(&mut self, line: &Line) {
         let privileges = line.privileges();
-        let _ = writeln!(self.text, "{line} privileges {privileges}");
+        self.add(format_args!("{line} privileges {privileges}\n"));
     }
 
     /// Adds the line at the end of an audit, and from which turn on one station alone was privileged.
@@ -124,23 +129,23 @@ impl Told {
     /// entry.
     pub fn turn(&mut self, turn: &Turn) {
         let (index, station, rule) = (turn.index, turn.station, turn.rule);
-        let _ = write!(self.text, "turn {index} station {station} {rule}");
-        let _ = match turn.posted {
-            Some(number) => write!(self.text, " posted {number}"),
-            None => write!(self.text, " empty"),
-        };
+        self.add(format_args!("turn {index} station {station} {rule}"));
+        match turn.posted {
+            Some(number) => self.add(format_args!(" posted {number}")),
+            None => self.add(" empty"),
+        }
         self.verdicts(&turn.verdicts);
     }
 
     /// Ends a line with what became of each entry.
     pub fn verdicts(&mut self, verdicts: &Verdicts) {
         for verdict in verdicts.iter() {
-            let _ = match verdict {
-                Ok(()) => write!(self.text, " ok"),
-                Err(refusal) => write!(self.text, " {refusal:?}"),
-            };
+            match verdict {
+                Ok(()) => self.add(" ok"),
+                Err(refusal) => self.add(format_args!(" {refusal:?}")),
+            }
         }
-        let _ = writeln!(self.text, "");
+        self.add("\n");
     }
 
     /// Adds a line with bytes, up to the last one that isn't zero.
@@ -150,36 +155,36 @@ impl Told {
             None => 0,
         };
         for byte in bytes.iter().take(used) {
-            let _ = write!(self.text, "{byte:02x}");
+            self.add(format_args!("{byte:02x}"));
         }
-        let _ = writeln!(self.text, "");
+        self.add("\n");
     }
 
     // Adds a line with a record: its station, how many places it has, and their bytes.
     fn record(&mut self, record: &Record) {
         let (station, count) = (record.station(), record.count());
-        let _ = write!(self.text, "station {station} count {count} ");
+        self.add(format_args!("station {station} count {count} "));
         self.bytes(record.payload());
     }
 
     /// Adds a line with words of 64 bits.
     pub fn hexadecimal(&mut self, words: &[u64]) {
         for word in words {
-            let _ = write!(self.text, "{word:016x} ");
+            self.add(format_args!("{word:016x} "));
         }
-        let _ = writeln!(self.text, "");
+        self.add("\n");
     }
 
     /// Adds a line with what the accounts hold that hold something, and those that are sealed.
     pub fn ledger(&mut self, next: u64, ledger: &Ledger) {
         let total = ledger.total();
-        let _ = write!(self.text, "next {next} total {total}");
+        self.add(format_args!("next {next} total {total}"));
         self.accounts(ledger.balances(), ledger.marks());
     }
 
     /// The same of a snapshot.
     pub fn snapshot(&mut self, snapshot: &Snapshot) {
-        let _ = write!(self.text, "snapshot");
+        self.add("snapshot");
         self.accounts(&snapshot.balances, &snapshot.sealed);
     }
 
@@ -188,15 +193,15 @@ impl Told {
         for (place, balance) in balances.iter().enumerate() {
             if *balance > 0 {
                 let account = place.saturating_add(1);
-                let _ = write!(self.text, " {account}={balance}");
+                self.add(format_args!(" {account}={balance}"));
             }
         }
         for (place, sealed) in marks.iter().enumerate() {
             if *sealed {
                 let account = place.saturating_add(1);
-                let _ = write!(self.text, " #{account}");
+                self.add(format_args!(" #{account}"));
             }
         }
-        let _ = writeln!(self.text, "");
+        self.add("\n");
     }
 }
