@@ -1,6 +1,7 @@
 """Counts the lines of each crate of the product, and looks whether the table in docs/PROVED.md tells them so, and whether
-that document and the map in docs/DESIGN.md name what crates.txt does. Status 1 where it isn't so. `--write` writes it there.
-Needs Python alone.
+that document and the map in docs/DESIGN.md name what crates.txt does. `--write` writes it there. Then it looks whether each
+crate stands on its own storey and lower ones, as the picture in docs/DESIGN.md has them, and is named by it. Status 1 where
+something isn't so. Needs Python alone.
 
 A line is one that is neither blank nor a comment nor an import. What runs are the lines of code that are no part of a
 contract, without tests; contracts are clauses and the ghost members of types and traits; definitions are in `specs/`, and
@@ -20,6 +21,7 @@ OF_A_CONTRACT = re.compile(r"\s*(?:pub(?:\([\w: ]+\))? )?(?:requires|ensures|gho
 IMPORT = re.compile(r"\s*(?:pub )?(?:ghost )?(?:use|mod)\b")
 COMMENT = re.compile(r"\s*(?://|--)")
 PORTED = re.compile(r"of the ported crates \([^)]*\)")
+PICTURE = re.compile("^## The storeys\n\n((?: {4}.*\n)+)", re.MULTILINE)
 ROW_OF_MAP = re.compile(r"^\| `(\w+)` \| ([^|]*) \| [^|]* \|$", re.MULTILINE)
 
 
@@ -95,6 +97,29 @@ def in_design(text, used):
     return ROW_OF_MAP.sub(row, text)
 
 
+def storeys(text):
+    """The storey of each crate of the picture, counted from the highest, and the names of the storeys."""
+    names, found = [], {}
+    for line in PICTURE.search(text).group(1).splitlines():
+        words = line.split()
+        if not line.startswith(" " * 5):
+            names.append(words.pop(0))
+        found |= dict.fromkeys(words, len(names) - 1)
+    return found, names
+
+
+def against_the_storeys(text, used):
+    """What isn't as the picture has it. Crates of text and of tests are of no storey."""
+    found, names = storeys(text)
+    own = {name for name in used if not name.startswith("text_") and not clauses.OF_TESTS.fullmatch(name)}
+    yield from (f"{name} is in the picture or in crates.txt alone" for name in sorted(own ^ set(found)))
+    for name in sorted(own & set(found)):
+        prefix = name.partition("_")[0]
+        if prefix in names and found[name] > names.index(prefix):
+            yield f"{name} stands below the storey that it is named by"
+        yield from (f"{name} stands on {library}, which is higher up" for library in used[name] if found.get(library, len(names)) < found[name])
+
+
 def main():
     used, status = libraries(), 0
     for document, made_in in ((PROVED, in_proved), (DESIGN, in_design)):
@@ -105,6 +130,9 @@ def main():
         elif made != text:
             print(f"{document.name} doesn't tell what is there: python3 checks/sizes.py --write")
             status = 1
+    for wrong in against_the_storeys(DESIGN.read_text(encoding="utf-8"), used):
+        print(wrong)
+        status = 1
     print(table()[-1])
     return status
 

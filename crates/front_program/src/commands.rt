@@ -10,7 +10,7 @@ use crate::option_table::{
 };
 use clap::{Command, Error};
 use ledger_inspection::Format;
-use office_service::REQUESTS;
+use office_sessions::REQUESTS;
 use std::alloc::Global;
 
 /// The version of the programs, and the layout of the ledgers that they write.

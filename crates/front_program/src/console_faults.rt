@@ -1,7 +1,9 @@
 //! What `turn_console` tells of why it ends early.
 use crate::faults::Fault;
+use device_files::FileFault;
+use gate_journal::FormatRefusal;
 use journal_recovery::OpenName;
-use ledger_file::{FileFault, FormatRefusal, LedgerRefusal, PartFault};
+use ledger_file::{LedgerRefusal, PartFault};
 use std::fmt;
 
 /// A fault of a script, in the words of `turn_console`: why a disk is refused, but only that a file is, and by its name

@@ -11,20 +11,20 @@ use crate::running::{run_on_device, say};
 use crate::status::Status;
 use crate::telling::{tell, tell_words, tell_wrong, unwritten};
 use crate::words::read_request;
-use ledger_folder::{Archived, Archiving, archive, newest_of};
 use clap::Error;
 use device_files::{Locking, ReadOnlyFile};
+use ledger_counters::{RosterPath, is_disk, remove_roster, take_along};
 use ledger_file::{CopyPlace, Formatting, Original, format_ledger, open_for_copy};
+use ledger_folder::{Archived, Archiving, archive, newest_of};
 use ledger_inspection::{InspectionFault, Task, check_archive, inspect};
 use ledger_reading::Sound;
-use ledger_counters::{RosterPath, is_disk, remove_roster, take_along};
 use office_service::{Locks, Runtime, Serving, Surroundings, ask_standing, close_office, serve};
-use text_streams::Watched;
 use std::alloc::Global;
 use std::fmt;
 use std::fs::{File, Files};
 use std::io::{Read, Write};
 use std::time::Clock;
+use text_streams::Watched;
 
 /// Runs the program and gives its status, as [`Status::code`] has it. The first of the words is the program's name. A
 /// script, and what the terminal of an office says, come from the input of the surroundings. Answers go to the writer,

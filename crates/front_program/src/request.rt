@@ -1,6 +1,6 @@
 //! What `derbyfig` is asked for.
-use ledger_folder::Archiving;
 use ledger_file::Formatting;
+use ledger_folder::Archiving;
 use ledger_inspection::Inspection;
 use office_service::Serving;
 use std::fmt;

@@ -9,12 +9,11 @@ ghost use Rattle.journal_recovery.specs.Postings.{MayHoldPostings};
 
 use crate::faults::Fault;
 use crate::request::{OlderLedger, Running, ScriptFile};
+use device_files::{FileDevice, FileFault, Making};
 use front_scripts::{ScriptFault, run_script};
-use device_files::{FileDevice, Making};
 use journal_recovery::{MigrateRefusal, OpenRefusal, may_hold_postings, migrate};
-use ledger_file::{FileFault, LedgerRefusal, open_for_script};
 use ledger_counters::{RosterPath, note_script};
-use text_streams::write_all;
+use ledger_file::{LedgerRefusal, open_for_script};
 use sector_device::{Device, MemoryDevice};
 use std::alloc::Global;
 use std::fmt;
@@ -22,6 +21,7 @@ use std::fs::{File, Files};
 use std::io::{Read, Write};
 use std::sync::Wait;
 use std::thread::Threads;
+use text_streams::write_all;
 
 /// How many sectors a device in memory has, unless that is said.
 const IN_MEMORY: u64 = 64;

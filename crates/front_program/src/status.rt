@@ -2,8 +2,8 @@
 ghost use Rattle.std.specs.Prelude.{◌≡◌, ◌≤◌};
 ghost use Rattle.front_program.specs.Status.{code_of, console_code_of};
 
-use front_scripts::ScriptFault;
 use device_files::FileFault;
+use front_scripts::ScriptFault;
 use gate_journal::FormatRefusal;
 use journal_recovery::OpenRefusal;
 use ledger_file::LedgerRefusal;

@@ -6,10 +6,10 @@ ghost use Rattle.clap.specs.declared.error.kind.ErrorKind.TheVariants.{DisplayHe
 use crate::status::Status;
 use clap::Error;
 use clap::error::ErrorKind;
-use text_streams::{WriteFault, write_all};
 use std::alloc::Global;
 use std::fmt;
 use std::io::Write;
+use text_streams::{WriteFault, write_all};
 
 /// What is told if there is no memory.
 pub(crate) const OUT_OF_MEMORY: &str = "out of memory";

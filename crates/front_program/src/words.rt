@@ -9,12 +9,13 @@ use crate::option_table::{
 };
 use crate::request::{Copying, Origin, Request, Running, ScriptFile};
 use crate::wrong_words::WrongWords;
-use ledger_folder::Archiving;
 use clap::error::ErrorKind;
 use clap::{ArgMatches, Error};
-use ledger_file::Formatting;
-use ledger_inspection::{Date, Format, Inspection, JournalWish, Locking, Selection, Task};
+use device_files::Locking;
 use ledger_counters::{is_name, name_of};
+use ledger_file::Formatting;
+use ledger_folder::Archiving;
+use ledger_inspection::{Date, Format, Inspection, JournalWish, Selection, Task};
 use office_service::{CounterFolder, Serving, TERMINAL};
 use std::alloc::{AllocError, Global};
 

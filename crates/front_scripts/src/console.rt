@@ -10,14 +10,14 @@ use crate::refusals::Refusal;
 use crate::script_day::NoDay;
 use crate::scripted_clerk::ScriptedClerk;
 use gate_journal::format;
-use text_grammar::{Bits, Command};
-use text_streams::{Output, StreamFault};
 use sector_device::Device;
 use std::alloc::Global;
 use std::io::Write;
 use std::num::NonZeroU64;
 use std::sync::Wait;
 use std::thread::Threads;
+use text_grammar::{Bits, Command};
+use text_streams::{Output, StreamFault};
 use turn_clerk::TurnRefusal;
 use turn_ledger::Entry;
 

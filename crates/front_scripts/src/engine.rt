@@ -8,12 +8,12 @@ ghost use Rattle.front_scripts.specs.declared.faults.ScriptFault.TheVariants.{Li
 use crate::console::Console;
 use crate::faults::ScriptFault;
 use crate::power::PowerLoss;
-use text_grammar::{Lines, read_command};
-use text_streams::{Output, SCRIPT_LIMIT, read_script};
 use std::alloc::Global;
 use std::io::{Read, Write};
 use std::sync::Wait;
 use std::thread::Threads;
+use text_grammar::{Lines, read_command};
+use text_streams::{Output, SCRIPT_LIMIT, read_script};
 
 /// Reads a script whole and runs its lines on the device; what a line answers is printed to the writer. A line that is
 /// none of the grammar ends it; what earlier lines printed stands. It may wait if the script has a day.

@@ -1,7 +1,7 @@
 //! Why a script ends early.
+use std::alloc::AllocError;
 use text_grammar::LineFault;
 use text_streams::StreamFault;
-use std::alloc::AllocError;
 use thiserror::Error;
 
 /// Why a script ended before its last line. What earlier lines printed stands.

@@ -22,6 +22,6 @@ pub use office_day::{CloseRefusal, End, EndName, OpenRefusal, TurnRefusal};
 pub use power::PowerLoss;
 pub use refusals::Refusal;
 pub use script_day::{DAY_TRIES, day_tries_in_numbers};
+pub use sector_device::{Device, MemoryDevice};
 pub use text_grammar::LineFault;
 pub use text_streams::StreamFault;
-pub use sector_device::{Device, MemoryDevice};

@@ -2,9 +2,9 @@
 use crate::refusals::Refusal;
 use crate::script_day::DayReport;
 use four_state::Line;
-use office_day::{Answer, EndName, Outcome};
-use text_streams::{Output, StreamFault};
+use station_desk::{Answer, EndName, Outcome};
 use std::io::Write;
+use text_streams::{Output, StreamFault};
 use turn_clerk::Turn;
 use turn_ledger::Ledger;
 

@@ -2,7 +2,7 @@
 use four_state::LineRefusal;
 use gate_journal::FormatRefusal;
 use journal_recovery::{OpenName, OpenRefusal};
-use office_day::CloseRefusal;
+use line_lock::CloseRefusal;
 use std::fmt;
 use turn_clerk::TurnRefusal;
 

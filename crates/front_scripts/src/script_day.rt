@@ -3,11 +3,12 @@ ghost use Rattle.std.specs.Prelude.{◌≡◌};
 
 use crate::refusals::Refusal;
 use crate::scripted_clerk::ScriptedClerk;
-use office_day::{Audit, Day, DayRefusal, HeldEntries, StationDay, run_day};
+use office_day::{Day, DayRefusal, HeldEntries, StationDay, run_day};
 use sector_device::Device;
 use std::alloc::Global;
 use std::sync::Wait;
 use std::thread::Threads;
+use sweep_auditor::Audit;
 
 /// How often in a row a station is refused its turn in a day, before it ends.
 pub const DAY_TRIES: u64 = 100_000_000;

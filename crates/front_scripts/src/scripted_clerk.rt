@@ -5,10 +5,10 @@ use crate::refusals::Refusal;
 use four_state::Line;
 use journal_recovery::OpenRefusal;
 use office_day::HeldEntries;
-use text_grammar::Bits;
 use sector_device::Device;
 use std::alloc::{AllocError, Global};
 use std::marker::Model;
+use text_grammar::Bits;
 use turn_clerk::{Clerk, Turn, TurnRefusal};
 use turn_ledger::{Entry, Ledger};
 

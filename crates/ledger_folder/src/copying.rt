@@ -7,8 +7,8 @@ ghost use Rattle.ledger_folder.specs.Copies.{IsReadFault, IsNumberOf, refusal_of
 use crate::faults::{ArchiveFault, FolderFault};
 use crate::folder::{Folder, are_one_folder};
 use journal_recovery::{OpenRefusal, Recovered, recover};
-use ledger_file::{Formatting, LedgerRefusal, Original, open_for_copy};
 use ledger_counters::{RosterPath, remove_roster, take_along};
+use ledger_file::{Formatting, LedgerRefusal, Original, open_for_copy};
 use sector_device::Device;
 use std::fs;
 use std::fs::{File, Files};

@@ -3,8 +3,8 @@ ghost use Rattle.std.specs.Prelude.{◌≡◌, ◌↔◌};
 ghost use Rattle.ledger_folder.specs.Faults.{TellsNumbers, IsReadFault, IsElsewhere, of_file, of_device};
 
 use device_files::FileFault;
+use gate_journal::ReadRefusal;
 use journal_recovery::OpenRefusal;
-use ledger_reading::ReadRefusal;
 use std::alloc::AllocError;
 use std::fmt;
 use thiserror::Error;

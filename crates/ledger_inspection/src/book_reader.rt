@@ -1,12 +1,12 @@
 //! What is done with the ledgers of a book, one after another.
-ghost use Rattle.std.specs.Prelude.{◌≡◌, OnOk};
-ghost use Rattle.ledger_reading.specs.Whole.{numbers_of};
+ghost use Rattle.std.specs.Prelude.{OnOk};
+ghost use Rattle.ledger_reading.specs.Listed.{IsAtEnd};
 
 use device_files::ReadOnlyFile;
-use ledger_archive::skip_to;
 use ledger_printing::{JournalPrint, PrintFault, Progress};
-use ledger_reading::{Ledger, Listing};
+use ledger_reading::{Listing, skip_to};
 use std::io::Write;
+use turn_ledger::Ledger;
 
 /// What is done with the ledgers of a book, one after another.
 pub(crate) trait Reader {
@@ -15,7 +15,7 @@ pub(crate) trait Reader {
 
     /// Reads what is left of one.
     fn read(&mut self, listing: &mut Listing<ReadOnlyFile>) -> Result<(), PrintFault>
-        ensures all { OnOk result (listing.new.at ≡ (numbers_of listing.new.journal).next) };
+        ensures all { OnOk result (IsAtEnd listing.new) };
 }
 
 /// Does nothing with them, so that they are found sound.
@@ -28,7 +28,7 @@ impl Reader for Passing {
     }
 
     fn read(&mut self, listing: &mut Listing<ReadOnlyFile>) -> Result<(), PrintFault>
-        ensures all { OnOk result (listing.new.at ≡ (numbers_of listing.new.journal).next) }
+        ensures all { OnOk result (IsAtEnd listing.new) }
     {
         pass_over(listing)
     }
@@ -47,7 +47,7 @@ impl<W: Write + Drop, P: Progress> Reader for Printing<'_, '_, W, P> {
     }
 
     fn read(&mut self, listing: &mut Listing<ReadOnlyFile>) -> Result<(), PrintFault>
-        ensures all { OnOk result (listing.new.at ≡ (numbers_of listing.new.journal).next) }
+        ensures all { OnOk result (IsAtEnd listing.new) }
     {
         self.printed.records(listing, self.progress)
     }
@@ -67,7 +67,7 @@ impl Reader for Keeping {
     }
 
     fn read(&mut self, listing: &mut Listing<ReadOnlyFile>) -> Result<(), PrintFault>
-        ensures all { OnOk result (listing.new.at ≡ (numbers_of listing.new.journal).next) }
+        ensures all { OnOk result (IsAtEnd listing.new) }
     {
         if listing.at() <= self.at && self.at <= listing.end() {
             skip_to(listing, self.at)?;
@@ -80,7 +80,7 @@ impl Reader for Keeping {
 
 // Passes over what is left of a listing.
 fn pass_over(listing: &mut Listing<ReadOnlyFile>) -> Result<(), PrintFault>
-    ensures { OnOk result (listing.new.at ≡ (numbers_of listing.new.journal).next) }
+    ensures { OnOk result (IsAtEnd listing.new) }
 {
     let end = listing.end();
     skip_to(listing, end)?;

@@ -3,12 +3,13 @@ ghost use Rattle.std.specs.Prelude.{◌≡◌, false};
 ghost use Rattle.ledger_inspection.specs.Faults.{denies_ledger, is_refusal, is_of_reader, IsOfOne};
 
 use crate::wrong::Wrong;
-use ledger_folder::{ArchiveFault, Part};
 use device_files::FileFault;
+use gate_journal::ReadRefusal;
+use journal_recovery::OpenRefusal;
+use ledger_folder::{ArchiveFault, Part};
 use ledger_printing::PrintFault;
-use ledger_reading::{OpenRefusal, ReadRefusal};
-use text_streams::StreamFault;
 use std::alloc::{AllocError, AllocFailed};
+use text_streams::StreamFault;
 use thiserror::Error;
 
 /// Why ledgers aren't inspected to their end: one of them, or several as one book.

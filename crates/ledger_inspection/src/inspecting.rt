@@ -9,14 +9,15 @@ use crate::meter::Meter;
 use crate::reading_book::read_book;
 use crate::sound_ledger::print_sound;
 use crate::unsound_ledger::{answered, print_unsound};
-use ledger_folder::{Part, is_folder};
 use device_files::ReadOnlyFile;
+use ledger_folder::{Part, is_folder};
 use ledger_printing::Progress;
-use ledger_reading::{Device, look};
-use text_streams::Watched;
+use ledger_reading::look;
+use sector_device::Device;
 use std::alloc::Global;
 use std::fs::{File, Files};
 use std::io::Write;
+use text_streams::Watched;
 
 /// Does what is asked for with a ledger, or with several as one book. A book is found sound, and each of its ledgers to
 /// go on where the one before ends, before anything is printed; the last one stays locked from then on. What is printed

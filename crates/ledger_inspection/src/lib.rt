@@ -18,12 +18,12 @@ mod sound_ledger;
 mod unsound_ledger;
 mod wrong;
 
-pub use ledger_folder::Part;
-pub use ledger_drawing::Place;
-pub use faults::InspectionFault;
 pub use device_files::{FileFault, Locking};
+pub use faults::InspectionFault;
 pub use inspecting::{inspect, inspect_device};
 pub use inspection::{Inspection, Task};
+pub use ledger_drawing::Place;
+pub use ledger_folder::Part;
 pub use ledger_printing::{Date, Format, JournalWish, Progress, Selection};
 pub use ledger_reading::{Cause, Device, OpenRefusal};
 pub use reading_book::check_archive;

@@ -1,9 +1,9 @@
 //! What is told beside the printing: on a terminal how far it is, and that a ledger isn't locked.
 use device_files::Locking;
 use ledger_printing::Progress;
-use text_streams::write_all;
 use std::alloc::Global;
 use std::io::Write;
+use text_streams::write_all;
 
 /// After how many records the line is written again.
 const STEP: u64 = 65_536;

@@ -6,11 +6,11 @@ use crate::meter::Meter;
 use crate::shelf::{Extent, Shelf, parts_of};
 use device_files::Locking;
 use ledger_printing::{JournalPrint, JournalWish, Progress, print_balances};
-use ledger_reading::Ledger;
-use text_streams::{Output, StreamFault};
 use std::alloc::Global;
 use std::fs::{File, Files};
 use std::io::Write;
+use text_streams::{Output, StreamFault};
+use turn_ledger::Ledger;
 
 /// Finds the archive in a folder sound, as `check` does: each of its files, and that each goes on where the one before
 /// ends.

@@ -2,12 +2,14 @@
 ghost use Rattle.std.specs.Prelude.{◌≡◌, ◌+◌, ◌≤◌};
 
 use crate::inspection::Task;
+use gate_journal::ReadRefusal;
 use ledger_drawing::{DrawFault, draw};
 use ledger_printing::{PrintFault, Progress, print_balances, print_journal};
-use ledger_reading::{Device, Numbers, ReadRefusal, Sound};
-use text_streams::{Output, StreamFault};
+use ledger_reading::{Numbers, Sound};
+use sector_device::Device;
 use std::alloc::Global;
 use std::io::Write;
+use text_streams::{Output, StreamFault};
 
 /// Does with a sound ledger what is asked for.
 pub(crate) fn print_sound<D: Device + Drop, W: Write + Drop, P: Progress>(

@@ -5,12 +5,13 @@ ghost use Rattle.ledger_inspection.specs.Faults.{denies_ledger, is_refusal, IsOf
 use crate::faults::{InspectionFault, denies_ledger};
 use crate::inspection::Task;
 use crate::wrong::Wrong;
-use ledger_folder::Part;
+use journal_recovery::OpenRefusal;
 use ledger_drawing::{DrawFault, draw, locate};
-use ledger_reading::{Device, OpenRefusal};
-use text_streams::{StreamFault, Watched, write_all};
+use ledger_folder::Part;
+use sector_device::Device;
 use std::alloc::Global;
 use std::io::Write;
+use text_streams::{StreamFault, Watched, write_all};
 
 /// Draws a device that was refused so, if that is asked for, and tells what is wrong with it. A second look at it finds
 /// the place; if that look fails, the cause is told alone.

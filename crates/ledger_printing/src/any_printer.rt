@@ -7,10 +7,11 @@ use crate::journal::JournalWish;
 use crate::json_lines::JsonJournal;
 use crate::printer::JournalPrinter;
 use crate::table::TableJournal;
-use ledger_reading::{Ledger, Listed};
-use text_streams::StreamFault;
+use ledger_reading::Listed;
 use std::alloc::Global;
 use std::io::Write;
+use text_streams::StreamFault;
+use turn_ledger::Ledger;
 
 /// A journal on its way to a writer, in whichever format.
 #[derive(Drop)]

@@ -5,10 +5,10 @@ use crate::format::Format;
 use crate::hledger::print_opening;
 use crate::json_lines::print_json;
 use crate::table::print_table;
-use ledger_reading::Ledger;
-use text_streams::StreamFault;
 use std::alloc::Global;
 use std::io::Write;
+use text_streams::StreamFault;
+use turn_ledger::Ledger;
 
 /// Prints the accounts that hold something or are sealed, ascending, and the total last. The date is that of the
 /// transaction in the format for `hledger`.

@@ -1,7 +1,7 @@
 //! Why printing ends early.
 use ledger_reading::ReadRefusal;
-use text_streams::StreamFault;
 use std::alloc::AllocError;
+use text_streams::StreamFault;
 use thiserror::Error;
 
 /// Why a journal wasn't printed to its end. What was printed stands.

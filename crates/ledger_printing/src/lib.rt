@@ -30,5 +30,5 @@ pub use format::Format;
 pub use journal::{JournalPrint, JournalWish, print_journal};
 pub use ledger_reading::{Batch, Device, Entry, Ledger, Listed, ReadRefusal, Sound};
 pub use progress::Progress;
-pub use text_streams::StreamFault;
 pub use selection::Selection;
+pub use text_streams::StreamFault;

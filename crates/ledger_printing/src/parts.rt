@@ -1,7 +1,7 @@
 //! The parts of an entry.
 use crate::kind::Kind;
-use ledger_reading::{Batch, Entry};
 use std::alloc::{AllocError, Global};
+use turn_ledger::{Batch, Entry};
 
 /// The parts of an entry. Those that its kind does not have are `None`.
 #[derive(Clone, Copy, Debug, PartialEq, Eq)]

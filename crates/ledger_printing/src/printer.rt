@@ -1,6 +1,7 @@
 //! What each format of a journal has to print.
-use ledger_reading::{Ledger, Listed};
+use ledger_reading::Listed;
 use text_streams::StreamFault;
+use turn_ledger::Ledger;
 
 /// A journal on its way to a writer, in one of the formats.
 pub(crate) trait JournalPrinter {

@@ -3,3 +3,5 @@ pub mod Lists
 pub mod Wholes
 pub mod Both
 pub mod OneSight
+mod Compared
+mod Filled

@@ -19,11 +19,16 @@ use crate::held_entries::HeldEntries;
 use crate::office_run::run_office;
 use crate::reconciled::{StationDay, all_reconciled};
 use crate::refusals::DayRefusal;
-use line_lock::{Audit, Clerk, Closing, Device, Line, OfficeRefusal, OpenRefusal};
+use four_state::Line;
+use journal_recovery::OpenRefusal;
+use line_lock::{Closing, OfficeRefusal};
+use sector_device::Device;
 use station_desk::Gate;
 use std::alloc::{AllocError, Global};
 use std::sync::Wait;
 use std::thread::Threads;
+use sweep_auditor::Audit;
+use turn_clerk::Clerk;
 
 /// A day that is over: the clerk of the closed office, the audit of its opening line and all its moves, and what became
 /// of each station's requests, station 0 first.

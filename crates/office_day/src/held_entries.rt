@@ -2,9 +2,10 @@
 ghost use Rattle.std.specs.Prelude.{◌≡◌, ◌≢◌, ◌≤◌, ◌↔◌, [], ◌∷◌, ◌++◌, length, IfOk, IfSome, IsNone};
 ghost use Rattle.station_desk.specs.Messages.{entries_of};
 
-use station_desk::{Ask, Entry};
+use station_desk::Ask;
 use std::alloc::{AllocError, Global};
 use std::marker::Model;
+use turn_ledger::Entry;
 
 /// The most entries that one station may hold.
 pub const HELD_LIMIT: usize = 16;

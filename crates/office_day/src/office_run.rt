@@ -9,14 +9,15 @@ ghost use Rattle.line_lock.specs.Lent.{new_seats, AccountFor, IsClosed, IsRefuse
 ghost use Rattle.office_day.specs.Day.{HaveServed};
 
 use crate::seated::{Left, risen, seated};
-use line_lock::{
-    Blank, Clerk, Closing, Count, Device, Line, Office, OfficeRefusal, OpenedOn, Seat,
-};
+use four_state::Line;
+use line_lock::{Blank, Closing, Count, Office, OfficeRefusal, OpenedOn, Seat};
+use sector_device::Device;
 use station_desk::{Desk, Gate, run_stations};
 use std::alloc::{AllocError, Global};
 use std::marker::Brand;
 use std::sync::Wait;
 use std::thread::Threads;
+use turn_clerk::Clerk;
 
 /// What an office run leaves: its closing, and what each station left, that of station 0 first.
 pub type OfficeRun<D> = (Closing<D>, Vec<Left>);

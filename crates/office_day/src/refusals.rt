@@ -1,5 +1,6 @@
 //! Why there was no day.
-use line_lock::{CloseRefusal, OpenRefusal};
+use journal_recovery::OpenRefusal;
+use line_lock::CloseRefusal;
 use thiserror::Error;
 
 /// Why an office had no day, or none that could be accounted for.

@@ -13,11 +13,14 @@ ghost use Rattle.office_day.specs.Spans.{adjourned_to, rest_of, span_of, IsSpan,
 use crate::office_run::run_over;
 use crate::recess::Recess;
 use crate::seated::Left;
-use line_lock::{Audit, Clerk, Closing, Device, OfficeRefusal};
+use line_lock::{Closing, OfficeRefusal};
+use sector_device::Device;
 use station_desk::{Desk, End, Gate};
 use std::alloc::{AllocError, Global};
 use std::sync::Wait;
 use std::thread::Threads;
+use sweep_auditor::Audit;
+use turn_clerk::Clerk;
 
 /// An office that is closed, and is to be opened.
 #[derive(Drop)]

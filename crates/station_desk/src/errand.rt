@@ -2,11 +2,10 @@
 ghost use Rattle.line_lock.specs.Asked.{NotesAlone};
 ghost use Rattle.station_desk.specs.Asked.{IsReportOn};
 
-use line_lock::{
-    BalanceRefusal, Count, FindRefusal, Office, OpenedOn, Room, SearchStep, Seat, Sought,
-};
+use line_lock::{BalanceRefusal, Count, Office, OpenedOn, Room, Seat};
 use sector_device::Device;
 use std::sync::Wait;
+use turn_clerk::{FindRefusal, SearchStep, Sought};
 
 /// What a station does next.
 #[derive(Clone, Copy, Debug, PartialEq, Eq)]

@@ -2,8 +2,7 @@
 use crate::listings::listing_of;
 use crate::scenes::deposit;
 use gate_journal::{Filling, Record, Snapshot, sectors_needed};
-use ledger_archive::{add, follow};
-use ledger_reading::{Listing, Sound, look};
+use ledger_reading::{Listing, Sound, add, follow, look};
 use sector_device::{Device, MemoryDevice};
 use std::alloc::Global;
 use std::process::Abort;

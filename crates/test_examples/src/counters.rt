@@ -2,10 +2,10 @@
 use crate::clerks::opened;
 use crate::scenes::line;
 use gate_journal::Journal;
+use office_day::{End, Line};
 use office_sessions::{
     Clients, Closed, Counter, CounterCopyRefusal, Identity, Keeper, Kept, Kind, Seen, keep_open,
 };
-use office_day::{End, Line};
 use sector_device::{Device, MemoryDevice};
 use std::alloc::Global;
 use std::fs::Files;

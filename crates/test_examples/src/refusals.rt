@@ -2,8 +2,8 @@
 use device_files::{FileFault, FileRefusal};
 use gate_journal::{FormatRefusal, ReadRefusal};
 use journal_recovery::{MigrateRefusal, OpenRefusal};
-use ledger_archive::{AddRefusal, FollowRefusal};
 use ledger_file::{LedgerRefusal, PartFault};
+use ledger_reading::{AddRefusal, FollowRefusal};
 use office_day::{CloseRefusal, DayRefusal, End, EndName};
 use std::alloc::Global;
 use std::fmt::{Display, Write};

@@ -1,9 +1,9 @@
 //! What is printed is gathered.
-use text_streams::{Output, StreamFault};
 use std::alloc::Global;
 use std::io;
 use std::io::Write;
 use std::test::Fail;
+use text_streams::{Output, StreamFault};
 
 // A writer that remembers what each call brought.
 #[derive(Drop)]

@@ -1,2 +1,0 @@
-mod Compared
-mod Filled

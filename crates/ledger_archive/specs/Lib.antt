@@ -1,5 +1,0 @@
-pub mod Adding
-pub mod Comparing
-pub mod Filled
-pub mod Book
-pub mod BookLaws
