@@ -30,7 +30,7 @@ pub fn open_clerk(device: Bench, hand: &mut Hand, said: &mut Said<'_>, told: &mu
     }
 }
 
-/// A clerk with that line. Nothing else is told of it: what it promises would be read at each way out of who opens one.
+/// A clerk with that line. It has no other clause: whoever opens a clerk would pay for each at each way out.
 pub fn clerk_on(
     alloc: Global,
     device: Bench,

@@ -47,6 +47,9 @@ pub fn have_day<R: Threads + Wait + Sync>(
         return Scene::Device(device);
     };
     let (moves, tries, held) = (said.number(), said.number_or(TRIES), hand.held.as_slice());
+    if !said.is_right(told) {
+        return Scene::Device(device);
+    }
     if held.len() != line.stations() as usize {
         told.line("not asked: not as many stations hold something");
         return Scene::Device(device);

@@ -1,4 +1,4 @@
-//! The words of a line.
+//! The words of a line, which are parted by spaces.
 use crate::told::Told;
 
 /// The words of a line, from the next one on.
