@@ -22,6 +22,8 @@ IMPORT = re.compile(r"\s*(?:pub )?(?:ghost )?(?:use|mod)\b")
 COMMENT = re.compile(r"\s*(?://|--)")
 PORTED = re.compile(r"of the ported crates \([^)]*\)")
 PICTURE = re.compile("^## The storeys\n\n((?: {4}.*\n)+)", re.MULTILINE)
+KNOWN = set("sector_device fault_injector gate_journal turn_ledger journal_recovery four_state sweep_auditor turn_clerk line_lock "
+            "station_desk turn_console derbyfig".split())
 ROW_OF_MAP = re.compile(r"^\| `(\w+)` \| ([^|]*) \| [^|]* \|$", re.MULTILINE)
 
 
@@ -109,15 +111,17 @@ def storeys(text):
 
 
 def against_the_storeys(text, used):
-    """What isn't as the picture has it. Crates of text and of tests are of no storey."""
+    """What isn't as the picture has it. Crates of text stand beside the ledger's storey, and no crate on those of tests."""
     found, names = storeys(text)
-    own = {name for name in used if not name.startswith("text_") and not clauses.OF_TESTS.fullmatch(name)}
-    yield from (f"{name} is in the picture or in crates.txt alone" for name in sorted(own ^ set(found)))
-    for name in sorted(own & set(found)):
-        prefix = name.partition("_")[0]
-        if prefix in names and found[name] > names.index(prefix):
-            yield f"{name} stands below the storey that it is named by"
-        yield from (f"{name} stands on {library}, which is higher up" for library in used[name] if found.get(library, len(names)) < found[name])
+    tests = {name for name in used if clauses.OF_TESTS.fullmatch(name)}
+    beside = {name: names.index("ledger") for name in used if name.startswith("text_")}
+    yield from (f"{name} is in the picture or in crates.txt alone" for name in sorted((set(used) - tests - set(beside)) ^ set(found)))
+    for name, storey in sorted({**found, **beside}.items()):
+        if name not in KNOWN and name not in beside and name.partition("_")[0] != names[storey]:
+            yield f"{name} isn't named by its storey, {names[storey]}"
+        for library in used.get(name, []):
+            if library in tests or {**found, **beside}.get(library, storey) < storey:
+                yield f"{name} stands on {library}, which is higher up"
 
 
 def main():
