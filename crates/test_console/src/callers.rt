@@ -1,16 +1,12 @@
 //! An office whose seats have threads of their own.
 ghost use Rattle.sector_device.specs.MemoryDevice.{memory_device_state};
-ghost use Rattle.test_console.specs.Bench.{foreign_state};
+ghost use Rattle.test_words.specs.Bench.{foreign_state};
 ghost use Rattle.journal_recovery.specs.State.{State};
 ghost use Rattle.line_lock.specs.OpenedOn.{Names};
 
-use crate::bench::Bench;
 use crate::closings::{Ending, end};
-use crate::console::{Hand, Scene};
-use crate::lines::read_line;
-use crate::said::Said;
+use crate::console::{Stage, Supply};
 use crate::stations::run_some;
-use crate::told::Told;
 use four_state::Line;
 use line_lock::{Blank, Count, Office, OpenedOn, Seat};
 use sector_device::Device;
@@ -19,6 +15,7 @@ use std::marker::Brand;
 use std::sync::Wait;
 use std::sync::atomic::{AtomicBool, Ordering};
 use std::thread::{Threads, for_each_mut, yield_now};
+use test_words::{Bench, Said, Told, read_line};
 use turn_clerk::TurnRefusal;
 
 // How often a caller is refused at most.
@@ -40,13 +37,13 @@ enum Work {
 pub fn call_in_threads<R: Threads + Wait + Sync>(
     rt: &R,
     device: Bench,
-    hand: &mut Hand,
+    supply: &mut Supply,
     name: &str,
     said: &mut Said<'_>,
     told: &mut Told,
-) -> Scene {
+) -> Stage {
     let Some(line) = read_line(said, told) else {
-        return Scene::Device(device);
+        return Stage::alone(device);
     };
     let work = match name {
         "stations" => Work::Run {
@@ -62,29 +59,29 @@ pub fn call_in_threads<R: Threads + Wait + Sync>(
         _ => Ending::Closed,
     };
     let blank = Blank::new(line.stations() as u64);
-    call_in::<Brand, R>(rt, device, hand, line, blank, (work, ending), told)
+    call_in::<Brand, R>(rt, device, supply, line, blank, (work, ending), told)
 }
 
 fn call_in<L: Count + OpenedOn + Send + Sync, R: Threads + Wait + Sync>(
     rt: &R,
     device: Bench,
-    hand: &mut Hand,
+    supply: &mut Supply,
     line: Line,
     blank: Blank,
     plan: (Work, Ending),
     told: &mut Told,
-) -> Scene
+) -> Stage
     requires named { Names L.name L.parts L.device L.line blank (foreign_state (memory_device_state device.inner) device.failures) line }
     requires begins { (found : State) → L.begins found }
 {
     let (work, ending) = plan;
-    let (office, seats) = match Office::<Bench, L>::open(hand.alloc, device, line, blank) {
+    let (office, seats) = match Office::<Bench, L>::open(supply.hand.alloc, device, line, blank) {
         Ok(opened) => opened,
-        Err(refused) => return Scene::Device(told.handed_back(refused)),
+        Err(refused) => return Stage::alone(told.handed_back(refused)),
     };
-    match do_work(rt, &office, seats, hand, work, told) {
+    match do_work(rt, &office, seats, supply, work, told) {
         Ok(seats) => end(rt, office, seats, ending, told),
-        Err(error) => Scene::Device(told.handed_back((office.given_up(), error))),
+        Err(error) => Stage::alone(told.handed_back((office.given_up(), error))),
     }
 }
 
@@ -92,7 +89,7 @@ fn do_work<L: Count + OpenedOn + Send + Sync, R: Threads + Wait + Sync>(
     rt: &R,
     office: &Office<Bench, L>,
     mut seats: Vec<Seat<L>>,
-    hand: &mut Hand,
+    supply: &mut Supply,
     work: Work,
     told: &mut Told,
 ) -> Result<Vec<Seat<L>>, AllocError> {
@@ -105,7 +102,7 @@ fn do_work<L: Count + OpenedOn + Send + Sync, R: Threads + Wait + Sync>(
             first,
             moves,
             tries,
-        } => run_some(rt, office, seats, hand, (first, moves, tries), told),
+        } => run_some(rt, office, seats, supply, (first, moves, tries), told),
     }
 }
 

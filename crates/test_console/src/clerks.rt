@@ -1,32 +1,33 @@
 //! The words of a clerk.
 ghost use Rattle.std.specs.Prelude.{◌≡◌, IfOk};
 
-use crate::bench::Bench;
-use crate::console::{Hand, Scene};
-use crate::copies::tell_batches;
-use crate::devices::set_fault;
-use crate::entries::read_entries;
-use crate::lines::read_line;
-use crate::said::Said;
-use crate::told::Told;
+use crate::archives::tell_batches;
+use crate::console::{Stage, Supply};
+use crate::turns::{tell_taken, tell_turn};
 use four_state::Line;
 use journal_recovery::OpenRefusal;
 use office_sessions::Look;
 use station_desk::Question;
 use std::alloc::Global;
+use test_words::{Bench, Said, Told, read_entries, read_line, set_fault};
 use turn_clerk::{Clerk, Event, Sought, Turn, TurnRefusal};
 
 /// `clerk STATIONS XBITS UPBITS`: opens a clerk on the device.
-pub fn open_clerk(device: Bench, hand: &mut Hand, said: &mut Said<'_>, told: &mut Told) -> Scene {
+pub fn open_clerk(
+    device: Bench,
+    supply: &mut Supply,
+    said: &mut Said<'_>,
+    told: &mut Told,
+) -> Stage {
     let Some(line) = read_line(said, told) else {
-        return Scene::Device(device);
+        return Stage::alone(device);
     };
-    match clerk_on(hand.alloc, device, line) {
+    match clerk_on(supply.hand.alloc, device, line) {
         Ok(clerk) => {
             told.ledger(clerk.next(), clerk.ledger());
-            Scene::Clerk(clerk)
+            Stage::Clerk(clerk)
         }
-        Err(refused) => Scene::Device(told.handed_back(refused)),
+        Err(refused) => Stage::alone(told.handed_back(refused)),
     }
 }
 
@@ -44,18 +45,18 @@ pub fn clerk_on(
 /// A word of a clerk, which goes on behind it.
 pub fn run(
     clerk: Clerk<Bench>,
-    hand: &mut Hand,
+    supply: &mut Supply,
     name: &str,
     said: &mut Said<'_>,
     told: &mut Told,
 ) -> Clerk<Bench> {
     match name {
         "anew" => return begin_anew(clerk, said, told),
-        "catch_up" => return lend(clerk, hand, told),
+        "catch_up" => return lend(clerk, supply, told),
         _ => {}
     }
     let mut clerk = clerk;
-    ask(&mut clerk, hand, name, said, told);
+    ask(&mut clerk, supply, name, said, told);
     clerk
 }
 
@@ -81,8 +82,8 @@ fn begun_anew(clerk: Clerk<Bench>, line: Line) -> Result<Clerk<Bench>, Clerk<Ben
 }
 
 // `catch_up`: lends the device to the archive, which adds what it lacks, and tells its batches.
-fn lend(clerk: Clerk<Bench>, hand: &mut Hand, told: &mut Told) -> Clerk<Bench> {
-    let Some(archive) = &mut hand.archive else {
+fn lend(clerk: Clerk<Bench>, supply: &mut Supply, told: &mut Told) -> Clerk<Bench> {
+    let Some(archive) = &mut supply.archive else {
         told.line("not asked: no archive");
         return clerk;
     };
@@ -94,20 +95,20 @@ fn lend(clerk: Clerk<Bench>, hand: &mut Hand, told: &mut Told) -> Clerk<Bench> {
 // A word of a clerk that stays in hand.
 fn ask(
     clerk: &mut Clerk<Bench>,
-    hand: &mut Hand,
+    supply: &mut Supply,
     name: &str,
     said: &mut Said<'_>,
     told: &mut Told,
 ) {
     match name {
-        "turn" => turn(clerk, hand, said, told),
-        "event" => add_event(hand, said, told),
-        "run" => run_events(clerk, hand, told),
+        "turn" => turn(clerk, supply, said, told),
+        "event" => add_event(supply, said, told),
+        "run" => run_events(clerk, supply, told),
         "find" => find(clerk, said, told),
         "latest" => latest(clerk, said, told),
-        "look" => begin_look(hand, said, told),
-        "step" => step(clerk, hand, told),
-        "fault" => set_fault(hand, said, told),
+        "look" => begin_look(supply, said, told),
+        "step" => step(clerk, supply, told),
+        "fault" => set_fault(&mut supply.hand, said, told),
         _ => tell(clerk, name, said, told),
     }
 }
@@ -130,7 +131,7 @@ fn tell(clerk: &Clerk<Bench>, name: &str, said: &mut Said<'_>, told: &mut Told) 
 
 fn tell_history(clerk: &Clerk<Bench>, told: &mut Told) {
     for turn in clerk.history() {
-        told.turn(turn);
+        tell_turn(turn, told);
     }
 }
 
@@ -158,17 +159,17 @@ fn latest(clerk: &mut Clerk<Bench>, said: &mut Said<'_>, told: &mut Told) {
 }
 
 // `look STATION LIMIT FROM`: begins a look at a station's postings.
-fn begin_look(hand: &mut Hand, said: &mut Said<'_>, told: &mut Told) {
+fn begin_look(supply: &mut Supply, said: &mut Said<'_>, told: &mut Told) {
     let (station, limit) = (said.station(), said.number());
     let look = Look::starting_at(said.number());
     if said.is_right(told) {
-        hand.look = Some((look, station, limit));
+        supply.look = Some((look, station, limit));
     }
 }
 
 // `step`: the next step of the look that was begun.
-fn step(clerk: &mut Clerk<Bench>, hand: &mut Hand, told: &mut Told) {
-    let Some((look, station, limit)) = &mut hand.look else {
+fn step(clerk: &mut Clerk<Bench>, supply: &mut Supply, told: &mut Told) {
+    let Some((look, station, limit)) = &mut supply.look else {
         told.line("not asked: no look");
         return;
     };
@@ -182,35 +183,35 @@ fn step(clerk: &mut Clerk<Bench>, hand: &mut Hand, told: &mut Told) {
 }
 
 // `turn STATION [ENTRY]..`
-fn turn(clerk: &mut Clerk<Bench>, hand: &mut Hand, said: &mut Said<'_>, told: &mut Told) {
+fn turn(clerk: &mut Clerk<Bench>, supply: &mut Supply, said: &mut Said<'_>, told: &mut Told) {
     let station = said.station();
-    read_entries(said, &mut hand.entries);
+    read_entries(said, &mut supply.hand.entries);
     if !said.is_right(told) {
         return;
     }
-    told.turned(&clerk.turn(station, hand.entries.as_slice()));
+    tell_taken(&clerk.turn(station, supply.hand.entries.as_slice()), told);
 }
 
 // `event STATION [ENTRY]..`: the next event of a run.
-fn add_event(hand: &mut Hand, said: &mut Said<'_>, told: &mut Told) {
+fn add_event(supply: &mut Supply, said: &mut Said<'_>, told: &mut Told) {
     let station = said.station();
-    read_entries(said, &mut hand.entries);
-    let Ok(entries) = hand.entries.clone() else {
+    read_entries(said, &mut supply.hand.entries);
+    let Ok(entries) = supply.hand.entries.clone() else {
         told.line("no memory");
         return;
     };
-    if hand.events.push(Event { station, entries }).is_err() {
+    if supply.events.push(Event { station, entries }).is_err() {
         told.line("no memory");
     }
 }
 
 // `run`: the events so far, each with its reply.
-fn run_events(clerk: &mut Clerk<Bench>, hand: &mut Hand, told: &mut Told) {
-    let mut replies = Vec::new(hand.alloc);
-    match clerk.run(hand.events.as_slice(), &mut replies) {
+fn run_events(clerk: &mut Clerk<Bench>, supply: &mut Supply, told: &mut Told) {
+    let mut replies = Vec::new(supply.hand.alloc);
+    match clerk.run(supply.events.as_slice(), &mut replies) {
         Ok(()) => {
             tell_replies(&replies, told);
-            hand.events.clear();
+            supply.events.clear();
         }
         Err(error) => told.refused(&error),
     }
@@ -218,7 +219,7 @@ fn run_events(clerk: &mut Clerk<Bench>, hand: &mut Hand, told: &mut Told) {
 
 fn tell_replies(replies: &[Result<Turn, TurnRefusal>], told: &mut Told) {
     for reply in replies {
-        told.turned(reply);
+        tell_taken(reply, told);
     }
 }
 

@@ -1,11 +1,10 @@
 //! How an office ends that was opened by hand.
-use crate::bench::Bench;
 use crate::callers::take_all_turns;
-use crate::console::Scene;
-use crate::told::Told;
+use crate::console::Stage;
 use line_lock::{Closing, Count, Office, OpenedOn, Seat};
 use std::sync::Wait;
 use std::thread::Threads;
+use test_words::{Bench, Told};
 
 /// What becomes of an office.
 #[derive(Clone, Copy)]
@@ -25,10 +24,10 @@ pub fn end<L: Count + OpenedOn + Send + Sync, R: Threads + Wait + Sync>(
     seats: Vec<Seat<L>>,
     ending: Ending,
     told: &mut Told,
-) -> Scene {
+) -> Stage {
     match ending {
         Ending::Closed => close(office, seats, told),
-        Ending::Unclosed => Scene::Clerk(office.into_clerk()),
+        Ending::Unclosed => Stage::Clerk(office.into_clerk()),
         Ending::Again(turns) => close_twice(rt, office, seats, turns, told),
     }
 }
@@ -38,11 +37,11 @@ fn closed<L: Count + OpenedOn>(
     office: Office<Bench, L>,
     seats: Vec<Seat<L>>,
     told: &mut Told,
-) -> Result<Scene, (Office<Bench, L>, Vec<Seat<L>>)> {
+) -> Result<Stage, (Office<Bench, L>, Vec<Seat<L>>)> {
     match office.close(seats) {
         Ok(Closing { clerk, audit }) => {
             told.audit(&audit);
-            Ok(Scene::Clerk(clerk))
+            Ok(Stage::Clerk(clerk))
         }
         Err((office, seats, refusal)) => {
             told.refused(&refusal);
@@ -55,10 +54,10 @@ fn close<L: Count + OpenedOn>(
     office: Office<Bench, L>,
     seats: Vec<Seat<L>>,
     told: &mut Told,
-) -> Scene {
+) -> Stage {
     match closed(office, seats, told) {
         Ok(scene) => scene,
-        Err((office, _)) => Scene::Device(office.given_up()),
+        Err((office, _)) => Stage::alone(office.given_up()),
     }
 }
 
@@ -69,7 +68,7 @@ fn close_twice<L: Count + OpenedOn + Send + Sync, R: Threads + Wait + Sync>(
     mut seats: Vec<Seat<L>>,
     turns: u64,
     told: &mut Told,
-) -> Scene {
+) -> Stage {
     let top = seats.pop();
     match closed(office, seats, told) {
         Ok(scene) => scene,
@@ -85,7 +84,7 @@ fn go_on<L: Count + OpenedOn + Send + Sync, R: Threads + Wait + Sync>(
     top: Option<Seat<L>>,
     turns: u64,
     told: &mut Told,
-) -> Scene {
+) -> Stage {
     if let Some(top) = top {
         if seats.push(top).is_err() {
             told.line("no memory");

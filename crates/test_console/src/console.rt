@@ -1,62 +1,37 @@
 //! What a script has in hand, and whom a line is for.
-use crate::bench::Bench;
+use crate::archives::{catch_up, new_archive};
 use crate::callers::call_in_threads;
-use crate::days::have_day;
-use crate::desks::{Pair, new_desk};
-use crate::entries::no_entries;
-use crate::offices::{Planned, play};
-use crate::said::Said;
+use crate::clerks::{self, open_clerk};
+use crate::days::{have_day, hold};
+use crate::desks::{self, Pair, new_desk};
+use crate::offices::{Planned, plan_office, play};
 use crate::spans::have_spans;
-use crate::stacked::Stacked;
-use crate::switch::Switch;
-use crate::told::Told;
-use crate::{clerks, desks, devices, fillings, journals, ledgers, lines, listings, stacked};
-use four_state::Line;
-use gate_journal::{ACCOUNTS, Filling, Journal, Snapshot};
-use ledger_reading::{Listing, Seam};
 use office_day::{HeldEntries, MemoryArchive};
 use office_sessions::Look;
-use sector_device::Picks;
 use std::alloc::{AllocError, Global};
 use std::mem;
-use std::sync::{Arc, Wait};
+use std::sync::Wait;
 use std::thread::Threads;
+use test_words::{Bench, Hand, Said, Scene, Told};
 use turn_clerk::{Clerk, Event};
-use turn_ledger::{Entry, Ledger};
 
-/// What stands on the device in hand.
+/// What is in hand: a scene without a clerk, or what stands on a line of stations.
 #[derive(Drop)]
-pub enum Scene {
-    Nothing,
-    Device(Bench),
-    Line(Line),
-    Ledger(Ledger),
+pub enum Stage {
+    Scene(Scene),
     Desk(Pair),
-    Journal(Journal<Bench>),
-    Filling(Filling<Bench>),
-    Listing(Listing<Bench>),
     Clerk(Clerk<Bench>),
     Office(Planned),
-    Stacked(Stacked),
 }
 
 /// What earlier lines have put together for a call.
 #[derive(Drop)]
-pub struct Hand {
-    pub alloc: Global,
-    /// The switch of the device in hand.
-    pub switch: Arc<Switch>,
-    /// The other device, and its switch.
-    pub other: Option<Bench>,
-    pub other_switch: Arc<Switch>,
-    pub entries: Vec<Entry>,
+pub struct Supply {
+    pub hand: Hand,
     /// The events of a run.
     pub events: Vec<Event>,
     /// What stations of a day hold.
     pub held: Vec<HeldEntries>,
-    pub picks: Picks,
-    pub snapshot: Box<Snapshot>,
-    pub seam: Option<Seam>,
     pub archive: Option<MemoryArchive>,
     /// A look at the postings of a station, up to a reference.
     pub look: Option<(Look, u8, u64)>,
@@ -65,8 +40,8 @@ pub struct Hand {
 /// A console: it has a device in hand, or what stands on it.
 #[derive(Drop)]
 pub struct Console {
-    scene: Scene,
-    hand: Hand,
+    stage: Stage,
+    supply: Supply,
     told: Told,
 }
 
@@ -76,31 +51,24 @@ impl Console {
     /// # Errors
     /// Out of memory.
     pub fn new(alloc: Global) -> Result<Console, AllocError> {
-        let snapshot = no_accounts(alloc)?;
-        let switch = Arc::new(alloc, Switch::new())?;
-        let other_switch = Arc::new(alloc, Switch::new())?;
-        let entries = no_entries(alloc)?;
+        let hand = Hand::new(alloc)?;
         let told = Told::new(alloc)?;
-        Ok(Console {
-            scene: Scene::Nothing,
-            hand: Hand {
-                alloc,
-                switch,
-                other: None,
-                other_switch,
-                entries,
+        Ok(Console::with(alloc, hand, told))
+    }
+
+    // The same, once all that takes memory is there: whoever leaves early has nothing else to drop.
+    fn with(alloc: Global, hand: Hand, told: Told) -> Console {
+        Console {
+            stage: Stage::Scene(Scene::Nothing),
+            supply: Supply {
+                hand,
                 events: Vec::new(alloc),
                 held: Vec::new(alloc),
-                picks: Picks {
-                    list: Vec::new(alloc),
-                },
-                snapshot,
-                seam: None,
                 archive: None,
                 look: None,
             },
             told,
-        })
+        }
     }
 
     /// Does what a line asks for; one that begins with `#` asks for nothing. A line `mark X` is told as it is, and asks
@@ -114,12 +82,12 @@ impl Console {
             return true;
         }
         if !name.starts_with('#') {
-            let scene = mem::replace(&mut self.scene, Scene::Nothing);
-            self.scene = next(
+            let stage = mem::replace(&mut self.stage, Stage::Scene(Scene::Nothing));
+            self.stage = next(
                 rt,
-                scene,
+                stage,
                 line,
-                &mut self.hand,
+                &mut self.supply,
                 name,
                 &mut said,
                 &mut self.told,
@@ -139,29 +107,20 @@ impl Console {
     }
 }
 
-// Accounts that hold nothing, and none of which is sealed.
-fn no_accounts(alloc: Global) -> Result<Box<Snapshot>, AllocError> {
-    let snapshot = Snapshot {
-        balances: [0; ACCOUNTS],
-        sealed: [false; ACCOUNTS],
-    };
-    Ok(Box::new(alloc, snapshot)?)
-}
-
 // What is in hand behind a line.
 fn next<R: Threads + Wait + Sync>(
     rt: &R,
-    scene: Scene,
+    stage: Stage,
     line: &str,
-    hand: &mut Hand,
+    supply: &mut Supply,
     name: &str,
     said: &mut Said<'_>,
     told: &mut Told,
-) -> Scene {
-    match scene {
-        Scene::Office(planned) => plan_or_play(rt, planned, line, hand, name, told),
-        Scene::Device(device) => use_device(rt, device, hand, name, said, told),
-        scene => scene.run(hand, name, said, told),
+) -> Stage {
+    match stage {
+        Stage::Office(planned) => plan_or_play(rt, planned, line, supply, name, told),
+        Stage::Scene(Scene::Device(device)) => use_device(rt, device, supply, name, said, told),
+        stage => stage.run(supply, name, said, told),
     }
 }
 
@@ -170,115 +129,96 @@ fn plan_or_play<R: Wait>(
     rt: &R,
     mut planned: Planned,
     line: &str,
-    hand: &mut Hand,
+    supply: &mut Supply,
     name: &str,
     told: &mut Told,
-) -> Scene {
+) -> Stage {
     if name == "close" {
-        return play(rt, planned, hand, told);
+        return play(rt, planned, supply, told);
     }
     planned.add(line, told);
-    Scene::Office(planned)
+    Stage::Office(planned)
 }
 
 // A word of a device, in threads or not.
 fn use_device<R: Threads + Wait + Sync>(
     rt: &R,
     device: Bench,
-    hand: &mut Hand,
+    supply: &mut Supply,
     name: &str,
     said: &mut Said<'_>,
     told: &mut Told,
-) -> Scene {
+) -> Stage {
     match name {
-        "day" => have_day(rt, device, hand, said, told),
+        "day" => have_day(rt, device, supply, said, told),
         "callers" | "unclosed" | "reclosed" | "stations" => call_in_threads(
-            rt, device, hand, name, said, told,
+            rt, device, supply, name, said, told,
         ),
-        "spans" => have_spans(rt, device, hand, said, told),
-        _ => Scene::Device(device).run(hand, name, said, told),
+        "spans" => have_spans(rt, device, supply, said, told),
+        _ => begin_on(device, supply, name, said, told),
     }
 }
 
-impl Scene {
+// What may begin on a device, or be put together for it.
+fn begin_on(
+    device: Bench,
+    supply: &mut Supply,
+    name: &str,
+    said: &mut Said<'_>,
+    told: &mut Told,
+) -> Stage {
+    match name {
+        "clerk" => return open_clerk(device, supply, said, told),
+        "office" => return plan_office(device, supply, said, told),
+        "catch_up" => return catch_up(device, supply, told),
+        "hold" => hold(supply, said, told),
+        "archive" => new_archive(supply, said, told),
+        _ => return Stage::Scene(Scene::Device(device).run(&mut supply.hand, name, said, told)),
+    }
+    Stage::alone(device)
+}
+
+impl Stage {
+    /// A device on which nothing stands.
+    pub fn alone(device: Bench) -> Stage {
+        Stage::Scene(Scene::Device(device))
+    }
+
     // Does what the word asks for.
-    fn run(self, hand: &mut Hand, name: &str, said: &mut Said<'_>, told: &mut Told) -> Scene {
+    fn run(self, supply: &mut Supply, name: &str, said: &mut Said<'_>, told: &mut Told) -> Stage {
         match name {
-            "nothing" => Scene::Nothing,
-            "device" => devices::new_device(hand, said, told),
-            "other" => change(self.device(), hand),
+            "nothing" | "device" | "other" => {
+                Stage::Scene(self.scene().run(&mut supply.hand, name, said, told))
+            }
             "close" => self.closed(),
-            _ => self.ask(hand, name, said, told),
+            _ => self.ask(supply, name, said, told),
         }
     }
 
     // Asks what is in hand.
-    fn ask(self, hand: &mut Hand, name: &str, said: &mut Said<'_>, told: &mut Told) -> Scene {
+    fn ask(self, supply: &mut Supply, name: &str, said: &mut Said<'_>, told: &mut Told) -> Stage {
         match self {
-            Scene::Device(device) => devices::run(device, hand, name, said, told),
-            Scene::Desk(pair) => desks::run(pair, hand, name, said, told),
-            Scene::Filling(filling) => fillings::run(filling, hand, name, said, told),
-            Scene::Journal(mut journal) => {
-                journals::ask(&mut journal, hand, name, said, told);
-                Scene::Journal(journal)
-            }
-            Scene::Listing(mut listing) => {
-                listings::ask(&mut listing, hand, name, said, told);
-                Scene::Listing(listing)
-            }
-            Scene::Clerk(clerk) => Scene::Clerk(clerks::run(clerk, hand, name, said, told)),
-            Scene::Stacked(mut stacked) => {
-                stacked::ask(&mut stacked, hand, name, said, told);
-                Scene::Stacked(stacked)
-            }
-            Scene::Line(line) => lines::run(line, hand, name, said, told),
-            Scene::Ledger(mut ledger) => {
-                ledgers::ask(&mut ledger, hand, name, said, told);
-                Scene::Ledger(ledger)
-            }
-            Scene::Nothing | Scene::Office(_) => begin(hand, name, said, told),
+            Stage::Desk(pair) => desks::run(pair, supply, name, said, told),
+            Stage::Clerk(clerk) => Stage::Clerk(clerks::run(clerk, supply, name, said, told)),
+            Stage::Scene(Scene::Nothing) if name == "desk" => new_desk(supply, said, told),
+            stage => Stage::Scene(stage.scene().run(&mut supply.hand, name, said, told)),
         }
     }
 
-    // The device, if nothing stands on one.
-    fn device(self) -> Option<Bench> {
+    // What is left without a clerk, an office or a desk.
+    fn scene(self) -> Scene {
         match self {
-            Scene::Device(device) => Some(device),
-            _ => None,
+            Stage::Scene(scene) => scene,
+            _ => Scene::Nothing,
         }
     }
 
     // The device alone, if something stands on one.
-    fn closed(self) -> Scene {
+    fn closed(self) -> Stage {
         match self {
-            Scene::Journal(journal) => Scene::Device(journal.into_device()),
-            Scene::Filling(filling) => Scene::Device(filling.into_device()),
-            Scene::Listing(listing) => Scene::Device(listing.into_device()),
-            Scene::Clerk(clerk) => Scene::Device(clerk.into_device()),
-            Scene::Stacked(stacked) => Scene::Device(stacked.into_device()),
-            scene => scene,
+            Stage::Clerk(clerk) => Stage::alone(clerk.into_device()),
+            Stage::Scene(scene) => Stage::Scene(scene.closed()),
+            stage => stage,
         }
-    }
-}
-
-// What may be in hand without a device.
-fn begin(hand: &mut Hand, name: &str, said: &mut Said<'_>, told: &mut Told) -> Scene {
-    match name {
-        "line" => lines::new_line(said, told),
-        "ledger" => ledgers::new_ledger(hand, told),
-        "desk" => new_desk(hand, said, told),
-        _ => {
-            told.line("no device");
-            Scene::Nothing
-        }
-    }
-}
-
-// `other`: the other device is in hand from now on, and the one in hand is the other.
-fn change(device: Option<Bench>, hand: &mut Hand) -> Scene {
-    mem::swap(&mut hand.switch, &mut hand.other_switch);
-    match mem::replace(&mut hand.other, device) {
-        Some(device) => Scene::Device(device),
-        None => Scene::Nothing,
     }
 }

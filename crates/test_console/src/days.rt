@@ -2,34 +2,30 @@
 ghost use Rattle.std.specs.Prelude.{◌≡◌, length};
 ghost use Rattle.four_state.specs.Configuration.{stations};
 
-use crate::bench::Bench;
-use crate::console::{Hand, Scene};
-use crate::entries::read_entries;
-use crate::lines::read_line;
-use crate::said::Said;
-use crate::told::Told;
+use crate::console::{Stage, Supply};
 use four_state::Line;
 use office_day::{Day, DayRefusal, HeldEntries, StationDay, run_day};
 use std::alloc::Global;
 use std::sync::Wait;
 use std::thread::Threads;
+use test_words::{Bench, Said, Told, read_entries, read_line};
 
 // How often a station that isn't privileged tries again, at most.
 const TRIES: u64 = 100_000_000;
 
 /// `hold [ENTRY]..`: what the next station of a day holds, the lowest one first.
-pub fn hold(hand: &mut Hand, said: &mut Said<'_>, told: &mut Told) {
-    read_entries(said, &mut hand.entries);
-    let Ok(mut held) = HeldEntries::new(hand.alloc) else {
+pub fn hold(supply: &mut Supply, said: &mut Said<'_>, told: &mut Told) {
+    read_entries(said, &mut supply.hand.entries);
+    let Ok(mut held) = HeldEntries::new(supply.hand.alloc) else {
         told.line("no memory");
         return;
     };
-    for entry in hand.entries.iter() {
+    for entry in supply.hand.entries.iter() {
         if held.keep(*entry).is_none() {
             told.line("no place");
         }
     }
-    if hand.held.push(held).is_err() {
+    if supply.held.push(held).is_err() {
         told.line("no memory");
     }
 }
@@ -39,26 +35,26 @@ pub fn hold(hand: &mut Hand, said: &mut Said<'_>, told: &mut Told) {
 pub fn have_day<R: Threads + Wait + Sync>(
     rt: &R,
     device: Bench,
-    hand: &mut Hand,
+    supply: &mut Supply,
     said: &mut Said<'_>,
     told: &mut Told,
-) -> Scene {
+) -> Stage {
     let Some(line) = read_line(said, told) else {
-        return Scene::Device(device);
+        return Stage::alone(device);
     };
-    let (moves, tries, held) = (said.number(), said.number_or(TRIES), hand.held.as_slice());
+    let (moves, tries, held) = (said.number(), said.number_or(TRIES), supply.held.as_slice());
     if !said.is_right(told) {
-        return Scene::Device(device);
+        return Stage::alone(device);
     }
     if held.len() != line.stations() as usize {
         told.line("not asked: not as many stations hold something");
-        return Scene::Device(device);
+        return Stage::alone(device);
     }
-    let day = day_of(rt, hand.alloc, device, line, held, moves, tries);
-    hand.held.clear();
+    let day = day_of(rt, supply.hand.alloc, device, line, held, moves, tries);
+    supply.held.clear();
     match day {
         Ok(day) => account_for(day, told),
-        Err(refused) => Scene::Device(told.handed_back(refused)),
+        Err(refused) => Stage::alone(told.handed_back(refused)),
     }
 }
 
@@ -77,7 +73,7 @@ fn day_of<R: Threads + Wait + Sync>(
 }
 
 // Tells of a day. Its clerk is in hand then.
-fn account_for(day: Day<Bench>, told: &mut Told) -> Scene {
+fn account_for(day: Day<Bench>, told: &mut Told) -> Stage {
     let Day {
         clerk,
         audit,
@@ -85,7 +81,7 @@ fn account_for(day: Day<Bench>, told: &mut Told) -> Scene {
     } = day;
     tell_stations(stations.as_slice(), told);
     told.audit(&audit);
-    Scene::Clerk(clerk)
+    Stage::Clerk(clerk)
 }
 
 fn tell_stations(stations: &[StationDay], told: &mut Told) {

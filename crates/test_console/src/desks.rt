@@ -1,11 +1,9 @@
 //! The words of a feed and its desk, which stand alone.
 ghost use Rattle.station_desk.specs.Rings.{AreTogether};
 
-use crate::console::{Hand, Scene};
-use crate::entries::read_entries;
-use crate::said::Said;
-use crate::told::Told;
+use crate::console::{Stage, Supply};
 use station_desk::{Desk, Feed, Reconciled, desk, reconcile};
+use test_words::{Said, Scene, Told, read_entries};
 
 /// A feed and its desk.
 #[derive(Drop)]
@@ -16,17 +14,17 @@ pub struct Pair {
 }
 
 /// `desk CAPACITY`: a feed and its desk in the place of what was in hand.
-pub fn new_desk(hand: &mut Hand, said: &mut Said<'_>, told: &mut Told) -> Scene {
+pub fn new_desk(supply: &mut Supply, said: &mut Said<'_>, told: &mut Told) -> Stage {
     let capacity = said.number();
     if capacity == 0 || capacity > 4_096 {
         told.line("not asked: no such capacity");
-        return Scene::Nothing;
+        return Stage::Scene(Scene::Nothing);
     }
-    match desk(hand.alloc, capacity as usize) {
-        Ok((feed, desk)) => Scene::Desk(Pair { feed, desk }),
+    match desk(supply.hand.alloc, capacity as usize) {
+        Ok((feed, desk)) => Stage::Desk(Pair { feed, desk }),
         Err(error) => {
             told.refused(&error);
-            Scene::Nothing
+            Stage::Scene(Scene::Nothing)
         }
     }
 }
@@ -34,41 +32,41 @@ pub fn new_desk(hand: &mut Hand, said: &mut Said<'_>, told: &mut Told) -> Scene 
 /// A word of a feed and its desk.
 pub fn run(
     mut pair: Pair,
-    hand: &mut Hand,
+    supply: &mut Supply,
     name: &str,
     said: &mut Said<'_>,
     told: &mut Told,
-) -> Scene {
+) -> Stage {
     match name {
-        "submit" => submit(&mut pair, hand, said, told),
+        "submit" => submit(&mut pair, supply, said, told),
         "answer" => told.value(&pair.feed.answer()),
         "gather" => told.value(&pair.desk.gather()),
         "give_up" => pair.desk.give_up(),
-        "reconcile" => return reconciled(pair, hand, told),
+        "reconcile" => return reconciled(pair, supply, told),
         _ => told.line("no such word of a desk"),
     }
-    Scene::Desk(pair)
+    Stage::Desk(pair)
 }
 
 // `submit ENTRY..`
-fn submit(pair: &mut Pair, hand: &mut Hand, said: &mut Said<'_>, told: &mut Told) {
-    read_entries(said, &mut hand.entries);
-    for entry in hand.entries.iter() {
+fn submit(pair: &mut Pair, supply: &mut Supply, said: &mut Said<'_>, told: &mut Told) {
+    read_entries(said, &mut supply.hand.entries);
+    for entry in supply.hand.entries.iter() {
         told.value(&pair.feed.submit(*entry));
     }
 }
 
 // `reconcile`: what became of each request. Nothing is in hand then.
-fn reconciled(pair: Pair, hand: &mut Hand, told: &mut Told) -> Scene {
+fn reconciled(pair: Pair, supply: &mut Supply, told: &mut Told) -> Stage {
     let Pair { feed, desk } = pair;
-    match reconcile(hand.alloc, feed, desk) {
+    match reconcile(supply.hand.alloc, feed, desk) {
         Ok(all) => {
             tell_reconciled(&all, told);
-            Scene::Nothing
+            Stage::Scene(Scene::Nothing)
         }
         Err((feed, desk, error)) => {
             told.refused(&error);
-            Scene::Desk(Pair { feed, desk })
+            Stage::Desk(Pair { feed, desk })
         }
     }
 }

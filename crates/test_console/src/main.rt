@@ -1,34 +1,22 @@
-//! A console for tests: a line asks for one public call of the library, and what the call answers is printed. But for
-//! the words in an office and the three calls of a device, no word has a type parameter, so that it is proved once, as
-//! it is compiled.
+//! A console for tests: a line asks for one public call of the library, and what the call answers is printed. Here are
+//! the words for what stands on a line of stations: a clerk, an office, a desk. All others are in `test_words`.
 //!
-//! A [`Console`] has a device, or what stands on it, in hand. A word that isn't one of that is told, and changes
-//! nothing. What a call requires is asked first.
+//! But for the words in an office no word has a type parameter, so that it is proved once, as it is compiled. A
+//! [`Console`] has a device, or what stands on it, in hand. A word that isn't one of that is told, and changes nothing.
+//! What a call requires is asked first.
 #![tactic(auto)]
 
-mod bench;
+mod archives;
 mod callers;
 mod clerks;
 mod closings;
 mod console;
-mod copies;
-mod crashes;
 mod days;
 mod desks;
-mod devices;
-mod entries;
-mod fillings;
-mod journals;
-mod ledgers;
-mod lines;
-mod listings;
 mod offices;
-mod said;
 mod spans;
-mod stacked;
 mod stations;
-mod switch;
-mod told;
+mod turns;
 
 use console::Console;
 use std::alloc::{AllocError, Global};
@@ -85,15 +73,25 @@ fn begun(alloc: Global) -> Result<(Console, String), AllocError> {
     Ok((Console::new(alloc)?, line))
 }
 
+// Converses with a console that is made for it.
+fn begin<R: Threads + Wait + Sync, I: BufRead, W: Write>(
+    rt: &R,
+    alloc: Global,
+    input: &mut I,
+    output: &mut W,
+) -> Result<(), StreamFault> {
+    let (mut console, mut line) = begun(alloc)?;
+    converse(rt, &mut console, &mut line, input, output)
+}
+
 fn run<R: Threads + Wait + Sync, I: Read + Drop, W: Write>(
     rt: &R,
     alloc: Global,
     input: I,
     output: &mut W,
 ) -> Result<(), StreamFault> {
-    let (mut console, mut line) = begun(alloc)?;
     match BufReader::new(alloc, input) {
-        Ok(mut input) => converse(rt, &mut console, &mut line, &mut input, output),
+        Ok(mut input) => begin(rt, alloc, &mut input, output),
         Err(_) => Err(StreamFault::Memory),
     }
 }

@@ -1,15 +1,11 @@
 //! The words of an office, which are gathered up to `close`: then it is opened, does them, and is closed.
-use crate::bench::Bench;
-use crate::console::{Hand, Scene};
-use crate::devices::set_fault;
-use crate::entries::read_entries;
-use crate::lines::read_line;
-use crate::said::Said;
-use crate::told::Told;
+use crate::console::{Stage, Supply};
+use crate::turns::{tell_taken, tell_turn};
 use four_state::Line;
 use line_lock::{Closing, Count, Office, OfficeRefusal, OfficeWork, OpenedOn, Seat, with_office};
 use std::alloc::Global;
 use std::sync::Wait;
+use test_words::{Bench, Said, Told, read_entries, read_line, set_fault};
 use turn_clerk::{Sought, TurnRefusal};
 
 /// An office that isn't opened yet, with what is to be done in it, a line for each call.
@@ -21,14 +17,19 @@ pub struct Planned {
 }
 
 /// `office STATIONS XBITS UPBITS`: an office on the device.
-pub fn plan_office(device: Bench, hand: &mut Hand, said: &mut Said<'_>, told: &mut Told) -> Scene {
+pub fn plan_office(
+    device: Bench,
+    supply: &mut Supply,
+    said: &mut Said<'_>,
+    told: &mut Told,
+) -> Stage {
     match read_line(said, told) {
-        Some(line) => Scene::Office(Planned {
+        Some(line) => Stage::Office(Planned {
             device,
             line,
-            lines: String::new(hand.alloc),
+            lines: String::new(supply.hand.alloc),
         }),
-        None => Scene::Device(device),
+        None => Stage::alone(device),
     }
 }
 
@@ -42,25 +43,25 @@ impl Planned {
 }
 
 /// Opens the office, does what was gathered, and closes it. Its clerk is in hand then.
-pub fn play<R: Wait>(rt: &R, planned: Planned, hand: &mut Hand, told: &mut Told) -> Scene {
+pub fn play<R: Wait>(rt: &R, planned: Planned, supply: &mut Supply, told: &mut Told) -> Stage {
     let Planned {
         device,
         line,
         lines,
     } = planned;
-    let alloc = hand.alloc;
+    let alloc = supply.hand.alloc;
     let work = Playing {
         rt,
-        hand,
+        supply,
         told: &mut *told,
         lines: lines.as_str(),
     };
     match worked(alloc, device, line, work) {
         Ok(Closing { clerk, audit }) => {
             told.audit(&audit);
-            Scene::Clerk(clerk)
+            Stage::Clerk(clerk)
         }
-        Err(refused) => Scene::Device(told.handed_back(refused)),
+        Err(refused) => Stage::alone(told.handed_back(refused)),
     }
 }
 
@@ -78,7 +79,7 @@ fn worked<R: Wait>(
 #[derive(Drop)]
 struct Playing<'a, R> {
     rt: &'a R,
-    hand: &'a mut Hand,
+    supply: &'a mut Supply,
     told: &'a mut Told,
     lines: &'a str,
 }
@@ -95,7 +96,7 @@ impl<R: Wait> OfficeWork<Bench> for Playing<'_, R> {
     ) -> Result<(Vec<Seat<L>>, ()), TurnRefusal> {
         let Playing {
             rt,
-            hand,
+            supply,
             told,
             lines,
         } = self;
@@ -112,7 +113,7 @@ impl<R: Wait> OfficeWork<Bench> for Playing<'_, R> {
                     rt,
                     office,
                     seats.as_mut_slice(),
-                    hand,
+                    supply,
                     name,
                     &mut said,
                     told,
@@ -128,18 +129,18 @@ fn at_seat<L: Count + OpenedOn, R: Wait>(
     rt: &R,
     office: &Office<Bench, L>,
     seats: &mut [Seat<L>],
-    hand: &mut Hand,
+    supply: &mut Supply,
     name: &str,
     said: &mut Said<'_>,
     told: &mut Told,
 ) {
     match name {
-        "fault" => return set_fault(hand, said, told),
+        "fault" => return set_fault(&mut supply.hand, said, told),
         "room" => return told.value(&office.room(rt)),
         _ => {}
     }
     match seats.get_mut(said.station() as usize) {
-        Some(seat) => ask(rt, office, seat, hand, name, said, told),
+        Some(seat) => ask(rt, office, seat, supply, name, said, told),
         None => told.line("not asked: no such seat"),
     }
 }
@@ -150,14 +151,14 @@ fn ask<L: Count + OpenedOn, R: Wait>(
     rt: &R,
     office: &Office<Bench, L>,
     seat: &mut Seat<L>,
-    hand: &mut Hand,
+    supply: &mut Supply,
     name: &str,
     said: &mut Said<'_>,
     told: &mut Told,
 ) {
     match name {
-        "turn" => turn(rt, office, seat, hand, said, told),
-        "within" => turn_within(rt, office, seat, hand, said, told),
+        "turn" => turn(rt, office, seat, supply, said, told),
+        "within" => turn_within(rt, office, seat, supply, said, told),
         "seat" => show_seat(seat, told),
         "balance" => told.outcome(&office.balance(rt, seat, said.small())),
         "find" => {
@@ -178,12 +179,12 @@ fn turn<L: Count + OpenedOn, R: Wait>(
     rt: &R,
     office: &Office<Bench, L>,
     seat: &mut Seat<L>,
-    hand: &mut Hand,
+    supply: &mut Supply,
     said: &mut Said<'_>,
     told: &mut Told,
 ) {
-    read_entries(said, &mut hand.entries);
-    told.turned(&office.turn(rt, seat, hand.entries.as_slice()));
+    read_entries(said, &mut supply.hand.entries);
+    tell_taken(&office.turn(rt, seat, supply.hand.entries.as_slice()), told);
 }
 
 // `within STATION LIMIT [ENTRY]..`
@@ -191,13 +192,14 @@ fn turn_within<L: Count + OpenedOn, R: Wait>(
     rt: &R,
     office: &Office<Bench, L>,
     seat: &mut Seat<L>,
-    hand: &mut Hand,
+    supply: &mut Supply,
     said: &mut Said<'_>,
     told: &mut Told,
 ) {
     let limit = said.number();
-    read_entries(said, &mut hand.entries);
-    told.turned(&office.turn_within(rt, seat, hand.entries.as_slice(), limit));
+    read_entries(said, &mut supply.hand.entries);
+    let taken = office.turn_within(rt, seat, supply.hand.entries.as_slice(), limit);
+    tell_taken(&taken, told);
 }
 
 // `seat STATION`: how many turns it took, and what it noted.
@@ -207,6 +209,6 @@ fn show_seat<L: Count>(seat: &Seat<L>, told: &mut Told) {
     told.named("told", &seat.told());
     told.named("faulted", &seat.was_faulted());
     for turn in seat.turns() {
-        told.turn(turn);
+        tell_turn(turn, told);
     }
 }

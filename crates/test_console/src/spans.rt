@@ -2,14 +2,10 @@
 ghost use Rattle.std.specs.Prelude.{◌≡◌, length};
 ghost use Rattle.four_state.specs.Configuration.{stations};
 
-use crate::bench::Bench;
+use crate::archives::tell_batches;
 use crate::clerks::clerk_on;
-use crate::console::{Hand, Scene};
-use crate::copies::tell_batches;
-use crate::lines::read_line;
-use crate::said::Said;
+use crate::console::{Stage, Supply};
 use crate::stations::desk_of;
-use crate::told::Told;
 use four_state::Line;
 use line_lock::OfficeRefusal;
 use office_day::{Adjourned, HeldEntries, Life, MemoryArchive, run_spans};
@@ -18,6 +14,7 @@ use std::alloc::{AllocError, Global};
 use std::sync::Wait;
 use std::sync::atomic::{AtomicU64, Ordering};
 use std::thread::Threads;
+use test_words::{Bench, Said, Told, read_line};
 use turn_clerk::{Clerk, Turn};
 
 // Sends stations home once so many turns were taken in all.
@@ -60,20 +57,20 @@ struct Plan {
 pub fn have_spans<R: Threads + Wait + Sync>(
     rt: &R,
     device: Bench,
-    hand: &mut Hand,
+    supply: &mut Supply,
     said: &mut Said<'_>,
     told: &mut Told,
-) -> Scene {
-    match planned(hand, said, told) {
-        Some(plan) => live(rt, device, plan, hand, told),
-        None => Scene::Device(device),
+) -> Stage {
+    match planned(supply, said, told) {
+        Some(plan) => live(rt, device, plan, supply, told),
+        None => Stage::alone(device),
     }
 }
 
-fn planned(hand: &mut Hand, said: &mut Said<'_>, told: &mut Told) -> Option<Plan> {
+fn planned(supply: &mut Supply, said: &mut Said<'_>, told: &mut Told) -> Option<Plan> {
     let line = read_line(said, told)?;
     let (moves, turns) = (said.number(), said.number());
-    let desks = match desks_of(hand.alloc, hand.held.as_slice()) {
+    let desks = match desks_of(supply.hand.alloc, supply.held.as_slice()) {
         Ok(desks) => desks,
         Err(error) => {
             told.refused(&error);
@@ -84,7 +81,7 @@ fn planned(hand: &mut Hand, said: &mut Said<'_>, told: &mut Told) -> Option<Plan
         told.line("not asked: not as many stations hold something, or no moves");
         return None;
     }
-    hand.held.clear();
+    supply.held.clear();
     Some(Plan {
         line,
         desks,
@@ -97,12 +94,12 @@ fn live<R: Threads + Wait + Sync>(
     rt: &R,
     device: Bench,
     plan: Plan,
-    hand: &mut Hand,
+    supply: &mut Supply,
     told: &mut Told,
-) -> Scene {
-    let Some(archive) = &mut hand.archive else {
+) -> Stage {
+    let Some(archive) = &mut supply.archive else {
         told.line("not asked: no archive");
-        return Scene::Device(device);
+        return Stage::alone(device);
     };
     let Plan {
         line,
@@ -114,13 +111,13 @@ fn live<R: Threads + Wait + Sync>(
         turns,
         taken: AtomicU64::new(0),
     };
-    let clerk = match clerk_on(hand.alloc, device, line) {
+    let clerk = match clerk_on(supply.hand.alloc, device, line) {
         Ok(clerk) => clerk,
-        Err(refused) => return Scene::Device(told.handed_back(refused)),
+        Err(refused) => return Stage::alone(told.handed_back(refused)),
     };
     match lived(
         rt,
-        hand.alloc,
+        supply.hand.alloc,
         Adjourned { clerk, desks },
         &gate,
         archive,
@@ -128,9 +125,9 @@ fn live<R: Threads + Wait + Sync>(
     ) {
         Ok(clerk) => {
             tell_batches(archive, told);
-            Scene::Clerk(clerk)
+            Stage::Clerk(clerk)
         }
-        Err(refused) => Scene::Device(told.handed_back(refused)),
+        Err(refused) => Stage::alone(told.handed_back(refused)),
     }
 }
 

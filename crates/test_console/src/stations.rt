@@ -1,7 +1,5 @@
 //! Some stations of an office, which run.
-use crate::bench::Bench;
-use crate::console::Hand;
-use crate::told::Told;
+use crate::console::Supply;
 use line_lock::{Count, Office, OpenedOn, Seat};
 use office_day::HeldEntries;
 use station_desk::{Desk, End, Gate, Station, desk, run_stations};
@@ -9,6 +7,7 @@ use std::alloc::{AllocError, Global};
 use std::sync::Wait;
 use std::sync::atomic::{AtomicU64, Ordering};
 use std::thread::Threads;
+use test_words::{Bench, Told};
 
 // How many requests a desk has room for.
 const PLACES: usize = 16;
@@ -43,13 +42,13 @@ pub fn run_some<L: Count + OpenedOn + Send + Sync, R: Threads + Wait + Sync>(
     rt: &R,
     office: &Office<Bench, L>,
     seats: Vec<Seat<L>>,
-    hand: &mut Hand,
+    supply: &mut Supply,
     (first, moves, tries): (u64, u64, u64),
     told: &mut Told,
 ) -> Result<Vec<Seat<L>>, AllocError> {
-    let alloc = hand.alloc;
+    let alloc = supply.hand.alloc;
     let (mut stations, mut idle) = (Vec::new(alloc), Vec::new(alloc));
-    let mut held = hand.held.iter();
+    let mut held = supply.held.iter();
     for seat in seats {
         let next = if seat.station() as u64 >= first {
             held.next()
@@ -65,7 +64,7 @@ pub fn run_some<L: Count + OpenedOn + Send + Sync, R: Threads + Wait + Sync>(
             None => idle.push(seat)?,
         }
     }
-    hand.held.clear();
+    supply.held.clear();
     let gate = Rounds {
         count: AtomicU64::new(0),
     };

@@ -1,19 +1,11 @@
-//! An example for each library, as its user would write it. Beside them stands what a console can't show: threads whose
-//! order matters, as what is done beside a sync that is under way, or between two steps of a station; a device of
-//! 8,000,000 sectors; and the texts of refusals.
-//!
-//! But for those of `beside`, `clients` and `moments`, which need threads at once, a test holds whatever thread runs
-//! when.
+//! An example for each library, as its user would write it. Beside them stands what a console can't show: a device of
+//! 8,000,000 sectors, and the texts of refusals. Each holds whatever thread runs when.
 #![tactic(auto)]
 
 #[cfg(test)]
 mod archives;
 #[cfg(test)]
-mod beside;
-#[cfg(test)]
 mod clerks;
-#[cfg(test)]
-mod clients;
 #[cfg(test)]
 mod counters;
 #[cfg(test)]
@@ -45,15 +37,11 @@ mod lines;
 #[cfg(test)]
 mod listings;
 #[cfg(test)]
-mod moments;
-#[cfg(test)]
 mod offices;
 #[cfg(test)]
 mod recovery;
 #[cfg(test)]
 mod refusals;
-#[cfg(test)]
-mod runs;
 #[cfg(test)]
 mod scenes;
 #[cfg(test)]
@@ -62,5 +50,3 @@ mod scripts;
 mod streams;
 #[cfg(test)]
 mod sweeps;
-#[cfg(test)]
-mod waiting;

@@ -1,5 +1,5 @@
 use Rattle.sector_device.specs.MemoryDevice.{memory_device_state}
-use Rattle.test_console.specs.Bench.{foreign_state}
+use Rattle.test_words.specs.Bench.{foreign_state}
 use Rattle.test_console.proofs.callers.call_in_threads.Given as goal
 
 abbrev pub ghosts-call_in-L-Ledger : goal.ghosts-call_in-L-Ledger

@@ -1,10 +1,11 @@
-//! The words of a line, which are parted by spaces.
+//! The words of a line.
 use crate::told::Told;
+use std::str::SplitWhitespace;
 
 /// The words of a line, from the next one on.
 #[derive(Drop)]
 pub struct Said<'a> {
-    rest: &'a str,
+    words: SplitWhitespace<'a>,
     // Whether one was missing, or was no number.
     is_wrong: bool,
 }
@@ -13,20 +14,14 @@ impl<'a> Said<'a> {
     /// All words of a line.
     pub fn of(line: &'a str) -> Said<'a> {
         Said {
-            rest: line,
+            words: line.split_whitespace(),
             is_wrong: false,
         }
     }
 
     /// The next word.
     pub fn word(&mut self) -> Option<&'a str> {
-        let words = self.rest.trim_start();
-        let (word, rest) = words.split_once(' ').unwrap_or((words, ""));
-        self.rest = rest;
-        if word.is_empty() {
-            return None;
-        }
-        Some(word)
+        self.words.next()
     }
 
     /// The number that the next word writes.

@@ -171,7 +171,7 @@ impl Bench {
 
 impl Device for Bench {
     ghost use Rattle.sector_device.specs.MemoryDevice.{memory_device_state};
-    ghost use Rattle.test_console.specs.Bench.{foreign_state};
+    ghost use Rattle.test_words.specs.Bench.{foreign_state};
 
     ghost state = { λ b. foreign_state (memory_device_state b.inner) b.failures };
 

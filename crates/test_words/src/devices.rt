@@ -1,17 +1,12 @@
 //! The words of a device that nothing stands on.
 use crate::bench::Bench;
-use crate::clerks::open_clerk;
-use crate::console::{Hand, Scene};
-use crate::copies::{
-    catch_up, list, located, new_archive, postings, recovered, show_old, to_other,
-};
+use crate::copies::{list, located, postings, recovered, show_old, to_other};
 use crate::crashes::{crash, pick};
-use crate::days::hold;
 use crate::fillings;
 use crate::journals::open_journal;
 use crate::listings::open_listing;
-use crate::offices::plan_office;
 use crate::said::Said;
+use crate::scene::{Hand, Scene};
 use crate::stacked::{call, stack};
 use crate::switch::{ANY, NEVER, READS, RUNS, SYNCS, Switch, WRITES};
 use crate::told::Told;
@@ -47,10 +42,8 @@ pub fn run(
 ) -> Scene {
     match name {
         "journal" => open_journal(device, told),
-        "clerk" => open_clerk(device, hand, said, told),
         "fill" => fillings::begin(device, hand, said, told),
         "listing" => open_listing(device, hand, told),
-        "office" => plan_office(device, hand, said, told),
         "crash" => crash(device, hand, said, told),
         "ahead" | "stop" | "only" => stack(device, hand, name, told),
         _ => look_at(device, hand, name, said, told),
@@ -69,7 +62,6 @@ fn look_at(
         "recover" => recovered(device, hand, told),
         "locate" => located(device, hand, told),
         "postings" => postings(device, hand, told),
-        "catch_up" => catch_up(device, hand, told),
         "migrate" | "copy" => to_other(device, hand, name, said, told),
         "old" => show_old(device, told),
         "list" => list(device, hand, told),
@@ -108,8 +100,6 @@ fn ask(device: &mut Bench, hand: &mut Hand, name: &str, said: &mut Said<'_>, tol
 fn prepare(hand: &mut Hand, name: &str, said: &mut Said<'_>, told: &mut Told) {
     match name {
         "pick" => pick(hand, said, told),
-        "hold" => hold(hand, said, told),
-        "archive" => new_archive(hand, said, told),
         "fault" => set_fault(hand, said, told),
         "account" => set_account(hand, said, told),
         _ => told.line("no such word of a device"),

@@ -1,6 +1,6 @@
 //! The words of a line, which stands alone, without a device.
-use crate::console::{Hand, Scene};
 use crate::said::Said;
+use crate::scene::{Hand, Scene};
 use crate::told::Told;
 use four_state::{Line, LineRefusal, Rule};
 use sweep_auditor::{Move, audit};

@@ -1,6 +1,5 @@
 //! What a station does when, as a gate sees it.
-use crate::runs::{Remains, feeds_and_desks, played_in_memory};
-use crate::scenes::deposit;
+use crate::runs::{Remains, deposit, feeds_and_desks, played_in_memory};
 use crate::waiting::{TRIES, wait_for};
 use station_desk::{End, Feed, Gate, Turn};
 use std::alloc::Global;

@@ -5,7 +5,6 @@ use gate_journal::{ReadRefusal, Record, Snapshot};
 use std::alloc::{AllocError, Global};
 use std::fmt::{Debug, Display};
 use sweep_auditor::Audit;
-use turn_clerk::Turn;
 use turn_ledger::{EntryRefusal, Ledger, Verdicts};
 
 // More than a driver may let gather before it reads: no answer takes memory of its own.
@@ -35,8 +34,8 @@ impl Told {
         self.text.clear();
     }
 
-    // Adds this. All else adds by it, since each place that writes to the text is dear to prove.
-    fn add<L: Display + Drop>(&mut self, words: L) {
+    /// Adds this to the line. All else adds by it, since each place that writes to the text is dear to prove.
+    pub fn add<L: Display + Drop>(&mut self, words: L) {
         let _ = write!(self.text, "{words}");
     }
 
@@ -69,14 +68,6 @@ impl Told {
     pub fn outcome<V: Debug, E: Debug + Display>(&mut self, answer: &Result<V, E>) {
         match answer {
             Ok(value) => self.value(value),
-            Err(refusal) => self.refused(refusal),
-        }
-    }
-
-    /// Adds a line with the turn that a call took, or with its refusal.
-    pub fn turned<E: Debug + Display>(&mut self, taken: &Result<Turn, E>) {
-        match taken {
-            Ok(turn) => self.turn(turn),
             Err(refusal) => self.refused(refusal),
         }
     }
@@ -123,18 +114,6 @@ impl Told {
     pub fn audit(&mut self, audit: &Audit) {
         self.line_of(&audit.last);
         self.named("first legitimate", &audit.first_legitimate);
-    }
-
-    /// Adds a line with a turn: its place, its station, the rule, the number of its batch, and what became of each
-    /// entry.
-    pub fn turn(&mut self, turn: &Turn) {
-        let (index, station, rule) = (turn.index, turn.station, turn.rule);
-        self.add(format_args!("turn {index} station {station} {rule}"));
-        match turn.posted {
-            Some(number) => self.add(format_args!(" posted {number}")),
-            None => self.add(" empty"),
-        }
-        self.verdicts(&turn.verdicts);
     }
 
     /// Ends a line with what became of each entry.

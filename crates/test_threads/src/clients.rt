@@ -1,6 +1,5 @@
 //! Clients that submit and collect while the stations take turns.
-use crate::runs::{PLACES, Remains, feeds_and_desks, played_in_memory};
-use crate::scenes::deposit;
+use crate::runs::{PLACES, Remains, deposit, feeds_and_desks, played_in_memory};
 use crate::waiting::TRIES;
 use station_desk::{Desk, End, Errand, Feed, Gate, Outcome, Turn};
 use std::alloc::Global;

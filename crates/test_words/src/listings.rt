@@ -1,8 +1,8 @@
 //! The words of a listing, out of which an archive is made. The ledgers of the archive are on the other device.
 use crate::bench::Bench;
-use crate::console::{Hand, Scene};
 use crate::devices::set_fault;
 use crate::said::Said;
+use crate::scene::{Hand, Scene};
 use crate::told::Told;
 use gate_journal::{MOST_SLOTS, ReadRefusal};
 use journal_recovery::OpenRefusal;

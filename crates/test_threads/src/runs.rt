@@ -1,19 +1,40 @@
 //! A run of the two stations of an office, with a gate that a test gives.
 ghost use Rattle.std.specs.Prelude.{◌≤◌};
 
-use crate::scenes::{formatted, line};
+use four_state::Line;
+use gate_journal::{format, sectors_needed};
 use line_lock::Turn;
 use office_day::{Closing, Left, run_office};
-use sector_device::Device;
+use sector_device::{Device, MemoryDevice};
 use station_desk::{Desk, End, Feed, Gate, desk};
 use std::alloc::Global;
 use std::process::Abort;
 use std::sync::Wait;
 use std::test::Fail;
 use std::thread::Threads;
+use turn_ledger::Entry;
 
 // How many requests a feed has room for.
 pub const PLACES: u64 = 4;
+
+/// A deposit to an account, with the reference 1.
+pub fn deposit(to: u32, amount: u64) -> Entry {
+    Entry::Deposit {
+        to,
+        amount,
+        reference: 1,
+    }
+}
+
+/// An empty journal in memory, with so many slots in each bank.
+pub fn formatted(alloc: Global, slots: u64) -> Result<MemoryDevice, Fail>
+    requires some { 1 ≤ slots }
+    requires few { slots ≤ 1000000 }
+{
+    let mut device = MemoryDevice::new(alloc, sectors_needed(slots))?;
+    format(&mut device, slots)?;
+    Ok(device)
+}
 
 // What a run leaves: how each station ended, how many turns it took, and what account 1 holds.
 #[derive(Clone, Copy, PartialEq, Eq)]
@@ -33,7 +54,7 @@ pub fn played<D: Device + Send + Drop, G: Gate + Sync, R: Abort + Threads + Wait
     moves: u64,
     tries: u64,
 ) -> Result<Remains, Fail> {
-    let line = line([0, 0], [1, 0])?;
+    let line = Line::from_bits(2, &[false, false], &[true, false])?;
     assert!(rt; desks.len() == line.stations() as usize);
     match run_office(rt, alloc, device, line, desks, gate, moves, tries) {
         Ok((closing, left)) => Ok(of_run(&closing, left.as_slice())),

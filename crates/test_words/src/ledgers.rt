@@ -1,8 +1,8 @@
 //! The words of a ledger, which stands alone, without a device.
-use crate::console::{Hand, Scene};
 use crate::devices::set_account;
 use crate::entries::read_entries;
 use crate::said::Said;
+use crate::scene::{Hand, Scene};
 use crate::told::Told;
 use turn_ledger::{BATCH_LIMIT, ENTRY_BYTES, Entry, Ledger};
 

@@ -2,9 +2,9 @@
 ghost use Rattle.std.specs.Prelude.{◌≤◌};
 
 use crate::bench::Bench;
-use crate::console::{Hand, Scene};
 use crate::listings::{listing_of, sound_of, tell_next};
 use crate::said::Said;
+use crate::scene::{Hand, Scene};
 use crate::told::Told;
 use gate_journal::OldJournal;
 use journal_recovery::{
@@ -12,7 +12,6 @@ use journal_recovery::{
 };
 use ledger_drawing::locate;
 use ledger_reading::{Listing, Sound};
-use office_day::MemoryArchive;
 use std::alloc::Global;
 
 /// `migrate SLOTS`, `copy SLOTS`: an older ledger, or one of the present layout, to the other device.
@@ -141,31 +140,4 @@ pub fn postings(device: Bench, hand: &mut Hand, told: &mut Told) -> Scene {
     let (device, answer) = may_hold_postings(hand.alloc, device);
     told.outcome(&answer);
     Scene::Device(device)
-}
-
-/// `archive FIRST`: an archive in memory, of a ledger whose next batch has that number.
-pub fn new_archive(hand: &mut Hand, said: &mut Said<'_>, told: &mut Told) {
-    let first = said.number();
-    if said.is_right(told) {
-        hand.archive = Some(MemoryArchive::new(hand.alloc, first));
-    }
-}
-
-/// `catch_up`: adds to that archive what it lacks of the ledger, and tells whether it never failed, and its batches.
-pub fn catch_up(device: Bench, hand: &mut Hand, told: &mut Told) -> Scene {
-    let Some(archive) = &mut hand.archive else {
-        told.line("not asked: no archive");
-        return Scene::Device(device);
-    };
-    let (device, is_kept) = archive.catch_up(device);
-    told.value(&is_kept);
-    tell_batches(archive, told);
-    Scene::Device(device)
-}
-
-/// A line for each batch of an archive.
-pub fn tell_batches(archive: &MemoryArchive, told: &mut Told) {
-    for batch in archive.batches() {
-        told.value(&batch.as_slice());
-    }
 }

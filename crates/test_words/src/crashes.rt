@@ -1,8 +1,8 @@
 //! What a power loss leaves of a device.
 use crate::bench::Bench;
-use crate::console::{Hand, Scene};
 use crate::devices::read_sector;
 use crate::said::Said;
+use crate::scene::{Hand, Scene};
 use crate::told::Told;
 use sector_device::{Device, Picks, SECTOR, Sector};
 use std::mem;

@@ -1,7 +1,5 @@
 //! Threads at once: a station gathers while another one's sync is under way.
-
-use crate::runs::{Remains, feeds_and_desks, played};
-use crate::scenes::{deposit, formatted};
+use crate::runs::{Remains, deposit, feeds_and_desks, formatted, played};
 use crate::waiting::{TRIES, wait_for};
 use fault_injector::{Held, HeldFlags};
 use station_desk::{Desk, Errand, Gate, Outcome};

@@ -1,9 +1,9 @@
 //! The calls of a device, also of one that stands before the device in hand: a buffer for its reads, one that stops
 //! behind a failed sync, and one that is only read.
 use crate::bench::Bench;
-use crate::console::{Hand, Scene};
 use crate::devices::{read_sector, set_fault};
 use crate::said::Said;
+use crate::scene::{Hand, Scene};
 use crate::told::Told;
 use device_files::{FailStop, ReadAhead, ReadBuffer, ReadOnly};
 use sector_device::{Device, SECTOR};

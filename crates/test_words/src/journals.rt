@@ -1,8 +1,8 @@
 //! The words of a journal.
 use crate::bench::Bench;
-use crate::console::{Hand, Scene};
 use crate::devices::{set_account, set_fault};
 use crate::said::Said;
+use crate::scene::{Hand, Scene};
 use crate::told::Told;
 use gate_journal::{Journal, PAYLOAD, Record, Snapshot, SnapshotRefusal};
 

@@ -1,9 +1,9 @@
 //! The words of a journal that is being filled.
 use crate::bench::Bench;
-use crate::console::{Hand, Scene};
 use crate::devices::set_fault;
 use crate::journals::read_record;
 use crate::said::Said;
+use crate::scene::{Hand, Scene};
 use crate::told::Told;
 use gate_journal::Filling;
 
