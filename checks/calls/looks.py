@@ -41,7 +41,7 @@ def look(console, begun, limit, moments):
     for step in range(STEPS):
         asked += [*(turns(1, "deposit 1 1 1") if step in moments else []), "step"]
     told = console.ask([*asked, "close", "other"])
-    seen = [line for line in told if line.startswith(("Seen ", "refused "))]
+    seen = [line for line in told if line.startswith(("LookAnswer ", "refused "))]
     require(seen, f"a look from {begun} on has no end")
     return seen[0]
 
@@ -49,8 +49,8 @@ def look(console, begun, limit, moments):
 def look_at_each(console, slots, every):
     """Looks at banks of so many slots: a batch comes before one step, or before each."""
     fill(console, slots)
-    known = f"Seen {{ posting: Some(Posting {{ number: {slots - 1}, entry: {LAST} }}), since: 0 }}"
-    unknown = f"Seen {{ posting: None, since: {slots} }}"
+    known = f"LookAnswer {{ posting: Some(Posting {{ number: {slots - 1}, entry: {LAST} }}), since: 0 }}"
+    unknown = f"LookAnswer {{ posting: None, since: {slots} }}"
     for limit in LIMITS:
         for moment in range(0, STEPS, every):
             allowed = {known: moment > 0, unknown: moment < STEPS - 1}
@@ -58,7 +58,7 @@ def look_at_each(console, slots, every):
             require(allowed.get(told), f"{slots} slots, a batch before step {moment}: {told}")
         told = look(console, 0, limit, range(STEPS))
         nothing, since = told.rstrip(" }").rsplit(" ", 1)
-        require(nothing == "Seen { posting: None, since:" and int(since) >= slots, f"{slots} slots, always a batch: {told}")
+        require(nothing == "LookAnswer { posting: None, since:" and int(since) >= slots, f"{slots} slots, always a batch: {told}")
         require_same(look(console, slots, limit, ()), unknown, f"{slots} slots, a look from the live bank on")
     return len(LIMITS) * (len(range(0, STEPS, every)) + 2)
 

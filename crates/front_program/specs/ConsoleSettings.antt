@@ -3,7 +3,7 @@ use Rattle.std.specs.Prelude.{◌≡◌, ◌≢◌, ℕ, false, List, Option, No
 use Rattle.std.specs.Borrow.{Bor}
 use Rattle.front_program.specs.declared.console_settings.Options.{Options}
 use Rattle.front_program.specs.declared.request.OlderLedger.{OlderLedger}
-use Rattle.front_program.specs.declared.request.Running.{Running}
+use Rattle.front_program.specs.declared.request.ScriptOptions.{ScriptOptions}
 use Rattle.front_program.specs.declared.request.ScriptFile.{ScriptFile}
 
 -- the ledger that is copied onto the device is the one that the options name, with their slots, and isn't the device
@@ -21,7 +21,7 @@ IsFileOf options (Some file) =
     × IsOlderOf options file.path file.older
 
 -- the script runs on that device
-pub record IsPlanOf (options : Options) (running : Running) : Type 0 where
+pub record IsPlanOf (options : Options) (running : ScriptOptions) : Type 0 where
   pub file : IsFileOf options running.file
   pub sectors : running.sectors ≡ Some options.sectors
 

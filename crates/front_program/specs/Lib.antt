@@ -5,4 +5,4 @@ pub use Rattle.sector_device.specs.Crash
 pub mod Statuses
 pub mod Requests
 pub mod Status
-pub mod Serving
+pub mod ServeOptions

@@ -35,7 +35,7 @@ What was asked at the counter before is answered first. If a client speaks there
 is 1 if no office has the counter, or the client stays.
 ";
 
-const STANDING: &str = "\
+const STATUS_FACTS: &str = "\
 Prints 'next N', the number of the next batch; 'free F', the free slots of the live bank; 'turns T', those taken since the
 office opened; 'clients C', how many other counters have a client; and 'archived A', below which all batches are in the
 archive, or 'archived none'. It waits until the office answers. The status is 1 if no office has the counter, or a client
@@ -249,7 +249,7 @@ const CLOSE: CommandText = CommandText {
 const STATUS: CommandText = CommandText {
     name: "status",
     about: "Tell how the office stands that has a counter",
-    after: Some(STANDING),
+    after: Some(STATUS_FACTS),
     words: &[COUNTER],
     ..PLAIN
 };

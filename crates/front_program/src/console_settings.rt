@@ -2,7 +2,7 @@
 ghost use Rattle.std.specs.Prelude.{◌≡◌, ◌↔◌, ◌⊎◌, None, Some, false, IsSome, IsTrue, IfOk, IfSome, Err, option_map};
 ghost use Rattle.front_program.specs.ConsoleSettings.{IsPlanOf, NamesOnePath};
 
-use crate::request::{OlderLedger, Running, ScriptFile};
+use crate::request::{OlderLedger, ScriptFile, ScriptOptions};
 use crate::wrong_words::WrongWords;
 use std::num::NonZeroU64;
 
@@ -26,7 +26,7 @@ impl<'a> Options<'a> {
     ///
     /// # Errors
     /// [`WrongWords`], the first that holds.
-    pub fn plan(self) -> Result<Running<'a>, WrongWords>
+    pub fn plan(self) -> Result<ScriptOptions<'a>, WrongWords>
         ensures plan { IfOk result (IsPlanOf self.entry) }
         ensures migrate_alone { (result ≡ Err WrongWords.MigrateAlone)
             ↔ (IsSome self.entry.migrate
@@ -53,7 +53,7 @@ impl<'a> Options<'a> {
     }
 
     // The script on its device, which an older ledger may be copied onto first.
-    fn running(self, older: Option<OlderLedger<'a>>) -> Running<'a>
+    fn running(self, older: Option<OlderLedger<'a>>) -> ScriptOptions<'a>
         ensures device { option_map (λ file. file.path) result.file ≡ self.entry.device }
         ensures file { IfSome result.file (λ file. (file.overwrite ≡ self.entry.overwrite)
             × (file.noted ≡ false) × (file.older ≡ older.entry)) }
@@ -62,7 +62,7 @@ impl<'a> Options<'a> {
         let sectors = Some(self.sectors);
         let Some(path) = self.device else {
             let file = None;
-            return Running { file, sectors };
+            return ScriptOptions { file, sectors };
         };
         let file = Some(ScriptFile {
             path,
@@ -70,6 +70,6 @@ impl<'a> Options<'a> {
             older,
             noted: false,
         });
-        Running { file, sectors }
+        ScriptOptions { file, sectors }
     }
 }

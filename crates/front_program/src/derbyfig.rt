@@ -6,7 +6,7 @@ ghost use Rattle.front_program.specs.Statuses.{of_inspection, status_of};
 
 use crate::faults::Fault;
 use crate::office_plan::plan_office;
-use crate::request::{Copying, Origin, Request};
+use crate::request::{CopyOptions, Origin, Request};
 use crate::running::{run_on_device, say};
 use crate::status::Status;
 use crate::telling::{tell, tell_words, tell_wrong, unwritten};
@@ -14,11 +14,11 @@ use crate::words::read_request;
 use clap::Error;
 use device_files::{Locking, ReadOnlyFile};
 use ledger_counters::{RosterPath, is_disk, remove_roster, take_along};
-use ledger_file::{CopyPlace, Formatting, Original, format_ledger, open_for_copy};
-use ledger_folder::{Archived, Archiving, archive, newest_of};
+use ledger_file::{CopyPlace, FormatOptions, Original, format_ledger, open_for_copy};
+use ledger_folder::{AddedBatches, ArchiveOptions, archive, newest_of};
 use ledger_inspection::{InspectionFault, Task, check_archive, inspect};
 use ledger_reading::Sound;
-use office_service::{Locks, Runtime, Serving, Surroundings, ask_standing, close_office, serve};
+use office_service::{Locks, Runtime, ServeOptions, Surroundings, ask_status, close_office, serve};
 use std::alloc::Global;
 use std::fmt;
 use std::fs::{File, Files};
@@ -52,24 +52,24 @@ pub fn run_derbyfig<
         Ok(request) => request,
         Err(error) => return tell_error(alloc, error, writer, errors).code(),
     };
-    let mut doing = Doing { rt, writer };
+    let mut reporter = Reporter { rt, writer };
     let outcome = match request {
         Request::Serve(serving) => {
-            return serve_counters(rt, &serving, surroundings, doing.writer, errors).code();
+            return serve_counters(rt, &serving, surroundings, reporter.writer, errors).code();
         }
         Request::Inspect(wish) => {
             let is_check = matches!(wish.task, Task::Check { .. });
-            let looked = inspect(rt, &wish, doing.writer, errors, shows_progress);
+            let looked = inspect(rt, &wish, reporter.writer, errors, shows_progress);
             return ended_looking(alloc, is_check, looked, errors).code();
         }
         Request::Run(running) => {
-            run_on_device(rt, running, &mut surroundings.input, doing.writer)
+            run_on_device(rt, running, &mut surroundings.input, reporter.writer)
         }
-        Request::Close { counter, seconds } => doing.close(counter, seconds),
-        Request::Status { counter } => doing.tell_standing(counter),
-        Request::Format { path, formatting } => doing.make(path, formatting),
-        Request::Copy(copying) => doing.copy(copying),
-        Request::Archive(archiving) => doing.add_to_archive(archiving),
+        Request::Close { counter, seconds } => reporter.close(counter, seconds),
+        Request::Status { counter } => reporter.tell_status(counter),
+        Request::Format { path, formatting } => reporter.make(path, formatting),
+        Request::Copy(copying) => reporter.copy(copying),
+        Request::Archive(archiving) => reporter.add_to_archive(archiving),
     };
     ended(alloc, outcome, errors).code()
 }
@@ -115,7 +115,7 @@ fn serve_counters<
     E: Write,
 >(
     rt: &R,
-    serving: &Serving<'_>,
+    serving: &ServeOptions<'_>,
     surroundings: Surroundings<I, O, L>,
     writer: &mut W,
     errors: &mut E,
@@ -130,12 +130,12 @@ fn serve_counters<
 
 // What the commands work with that say what was done.
 #[derive(Drop)]
-struct Doing<'r, R, W> {
+struct Reporter<'r, R, W> {
     rt: &'r R,
     writer: &'r mut W,
 }
 
-impl<R: Files<File = File> + AllocGlobal + Clock + Clone + Drop, W: Write> Doing<'_, R, W> {
+impl<R: Files<File = File> + AllocGlobal + Clock + Clone + Drop, W: Write> Reporter<'_, R, W> {
     // Closes the office that has a counter.
     fn close<'a>(&mut self, counter: &'a str, seconds: u64) -> Result<(), Fault<'a>> {
         close_office(self.rt, counter, seconds)?;
@@ -143,13 +143,13 @@ impl<R: Files<File = File> + AllocGlobal + Clock + Clone + Drop, W: Write> Doing
     }
 
     // Tells how the office stands that has a counter.
-    fn tell_standing<'a>(&mut self, counter: &'a str) -> Result<(), Fault<'a>> {
-        let told = ask_standing(self.rt, counter)?;
+    fn tell_status<'a>(&mut self, counter: &'a str) -> Result<(), Fault<'a>> {
+        let told = ask_status(self.rt, counter)?;
         self.say(told)
     }
 
     // Makes an empty ledger.
-    fn make<'a>(&mut self, path: &'a str, formatting: Formatting) -> Result<(), Fault<'a>> {
+    fn make<'a>(&mut self, path: &'a str, formatting: FormatOptions) -> Result<(), Fault<'a>> {
         format_ledger(self.rt, path, formatting).map_err(|refusal| Fault::of_ledger(
             path, refusal,
         ))?;
@@ -158,9 +158,9 @@ impl<R: Files<File = File> + AllocGlobal + Clock + Clone + Drop, W: Write> Doing
     }
 
     // Adds to an archive what it lacks.
-    fn add_to_archive<'a>(&mut self, archiving: Archiving<'a>) -> Result<(), Fault<'a>> {
-        let Archived { batches, first } = archive(self.rt, archiving)?;
-        let Archiving { ledger, folder } = archiving;
+    fn add_to_archive<'a>(&mut self, archiving: ArchiveOptions<'a>) -> Result<(), Fault<'a>> {
+        let AddedBatches { batches, first } = archive(self.rt, archiving)?;
+        let ArchiveOptions { ledger, folder } = archiving;
         take_along(
             self.rt,
             RosterPath::Beside(ledger),
@@ -170,7 +170,7 @@ impl<R: Files<File = File> + AllocGlobal + Clock + Clone + Drop, W: Write> Doing
     }
 
     // Copies a ledger, which stays open meanwhile, and says so.
-    fn copy<'a>(&mut self, copying: Copying<'a>) -> Result<(), Fault<'a>> {
+    fn copy<'a>(&mut self, copying: CopyOptions<'a>) -> Result<(), Fault<'a>> {
         let (done, counters) = match copying.origin {
             Origin::Ledger => ("copied", RosterPath::Beside(copying.old)),
             Origin::Older => ("migrated", RosterPath::Beside(copying.old)),
@@ -184,7 +184,10 @@ impl<R: Files<File = File> + AllocGlobal + Clock + Clone + Drop, W: Write> Doing
 
     // What is to be copied, which is found sound first, so that nothing is made if it isn't. Of an archive, which is
     // all found sound, it is the newest file.
-    fn original<'a>(&self, copying: Copying<'a>) -> Result<(ReadOnlyFile, Original), Fault<'a>> {
+    fn original<'a>(
+        &self,
+        copying: CopyOptions<'a>,
+    ) -> Result<(ReadOnlyFile, Original), Fault<'a>> {
         let path = copying.old;
         let (file, original) = match copying.origin {
             Origin::Archive => {
@@ -214,9 +217,9 @@ impl<R: Files<File = File> + AllocGlobal + Clock + Clone + Drop, W: Write> Doing
         &self,
         original: Original,
         counters: RosterPath<'a>,
-        copying: Copying<'a>,
+        copying: CopyOptions<'a>,
     ) -> Result<(), Fault<'a>> {
-        let Copying {
+        let CopyOptions {
             path,
             formatting,
             ..

@@ -1,17 +1,17 @@
 //! Whether the words that ask for an office go together, and what is worked out of them.
 ghost use Rattle.std.specs.Prelude.{◌≡◌, ◌≢◌, ◌≤◌, ◌<◌, ◌+◌, ◌↔◌, length, None, option_map, unwrap_or, IsTrue, IfOk, IfErr, IfSome, Err};
-ghost use Rattle.front_program.specs.Serving.{counters_of, fewest_of, stations_of};
+ghost use Rattle.front_program.specs.ServeOptions.{counters_of, fewest_of, stations_of};
 
 use crate::wrong_words::WrongWords;
 use four_state::{FEWEST_STATIONS, MOST_STATIONS};
-use ledger_file::Formatting;
-use office_service::{Plan, Serving};
+use ledger_file::FormatOptions;
+use office_service::{Plan, ServeOptions};
 
 /// What is worked out of what is asked of an office, if the words go together.
 ///
 /// # Errors
 /// [`WrongWords`], the first that holds.
-pub fn plan_office(serving: &Serving<'_>) -> Result<Plan, WrongWords>
+pub fn plan_office(serving: &ServeOptions<'_>) -> Result<Plan, WrongWords>
     ensures some { IfOk result (λ plan. 2 ≤ plan.stations) }
     ensures enough { IfOk result (λ plan. counters_of serving.now ≤ plan.stations) }
     ensures stations { IfOk result (λ plan. plan.stations ≡ stations_of serving.now) }
@@ -34,7 +34,7 @@ pub fn plan_office(serving: &Serving<'_>) -> Result<Plan, WrongWords>
 }
 
 // How many stations the office has: as many as are asked for, and else one for each counter, but two at least.
-fn stations_wanted(serving: &Serving<'_>) -> Result<u64, WrongWords>
+fn stations_wanted(serving: &ServeOptions<'_>) -> Result<u64, WrongWords>
     ensures some { IfOk result (λ stations. 2 ≤ stations) }
     ensures enough { IfOk result (λ stations. length serving.now.counters.items ≤ stations) }
     ensures terminal { IfOk result (λ stations. IsTrue serving.now.terminal
@@ -64,7 +64,7 @@ fn stations_wanted(serving: &Serving<'_>) -> Result<u64, WrongWords>
 }
 
 // How the ledger is to be made, if that is asked for.
-fn formatting(serving: &Serving<'_>) -> Result<Option<Formatting>, WrongWords>
+fn formatting(serving: &ServeOptions<'_>) -> Result<Option<FormatOptions>, WrongWords>
     ensures slots { IfOk result (λ formatting.
         option_map (λ f. f.slots) formatting ≡ serving.now.format) }
     ensures sectors { IfOk result (λ formatting.
@@ -82,7 +82,7 @@ fn formatting(serving: &Serving<'_>) -> Result<Option<Formatting>, WrongWords>
             Ok(None)
         };
     };
-    Ok(Some(Formatting {
+    Ok(Some(FormatOptions {
         slots,
         sectors: serving.sectors.unwrap_or(0),
         overwrite: serving.overwrite,

@@ -1,8 +1,8 @@
 //! What `derbyfig` is asked for.
-use ledger_file::Formatting;
-use ledger_folder::Archiving;
+use ledger_file::FormatOptions;
+use ledger_folder::ArchiveOptions;
 use ledger_inspection::Inspection;
-use office_service::Serving;
+use office_service::ServeOptions;
 use std::fmt;
 use std::num::NonZeroU64;
 
@@ -10,15 +10,15 @@ use std::num::NonZeroU64;
 #[derive(Debug, Drop)]
 pub enum Request<'a> {
     /// To run a script.
-    Run(Running<'a>),
+    Run(ScriptOptions<'a>),
     /// To keep an office open.
-    Serve(Serving<'a>),
+    Serve(ServeOptions<'a>),
     /// To look at a ledger, or at several that are read as one book.
     Inspect(Inspection<'a>),
     /// To make an empty ledger at this path.
     Format {
         path: &'a str,
-        formatting: Formatting,
+        formatting: FormatOptions,
     },
     /// To close the office that has the counter with this folder.
     Close {
@@ -31,20 +31,20 @@ pub enum Request<'a> {
         counter: &'a str,
     },
     /// To copy a ledger.
-    Copy(Copying<'a>),
+    Copy(CopyOptions<'a>),
     /// To add to an archive what it lacks of a ledger.
-    Archive(Archiving<'a>),
+    Archive(ArchiveOptions<'a>),
 }
 
 /// A ledger that is to be copied.
 #[derive(Clone, Copy, Debug)]
-pub struct Copying<'a> {
+pub struct CopyOptions<'a> {
     /// The path of the ledger, or of the archive's folder, which is only read.
     pub old: &'a str,
     pub origin: Origin,
     /// The path that the copy gets.
     pub path: &'a str,
-    pub formatting: Formatting,
+    pub formatting: FormatOptions,
 }
 
 /// What a ledger is copied from.
@@ -77,7 +77,7 @@ impl fmt::Display for Origin {
 
 /// A script that is to be run.
 #[derive(Clone, Copy, Debug)]
-pub struct Running<'a> {
+pub struct ScriptOptions<'a> {
     /// The file or the disk that is the device; without one it is in memory.
     pub file: Option<ScriptFile<'a>>,
     /// How many sectors the device has at least, if that is said: 1 to 4,000,039.

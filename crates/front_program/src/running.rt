@@ -8,7 +8,7 @@ ghost use Rattle.journal_recovery.specs.Older.{OldRecoveryRefuses};
 ghost use Rattle.journal_recovery.specs.Postings.{MayHoldPostings};
 
 use crate::faults::Fault;
-use crate::request::{OlderLedger, Running, ScriptFile};
+use crate::request::{OlderLedger, ScriptFile, ScriptOptions};
 use device_files::{FileDevice, FileFault, Making};
 use front_scripts::{ScriptFault, run_script};
 use journal_recovery::{MigrateRefusal, OpenRefusal, may_hold_postings, migrate};
@@ -36,7 +36,7 @@ pub fn run_on_device<
     F: Files<File = File> + AllocGlobal + Threads + Wait + Sync,
     R: Read,
     W: Write,
->(rt: &F, running: Running<'a>, reader: &mut R, writer: &mut W) -> Result<(), Fault<'a>>
+>(rt: &F, running: ScriptOptions<'a>, reader: &mut R, writer: &mut W) -> Result<(), Fault<'a>>
     // of a reader whose bytes are known: no line of the script is wrong
     ensures sound { OnOk result (IfSome (R.remaining reader.old) (λ bytes.
         first_fault 1 (lines bytes) ≡ None)) }

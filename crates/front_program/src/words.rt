@@ -7,16 +7,16 @@ use crate::commands::{Verb, derbyfig_command};
 use crate::option_table::{
     ACCOUNT, AT, FORMAT, FROM, REFERENCE, SECONDS, SECTORS, SLOTS, STATIONS, non_zero,
 };
-use crate::request::{Copying, Origin, Request, Running, ScriptFile};
+use crate::request::{CopyOptions, Origin, Request, ScriptFile, ScriptOptions};
 use crate::wrong_words::WrongWords;
 use clap::error::ErrorKind;
 use clap::{ArgMatches, Error};
 use device_files::Locking;
 use ledger_counters::{is_name, name_of};
-use ledger_file::Formatting;
-use ledger_folder::Archiving;
+use ledger_file::FormatOptions;
+use ledger_folder::ArchiveOptions;
 use ledger_inspection::{Date, Format, Inspection, JournalWish, Selection, Task};
-use office_service::{CounterFolder, Serving, TERMINAL};
+use office_service::{CounterFolder, ServeOptions, TERMINAL};
 use std::alloc::{AllocError, Global};
 
 /// What the words ask for, of which the first is the program's name; or what `clap` answers to wrong words, to the wish
@@ -80,7 +80,7 @@ fn running<'a>(options: &ArgMatches<'a>) -> Result<Request<'a>, WrongWords>
         noted: true,
     });
     let sectors = SECTORS.given(options)?;
-    Ok(Request::Run(Running { file, sectors }))
+    Ok(Request::Run(ScriptOptions { file, sectors }))
 }
 
 fn serving<'a>(alloc: Global, options: &ArgMatches<'a>) -> Result<Request<'a>, WrongWords>
@@ -91,7 +91,7 @@ fn serving<'a>(alloc: Global, options: &ArgMatches<'a>) -> Result<Request<'a>, W
     let stations = STATIONS.given(options)?;
     let format = non_zero(FORMAT.given(options)?);
     let terminal = options.get_flag("terminal");
-    Ok(Request::Serve(Serving {
+    Ok(Request::Serve(ServeOptions {
         path,
         sectors,
         counters: counters(alloc, options, terminal)?,
@@ -161,10 +161,10 @@ fn making<'a>(options: &ArgMatches<'a>) -> Result<Request<'a>, WrongWords>
     })
 }
 
-fn formatting(options: &ArgMatches<'_>) -> Result<Formatting, WrongWords>
+fn formatting(options: &ArgMatches<'_>) -> Result<FormatOptions, WrongWords>
     ensures slots { IfOk result (λ formatting. non_zero_u64_get formatting.slots ≤ 1000000) }
 {
-    Ok(Formatting {
+    Ok(FormatOptions {
         slots: non_zero(SLOTS.given(options)?).ok_or(WrongWords::OutOfRange)?,
         sectors: 0,
         overwrite: options.get_flag("overwrite"),
@@ -179,7 +179,7 @@ fn copying<'a>(options: &ArgMatches<'a>, origin: Origin) -> Result<Request<'a>, 
     if old == path {
         return Err(WrongWords::NewIs(origin));
     }
-    Ok(Request::Copy(Copying {
+    Ok(Request::Copy(CopyOptions {
         old,
         origin,
         path,
@@ -190,7 +190,7 @@ fn copying<'a>(options: &ArgMatches<'a>, origin: Origin) -> Result<Request<'a>, 
 fn archiving<'a>(options: &ArgMatches<'a>) -> Result<Request<'a>, WrongWords>
     ensures within { IfOk result IsWithin }
 {
-    Ok(Request::Archive(Archiving {
+    Ok(Request::Archive(ArchiveOptions {
         ledger: path(options, "LEDGER")?,
         folder: path(options, "FOLDER")?,
     }))

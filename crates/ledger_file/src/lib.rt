@@ -17,6 +17,6 @@ pub use copying::{CopyPlace, Original, open_for_copy};
 pub use device_files::{FileDevice, FileFault, Making};
 pub use gate_journal::FormatRefusal;
 pub use journal_recovery::OpenRefusal;
-pub use opening::{Formatting, MOST_SECTORS, format_ledger, open_for_script, open_ledger};
+pub use opening::{FormatOptions, MOST_SECTORS, format_ledger, open_for_script, open_ledger};
 pub use plan::{PartFault, check_formatting, sectors_planned};
 pub use refusal::LedgerRefusal;

@@ -15,7 +15,7 @@ pub const MOST_SECTORS: u64 = 4_000_039;
 
 /// How a ledger is to be made.
 #[derive(Clone, Copy, Debug, PartialEq, Eq)]
-pub struct Formatting {
+pub struct FormatOptions {
     /// How many slots each bank gets: at most 1,000,000.
     pub slots: NonZeroU64,
     /// How many sectors the device has at least, besides the 39 + 4·slots that it needs.
@@ -102,7 +102,7 @@ fn sectors_for_script<F: DeviceFile + Drop>(file: &LockedFile<'_, F>, asked: u64
 pub fn format_ledger<F: DeviceFile + Drop, R: Files<File = F> + AllocGlobal>(
     rt: &R,
     path: &str,
-    formatting: Formatting,
+    formatting: FormatOptions,
 ) -> Result<DeviceOn<F>, LedgerRefusal>
     ensures enough { IfOk result (λ device. formatting.sectors ≤ device.inner.sectors) }
     ensures needed { IfOk result (λ device.
@@ -128,7 +128,7 @@ pub(crate) fn take_back<R: Files>(rt: &R, made: Option<MadeFile<'_>>) {
 pub(crate) fn device_to_format<'a, F: DeviceFile + Drop, R: Files<File = F> + AllocGlobal>(
     rt: &R,
     path: &'a str,
-    formatting: Formatting,
+    formatting: FormatOptions,
 ) -> Result<(DeviceOn<F>, Option<MadeFile<'a>>), LedgerRefusal>
     ensures enough { IfOk result (λ both. formatting.sectors ≤ both.0.inner.sectors) }
     ensures needed { IfOk result (λ both.

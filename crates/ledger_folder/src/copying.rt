@@ -8,7 +8,7 @@ use crate::faults::{ArchiveFault, FolderFault};
 use crate::folder::{Folder, are_one_folder};
 use journal_recovery::{OpenRefusal, Recovered, recover};
 use ledger_counters::{RosterPath, remove_roster, take_along};
-use ledger_file::{Formatting, LedgerRefusal, Original, open_for_copy};
+use ledger_file::{FormatOptions, LedgerRefusal, Original, open_for_copy};
 use sector_device::Device;
 use std::fs;
 use std::fs::{File, Files};
@@ -149,7 +149,7 @@ fn copy_to<R: Files<File = File> + AllocGlobal>(
 ) -> Result<(), FolderCopyRefusal>
     ensures { IfErr result (λ refusal. IsReadFault refusal → ⊥) }
 {
-    let formatting = Formatting {
+    let formatting = FormatOptions {
         slots: NonZeroU64::new(slots).unwrap_or(NonZeroU64::MIN),
         sectors: 0,
         overwrite: false,

@@ -13,7 +13,7 @@ mod faults;
 mod folder;
 mod gaps;
 
-pub use archiving::{Archived, Archiving, archive, archive_journal, newest_of};
+pub use archiving::{AddedBatches, ArchiveOptions, archive, archive_journal, newest_of};
 pub use copying::{FolderCopyRefusal, copy_to_folder, open_copies};
 pub use faults::{ArchiveFault, FolderFault, Part, Volume};
 pub use folder::{Folder, is_folder, numbers_in};

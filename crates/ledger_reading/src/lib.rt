@@ -1,7 +1,7 @@
 //! What a ledger of any layout holds, to be looked at: its numbers, its balances, and its records one after another.
 //! And archives of a ledger, which are read as one book with it.
 //!
-//! [`look`] recovers a ledger of layout 1, 2 or 3, and [`AnyJournal::list`] lists its records. Nothing is written.
+//! [`look`] recovers a ledger of layout 1, 2 or 3, and [`AnyJournal::list`] lists its records. Both only read.
 //!
 //! An archive is journals in the present layout, each made whole by [`add`], with the records that a listing has from
 //! where it stands on. Each begins where the one before ends, with what the ledger then held. Read in order they are

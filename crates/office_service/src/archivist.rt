@@ -7,7 +7,7 @@ ghost use Rattle.office_service.specs.FolderArchive.{folder_archive};
 use crate::faults::OfficeFault;
 use crate::looking_back::last_in_archive;
 use crate::seating::Seating;
-use crate::serving::Serving;
+use crate::serving::ServeOptions;
 use device_files::FileNumber;
 use gate_journal::{Borrower, Journal};
 use ledger_counters::RosterPath;
@@ -15,7 +15,7 @@ use ledger_folder::{
     ArchiveFault, Folder, FolderCopyRefusal, archive_journal, check_no_gap, copy_to_folder,
     open_copies,
 };
-use office_sessions::{CounterCopyRefusal, Keeper, Kept, Seen};
+use office_sessions::{ArchiveState, CounterCopyRefusal, Keeper, LookAnswer};
 use sector_device::Device;
 use std::fs;
 use std::fs::{File, Files};
@@ -40,7 +40,7 @@ pub(crate) struct Archivist<'a, 'r, R> {
     ledger: Option<FileNumber>,
     archive: Option<FileNumber>,
     // How far the archive is, as it was kept last.
-    kept: Kept,
+    kept: ArchiveState,
     fault: Option<OfficeFault<'a>>,
 }
 
@@ -49,7 +49,7 @@ impl<'a, 'r, R: Files<File = File> + AllocGlobal + Clone + Drop> Archivist<'a, '
     /// copies, if it makes any.
     pub(crate) fn open(
         rt: &'r R,
-        serving: &Serving<'a>,
+        serving: &ServeOptions<'a>,
     ) -> Result<Archivist<'a, 'r, R>, OfficeFault<'a>> {
         let folder = match serving.archive {
             Some(folder) => Some(open_archive(rt, folder)?),
@@ -72,7 +72,7 @@ impl<'a, 'r, R: Files<File = File> + AllocGlobal + Clone + Drop> Archivist<'a, '
             place: RosterPath::Beside(serving.path),
             ledger: None,
             archive: None,
-            kept: Kept::NoArchive,
+            kept: ArchiveState::NoArchive,
             fault: None,
         })
     }
@@ -111,19 +111,19 @@ impl<'a, 'r, R: Files<File = File> + AllocGlobal + Clone + Drop> Archivist<'a, '
     }
 
     // Adds what the archive lacks, if there is one, and how far it is.
-    fn add<D: Device>(&self, journal: Journal<D>) -> (D, Result<Kept, OfficeFault<'a>>)
+    fn add<D: Device>(&self, journal: Journal<D>) -> (D, Result<ArchiveState, OfficeFault<'a>>)
         ensures looked { WasLookedAt (D.state journal.device) (D.state result.0) }
-        ensures told { IfOk result.1 (λ kept. kept ≢ Kept.Failed) }
+        ensures told { IfOk result.1 (λ kept. kept ≢ ArchiveState.Failed) }
     {
         if let Some(path) = self.lost() {
             return (journal.into_device(), Err(OfficeFault::Lost { path }));
         }
         let Some(folder) = &self.folder else {
-            return (journal.into_device(), Ok(Kept::NoArchive));
+            return (journal.into_device(), Ok(ArchiveState::NoArchive));
         };
         let (device, added) = archive_journal(self.rt, self.path, journal, folder);
         match added {
-            Ok(archived) => (device, Ok(Kept::UpTo(archived.next()))),
+            Ok(archived) => (device, Ok(ArchiveState::UpTo(archived.next()))),
             Err(fault) => (device, Err(OfficeFault::from(fault))),
         }
     }
@@ -146,19 +146,19 @@ impl<R: Files<File = File> + AllocGlobal + Clone + Drop> Keeper for Archivist<'_
 
     ghost so_far = { λ archivist. archivist.kept };
 
-    fn keep<D: Device>(&mut self, journal: Journal<D>) -> (D, Kept) {
+    fn keep<D: Device>(&mut self, journal: Journal<D>) -> (D, ArchiveState) {
         let (device, added) = self.add(journal);
         match added {
             Ok(kept) => self.kept = kept,
             Err(fault) => {
                 self.fault = Some(fault);
-                self.kept = Kept::Failed;
+                self.kept = ArchiveState::Failed;
             }
         }
         (device, self.kept)
     }
 
-    fn kept(&self) -> Kept {
+    fn kept(&self) -> ArchiveState {
         self.kept
     }
 
@@ -173,7 +173,7 @@ impl<R: Files<File = File> + AllocGlobal + Clone + Drop> Keeper for Archivist<'_
         }
     }
 
-    fn last(&mut self, station: u8) -> Option<Seen> {
+    fn last(&mut self, station: u8) -> Option<LookAnswer> {
         last_in_archive(self.rt, self.books?, station, self.since)
     }
 }

@@ -10,15 +10,16 @@ use crate::locks::{Locks, SeatedClients};
 use crate::pipes::open_pipe;
 use crate::runtime::Runtime;
 use crate::seating::Seating;
-use crate::serving::{CounterFolder, Plan, Serving};
+use crate::serving::{CounterFolder, Plan, ServeOptions};
 use crate::source::{Source, Target};
 use device_files::{FileDevice, FileNumber};
 use four_state::{FEWEST_STATIONS, Line, MOST_STATIONS};
 use journal_recovery::OpenRefusal;
-use ledger_file::{Formatting, format_ledger, open_ledger};
+use ledger_file::{FormatOptions, format_ledger, open_ledger};
 use office_day::StationDay;
 use office_sessions::{
-    Closed, Conversation, Counter, Identity, Keeper, Kept, Kind, are_threads_granted, keep_open,
+    ArchiveState, ClosedOffice, Conversation, Counter, Identity, Keeper, Kind, are_threads_granted,
+    keep_open,
 };
 use sector_device::Device;
 use station_desk::End;
@@ -73,7 +74,7 @@ pub fn serve<
     W: Write,
 >(
     rt: &R,
-    serving: &Serving<'a>,
+    serving: &ServeOptions<'a>,
     plan: Plan,
     surroundings: Surroundings<I, O, L>,
     writer: &mut W,
@@ -102,7 +103,7 @@ struct Ready<'a, 'r, R> {
 // Opens the archive and the ledger, brings the archive up to that, and gives each counter its station.
 fn ready_office<'a, 'r, R: Runtime, W: Write>(
     rt: &'r R,
-    serving: &Serving<'a>,
+    serving: &ServeOptions<'a>,
     plan: Plan,
     output: &mut Output<'_, W>,
 ) -> Result<Ready<'a, 'r, R>, OfficeFault<'a>> {
@@ -123,7 +124,7 @@ fn ready_office<'a, 'r, R: Runtime, W: Write>(
 // Gives each counter its station, if the system grants the threads, and keeps that in the archive too.
 fn seat<'a, R: Runtime>(
     rt: &R,
-    serving: &Serving<'a>,
+    serving: &ServeOptions<'a>,
     next: u64,
     plan: Plan,
     archivist: &mut Archivist<'a, '_, R>,
@@ -203,7 +204,7 @@ fn seated<I: Read + Drop, O: Write + Drop>(
 
 // Tells how the office ended, and adds to its archive what that lacks. The clerk comes back of one that ended well.
 fn end<'a, R: Runtime, W: Write>(
-    closed: Closed<FileDevice>,
+    closed: ClosedOffice<FileDevice>,
     mut archivist: Archivist<'a, '_, R>,
     output: &mut Output<'_, W>,
 ) -> Result<Clerk<FileDevice>, OfficeFault<'a>> {
@@ -212,7 +213,7 @@ fn end<'a, R: Runtime, W: Write>(
         return Err(fault);
     }
     let clerk = archivist.add_of(clerk)?;
-    if let Kept::UpTo(next) = archivist.kept() {
+    if let ArchiveState::UpTo(next) = archivist.kept() {
         output.line(format_args!("archived {next}"))?;
         output.flush()?;
     }
@@ -222,7 +223,7 @@ fn end<'a, R: Runtime, W: Write>(
 // The counters, each by its pipes, and the terminal behind them, before they have their stations.
 fn open_counters<'a, R: Files<File = File> + AllocGlobal, I: Read + Drop, O: Write + Drop>(
     rt: &R,
-    serving: &Serving<'a>,
+    serving: &ServeOptions<'a>,
     input: I,
     output: O,
 ) -> Result<Vec<AnyCounter<I, O>>, OfficeFault<'a>> {
@@ -275,8 +276,8 @@ fn unseated<I: Read, O: Write>(
 // The device, formatted first if that is asked for.
 fn open_device<'a, R: Files<File = File> + AllocGlobal, W: Write>(
     rt: &R,
-    serving: &Serving<'a>,
-    formatting: Option<Formatting>,
+    serving: &ServeOptions<'a>,
+    formatting: Option<FormatOptions>,
     output: &mut Output<'_, W>,
 ) -> Result<FileDevice, OfficeFault<'a>> {
     let path = serving.path;
@@ -285,7 +286,7 @@ fn open_device<'a, R: Files<File = File> + AllocGlobal, W: Write>(
         None => open_ledger(rt, path, serving.sectors.unwrap_or(0)),
     };
     let device = opened.map_err(|refusal| OfficeFault::of_file(path, refusal))?;
-    if let Some(Formatting { slots, .. }) = formatting {
+    if let Some(FormatOptions { slots, .. }) = formatting {
         output.line(format_args!("formatted {slots}"))?;
         // whatever keeps the office from being opened, the ledger is made
         output.flush()?;
@@ -330,7 +331,7 @@ fn first_line<'a>(stations: u64) -> Result<Line, OfficeFault<'a>> {
 // Tells how the office ended: its turns, the line, and what was asked and not answered. The clerk comes back of one
 // that ended well.
 fn tell_closed<'a, D: Device + Drop, W: Write>(
-    closed: Closed<D>,
+    closed: ClosedOffice<D>,
     output: &mut Output<'_, W>,
 ) -> Result<Clerk<D>, OfficeFault<'a>>
     ensures refused { OnOk result (NoneWasRefused closed.stations.items) }

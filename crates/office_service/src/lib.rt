@@ -1,7 +1,7 @@
 //! The engine of an office that is kept open: on a file or a disk, for counters by named pipes and for the terminal.
 //!
 //! [`serve`] opens the pipes, the device and the archive, keeps the office open, and tells how it ended.
-//! [`close_office`] asks it from outside to close, and [`ask_standing`] how it stands.
+//! [`close_office`] asks it from outside to close, and [`ask_status`] how it stands.
 #![tactic(auto)]
 
 mod archivist;
@@ -17,7 +17,7 @@ mod seating;
 mod serving;
 mod source;
 mod speaking;
-mod standing;
+mod status;
 
 pub use closing::close_office;
 pub use counter_fault::{CounterFault, CounterFile, CounterRefusal};
@@ -28,6 +28,6 @@ pub use locks::{FileLocks, Locks};
 pub use office_sessions::REQUESTS;
 pub use runtime::Runtime;
 pub use seating::TERMINAL;
-pub use serving::{CounterFolder, Plan, Serving};
+pub use serving::{CounterFolder, Plan, ServeOptions};
 pub use source::{Source, Target};
-pub use standing::{Told, ask_standing};
+pub use status::{StatusLine, ask_status};

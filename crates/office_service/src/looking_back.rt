@@ -2,7 +2,7 @@
 use device_files::{Locking, ReadOnlyFile};
 use journal_recovery::{Recovered, recover};
 use ledger_folder::{Volume, end_of, numbers_in};
-use office_sessions::{Seen, last_posting};
+use office_sessions::{LookAnswer, last_posting};
 use std::fs::{File, Files};
 use turn_clerk::Posting;
 
@@ -14,19 +14,19 @@ pub(crate) fn last_in_archive<R: Files<File = File> + AllocGlobal + Clone + Drop
     folder: &str,
     station: u8,
     first: u64,
-) -> Option<Seen> {
+) -> Option<LookAnswer> {
     let numbers = numbers_in(rt, folder).ok()?;
     let since = first.max(*numbers.first()?);
     for base in numbers.iter().rev() {
         let seen = last_in_ledger(rt, folder, *base, station, first)?;
         if seen.is_some() {
-            return Some(Seen {
+            return Some(LookAnswer {
                 posting: seen,
                 since,
             });
         }
     }
-    Some(Seen {
+    Some(LookAnswer {
         posting: None,
         since,
     })

@@ -1,8 +1,8 @@
 //! Which station each counter of an office has.
 use crate::faults::OfficeFault;
 use crate::locks::SeatedFolder;
-use crate::serving::Serving;
-use crate::standing::own_number;
+use crate::serving::ServeOptions;
+use crate::status::own_number;
 use ledger_counters::{
     CountersFault, Left, Roster, RosterFault, RosterPath, is_disk, read_roster, write_roster,
 };
@@ -31,7 +31,7 @@ impl<'a> Seating<'a> {
     /// is written down durably.
     pub(crate) fn begin<R: Files<File = File> + AllocGlobal + Clock>(
         rt: &R,
-        serving: &Serving<'a>,
+        serving: &ServeOptions<'a>,
         next: u64,
     ) -> Result<Seating<'a>, OfficeFault<'a>> {
         let place = place_of(rt, serving)?;
@@ -108,7 +108,7 @@ impl<'a> Seating<'a> {
 // Where the counters are kept: beside the ledger, unless it is said where, which has to be said of a disk.
 fn place_of<'a, R: Files<File = File>>(
     rt: &R,
-    serving: &Serving<'a>,
+    serving: &ServeOptions<'a>,
 ) -> Result<RosterPath<'a>, OfficeFault<'a>> {
     if let Some(path) = serving.counters_file {
         return Ok(RosterPath::At(path));
@@ -123,7 +123,7 @@ fn place_of<'a, R: Files<File = File>>(
 // The roster that is kept there; a new one of an empty ledger that has none, and where that is asked for.
 fn roster_of<'a, R: Files<File = File> + AllocGlobal + Clock>(
     rt: &R,
-    serving: &Serving<'a>,
+    serving: &ServeOptions<'a>,
     place: RosterPath<'a>,
     next: u64,
 ) -> Result<Roster, OfficeFault<'a>> {
@@ -144,7 +144,7 @@ fn roster_of<'a, R: Files<File = File> + AllocGlobal + Clock>(
 // The stations of those counters.
 fn seats_of(
     alloc: Global,
-    serving: &Serving<'_>,
+    serving: &ServeOptions<'_>,
     roster: &mut Roster,
 ) -> Result<Vec<u8>, RosterFault> {
     let mut seats = Vec::new(alloc);
@@ -160,7 +160,7 @@ fn seats_of(
 // The folders of the counters that have these stations.
 fn folders_of(
     alloc: Global,
-    serving: &Serving<'_>,
+    serving: &ServeOptions<'_>,
     seats: &[u8],
 ) -> Result<Vec<SeatedFolder>, AllocError> {
     let mut folders = Vec::with_capacity(alloc, serving.counters.len())?;

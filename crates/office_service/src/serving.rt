@@ -1,5 +1,5 @@
 //! What is asked of an office.
-use ledger_file::Formatting;
+use ledger_file::FormatOptions;
 use std::num::NonZeroU64;
 
 /// A counter, and where its client speaks.
@@ -13,7 +13,7 @@ pub struct CounterFolder<'a> {
 
 /// An office that is asked for.
 #[derive(Debug, Drop)]
-pub struct Serving<'a> {
+pub struct ServeOptions<'a> {
     /// The path of the file or the disk that has the ledger.
     pub path: &'a str,
     /// How many sectors the device has at least, if that is said: 1 to 4,000,039.
@@ -46,5 +46,5 @@ pub struct Plan {
     /// How many stations the office has.
     pub stations: u64,
     /// How the ledger is made first, if that is asked for.
-    pub formatting: Option<Formatting>,
+    pub formatting: Option<FormatOptions>,
 }

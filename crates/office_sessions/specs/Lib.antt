@@ -3,4 +3,4 @@ pub mod Kept
 pub mod Looked
 pub mod Rising
 pub mod Session
-pub mod Standing
+pub mod OfficeStatus

@@ -8,18 +8,18 @@ use Rattle.turn_clerk.specs.declared.searching.SearchStep.{SearchStep}
 use Rattle.turn_clerk.specs.declared.sought.Posting.{Posting}
 use Rattle.turn_clerk.specs.declared.refusals.FindRefusal.{FindRefusal}
 use Rattle.office_sessions.specs.declared.look.Look.{Look}
-use Rattle.office_sessions.specs.declared.look.Seen.{Seen}
+use Rattle.office_sessions.specs.declared.look.LookAnswer.{LookAnswer}
 use Rattle.office_sessions.specs.declared.session.Earlier.{Earlier}
 use Rattle.office_sessions.specs.declared.session.Earlier.TheVariants as earlier
 
 -- a look that has come to the last record: what it saw without a gap
-abbrev pub seen_at : Look → Reached → Option (Result Seen FindRefusal)
+abbrev pub seen_at : Look → Reached → Option (Result LookAnswer FindRefusal)
 seen_at look (reached.All began since) = Some (Ok (record { posting = look.posting; since = look.since }))
 seen_at look (reached.Further began number end) = None
 seen_at look reached.LookingBack = None
 
 -- what the whole look tells with this step, by what it saw so far, if the step ends it
-abbrev pub seen_with : Look → Result SearchStep FindRefusal → Option (Result Seen FindRefusal)
+abbrev pub seen_with : Look → Result SearchStep FindRefusal → Option (Result LookAnswer FindRefusal)
 seen_with look (Ok step) = seen_at look step.reached
 seen_with look (Err refusal) = Some (Err refusal)
 
@@ -52,7 +52,7 @@ abbrev pub IsAbove : Option Posting → Type 0
 IsAbove posting = IfSome posting (λ last. 0 < reference_of last.entry)
 
 -- what a look tells that goes on in an archive, if that could be read
-abbrev pub seen_farther : ℕ → Option Seen → Seen
+abbrev pub seen_farther : ℕ → Option LookAnswer → LookAnswer
 seen_farther since None = record { posting = None; since = since }
 seen_farther since (Some seen) = record { posting = seen.posting; since = min seen.since since }
 
@@ -67,5 +67,5 @@ earlier_of None zero = earlier.Known
 earlier_of None (suc before) = earlier.OutOfSight (suc before)
 
 -- what is known by a look of the references that were posted before
-abbrev pub earlier_by : Seen → Earlier
+abbrev pub earlier_by : LookAnswer → Earlier
 earlier_by seen = earlier_of seen.posting seen.since

@@ -4,7 +4,7 @@ ghost use Rattle.station_desk.specs.Rings.{AllStandAt};
 
 use crate::scheduler::Scheduler;
 use crate::session::Session;
-use crate::standing::Clients;
+use crate::status::Clients;
 use std::snapshot::Snapshot;
 use std::sync::Wait;
 use std::thread::Promise;

@@ -5,27 +5,27 @@ use std::thread::{JoinHandle, Parker, Threads, spawn};
 
 /// A thread that waits until it is told to end.
 #[derive(Drop)]
-struct Waiting {
+struct IdleThread {
     parker: Arc<Parker>,
     thread: JoinHandle<()>,
 }
 
-impl Waiting {
+impl IdleThread {
     // None if the system refuses the thread.
     fn start<R: Threads + Wait + Send + Clone + Drop + 'static>(
         rt: &R,
         alloc: Global,
-    ) -> Result<Option<Waiting>, AllocError> {
+    ) -> Result<Option<IdleThread>, AllocError> {
         let parker = Arc::new(alloc, Parker::new())?;
         let (own, theirs) = (rt.clone()?, Arc::try_clone(&parker)?);
         match spawn(rt, move || theirs.park(&own)) {
-            Ok(thread) => Ok(Some(Waiting { parker, thread })),
+            Ok(thread) => Ok(Some(IdleThread { parker, thread })),
             Err(_) => Ok(None),
         }
     }
 
     fn end<R: Threads + Wait>(self, rt: &R) {
-        let Waiting { parker, thread } = self;
+        let IdleThread { parker, thread } = self;
         parker.unpark();
         thread.join(rt)
     }
@@ -62,10 +62,10 @@ fn start<R: Threads + Wait + Send + Clone + Drop + 'static>(
     rt: &R,
     alloc: Global,
     wanted: usize,
-    waiting: &mut Vec<Waiting>,
+    waiting: &mut Vec<IdleThread>,
 ) -> Result<(), AllocError> {
     for _ in 0..wanted {
-        let Some(thread) = Waiting::start(rt, alloc)? else {
+        let Some(thread) = IdleThread::start(rt, alloc)? else {
             break;
         };
         waiting.push(thread)?;

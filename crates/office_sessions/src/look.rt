@@ -34,7 +34,7 @@ pub struct Look {
 
 /// What a look tells.
 #[derive(Clone, Copy, Debug, PartialEq, Eq)]
-pub struct Seen {
+pub struct LookAnswer {
     /// The counter's posting with the greatest reference, of those that were looked at; of several the last.
     pub posting: Option<Posting>,
     /// The number of the record from which on all were looked at.
@@ -43,7 +43,7 @@ pub struct Seen {
 
 /// The reference and the number of its batch; or that there is none; or from which batch on there is none, if earlier
 /// ones aren't in sight.
-impl fmt::Display for Seen {
+impl fmt::Display for LookAnswer {
     fn fmt<W: fmt::Write>(&self, f: &mut fmt::Formatter<W>) -> fmt::Result {
         match (self.posting, self.since) {
             (Some(last), _) => write!(f, "{} {}", last.entry.reference(), last.number),
@@ -81,7 +81,7 @@ impl Look {
     pub fn go_on(
         &mut self,
         step: Result<SearchStep, FindRefusal>,
-    ) -> Option<Result<Seen, FindRefusal>>
+    ) -> Option<Result<LookAnswer, FindRefusal>>
         ensures seen { result ≡ seen_with self.new step }
         ensures meets { IfOk step (λ told. GoesOnBy self.old told.posting told.reached self.new) }
         ensures whole { HasSeen self.old.since self.old.from self.old.posting
@@ -103,7 +103,7 @@ impl Look {
             Reached::LookingBack => None,
             Reached::All { began, .. } => {
                 self.take_in(began, told.posting);
-                Some(Ok(Seen {
+                Some(Ok(LookAnswer {
                     posting: self.posting,
                     since: self.since,
                 }))
@@ -134,7 +134,7 @@ impl Look {
         back: &mut LookBack,
         ledger: &mut Ledger,
         station: u8,
-    ) -> Option<Result<Seen, FindRefusal>>
+    ) -> Option<Result<LookAnswer, FindRefusal>>
         requires works { journal.old.faulted ≡ false }
         requires fits { FitsSlots journal.old.slots journal.old.live back.old }
         ensures kept { journal.new ≡ after_reads journal.old journal.new.device }
@@ -159,7 +159,7 @@ pub fn last_posting<D: Device>(
     ledger: &mut Ledger,
     station: u8,
     first: u64,
-) -> Option<Seen>
+) -> Option<LookAnswer>
     ensures kept { journal.new ≡ after_reads journal.old journal.new.device }
     ensures looks { LooksOnly (D.state journal.old.device) (D.state journal.new.device) }
     ensures above { IfSome result (λ seen. IfSome seen.posting (λ last. 0 < reference_of last.entry)) }
@@ -178,15 +178,15 @@ pub fn last_posting<D: Device>(
 }
 
 /// What a look tells that goes on in the archive, behind one that saw nothing from that number on.
-pub(crate) fn farther(since: u64, in_archive: Option<Seen>) -> Seen
+pub(crate) fn farther(since: u64, in_archive: Option<LookAnswer>) -> LookAnswer
     ensures { result ≡ seen_farther since in_archive }
 {
     match in_archive {
-        Some(seen) => Seen {
+        Some(seen) => LookAnswer {
             posting: seen.posting,
             since: seen.since.min(since),
         },
-        None => Seen {
+        None => LookAnswer {
             posting: None,
             since,
         },
@@ -196,7 +196,7 @@ pub(crate) fn farther(since: u64, in_archive: Option<Seen>) -> Seen
 /// What becomes of an entry whose reference isn't above those that were posted, by the look at the postings up to it.
 /// It is answered as it was then, if it stands. If nothing in sight has its reference, and there are batches out of
 /// sight, nobody knows.
-pub(crate) fn judge(entry: &Entry, seen: &Seen) -> Judgement
+pub(crate) fn judge(entry: &Entry, seen: &LookAnswer) -> Judgement
     ensures stands { (number : ℕ) → (result ≡ Judgement.Posted number)
         ↔ (seen.now.posting ≡ Some (record { number = number; entry = entry.now })) }
     ensures unknown { (since : ℕ) → (result ≡ Judgement.Unknown since)

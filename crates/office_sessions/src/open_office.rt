@@ -12,7 +12,7 @@ use crate::opening::{Begun, begin};
 use crate::recess::{Granting, Keeper};
 use crate::scheduler::Scheduler;
 use crate::session::Session;
-use crate::standing::Clients;
+use crate::status::Clients;
 use crate::wakers::Wakers;
 use line_lock::OfficeRefusal;
 use office_day::{Adjourned, Audit, Left, Life, StationDay, all_reconciled, run_spans};
@@ -34,7 +34,7 @@ const PAUSE: u64 = 5;
 
 /// A live office that is closed.
 #[derive(Drop)]
-pub struct Closed<D: Device> {
+pub struct ClosedOffice<D: Device> {
     /// The clerk of its last span, with that span's history.
     pub clerk: Clerk<D>,
     /// The audit of the last span's opening line and all its moves.
@@ -105,7 +105,7 @@ pub fn keep_open<
     clients: C,
     moves: u64,
     keeper: K,
-) -> Result<(Closed<D>, K), (D, LiveRefusal)>
+) -> Result<(ClosedOffice<D>, K), (D, LiveRefusal)>
     ensures kept { IfOk result (λ both. WasKeptFor D.state moves (rest_of clerk)
         (span_of both.0.clerk both.0.audit) both.0.stations.items both.0.conversations.items
         (K.archive keeper) (K.archive both.1)) }
@@ -162,7 +162,7 @@ fn settled<D: Device>(
     feeds: Vec<Feed>,
     conversations: Vec<Conversation>,
     scheduler: &Scheduler,
-) -> Result<Closed<D>, (D, LiveRefusal)>
+) -> Result<ClosedOffice<D>, (D, LiveRefusal)>
     requires together { AllZip stands_with feeds.items life.left.items }
     ensures clerk { IfOk result (λ closed. closed.clerk ≡ life.clerk) }
     ensures audit { IfOk result (λ closed. closed.audit ≡ life.audit) }
@@ -175,7 +175,7 @@ fn settled<D: Device>(
 {
     let Life { clerk, audit, left } = life;
     match all_reconciled(alloc, feeds, left) {
-        Ok(stations) => Ok(Closed {
+        Ok(stations) => Ok(ClosedOffice {
             clerk,
             audit,
             stations,

@@ -6,10 +6,10 @@ ghost use Rattle.office_day.specs.HandedIn.{IsFresh};
 
 use crate::counter::{Counter, Unserved, begin_session, empty_session};
 use crate::dispatcher::{SameFeeds, dispatch};
-use crate::recess::Kept;
+use crate::recess::ArchiveState;
 use crate::scheduler::Scheduler;
 use crate::session::{CAPACITY, Session};
-use crate::standing::Clients;
+use crate::status::Clients;
 use crate::wakers::Wakers;
 use station_desk::{Desk, Feed, desk};
 use std::alloc::{AllocError, Global};
@@ -33,19 +33,19 @@ pub(crate) struct Begun {
 
 // The sessions of stations, and their desks.
 #[derive(Drop)]
-struct Attended {
+struct Attendance {
     sessions: Vec<Session>,
     desks: Vec<Desk>,
     wakers: Vec<Arc<Wakers>>,
 }
 
-impl Attended {
+impl Attendance {
     // No station, and places for so many.
-    fn new(alloc: Global, stations: usize) -> Result<Attended, AllocError>
+    fn new(alloc: Global, stations: usize) -> Result<Attendance, AllocError>
         ensures sessions { IfOk result (λ all. all.sessions.items ≡ []) }
         ensures desks { IfOk result (λ all. all.desks.items ≡ []) }
     {
-        Ok(Attended {
+        Ok(Attendance {
             sessions: Vec::with_capacity(alloc, stations)?,
             desks: Vec::with_capacity(alloc, stations)?,
             wakers: Vec::with_capacity(alloc, stations)?,
@@ -74,7 +74,7 @@ pub(crate) fn begin<
     rt: &R,
     alloc: Global,
     stations: u8,
-    kept: Kept,
+    kept: ArchiveState,
     counters: Vec<Counter<I, O>>,
     clients: C,
 ) -> Result<Begun, Unserved>
@@ -84,7 +84,7 @@ pub(crate) fn begin<
     ensures as_many { IfOk result (λ begun. length begun.desks.items ≡ stations) }
 {
     let scheduler = new_scheduler(alloc, stations, kept)?;
-    let Attended {
+    let Attendance {
         sessions,
         desks,
         wakers,
@@ -106,7 +106,11 @@ pub(crate) fn begin<
     }
 }
 
-fn new_scheduler(alloc: Global, stations: u8, kept: Kept) -> Result<Arc<Scheduler>, AllocError> {
+fn new_scheduler(
+    alloc: Global,
+    stations: u8,
+    kept: ArchiveState,
+) -> Result<Arc<Scheduler>, AllocError> {
     Ok(Arc::new(alloc, Scheduler::new(alloc, stations, kept)?)?)
 }
 
@@ -121,13 +125,13 @@ fn seat_all<
     stations: u8,
     counters: Vec<Counter<I, O>>,
     scheduler: &Arc<Scheduler>,
-) -> Result<Attended, Unserved>
+) -> Result<Attendance, Unserved>
     ensures together { IfOk result (λ all. AllZip AreTogether
         (map (λ session. session.postings.feed) all.sessions.items) all.desks.items) }
     ensures fresh { IfOk result (λ all. All IsFresh all.desks.items) }
     ensures as_many { IfOk result (λ all. length all.desks.items ≡ stations) }
 {
-    let mut all = Attended::new(alloc, stations as usize)?;
+    let mut all = Attendance::new(alloc, stations as usize)?;
     let mut waiting = counters;
     for station in 0..stations {
         let (feed, desk) = desk(alloc, CAPACITY)?;

@@ -12,21 +12,21 @@ const CHUNK: usize = 4_096;
 
 /// What the line that is read begins with.
 #[derive(Clone, Copy, PartialEq, Eq)]
-enum Beginning {
+enum LineStart {
     /// Nothing but blanks yet.
     Blank,
     Comment,
     Word,
 }
 
-impl Beginning {
+impl LineStart {
     // With one byte more.
-    fn and(self, byte: u8) -> Beginning {
+    fn and(self, byte: u8) -> LineStart {
         match (self, byte) {
-            (Beginning::Blank, b' ') => Beginning::Blank,
-            (Beginning::Blank, b'#') => Beginning::Comment,
-            (Beginning::Blank, _) => Beginning::Word,
-            (Beginning::Comment | Beginning::Word, _) => self,
+            (LineStart::Blank, b' ') => LineStart::Blank,
+            (LineStart::Blank, b'#') => LineStart::Comment,
+            (LineStart::Blank, _) => LineStart::Word,
+            (LineStart::Comment | LineStart::Word, _) => self,
         }
     }
 }
@@ -36,7 +36,7 @@ impl Beginning {
 pub(crate) struct Reader<I: Read> {
     input: I,
     cutter: LineCutter,
-    beginning: Beginning,
+    beginning: LineStart,
     // Whether requests are dropped until the client says hello.
     awaits_hello: bool,
     messages: Producer<Message>,
@@ -53,7 +53,7 @@ impl<I: Read + Drop> Reader<I> {
         Reader {
             input,
             cutter,
-            beginning: Beginning::Blank,
+            beginning: LineStart::Blank,
             awaits_hello,
             messages,
         }
@@ -89,7 +89,7 @@ impl<I: Read + Drop> Reader<I> {
             self.take_cut(rt, wakers, scheduler, cut);
             self.beginning = match cut {
                 Cut::Nothing => self.beginning.and(*byte),
-                Cut::Line | Cut::TooLong => Beginning::Blank,
+                Cut::Line | Cut::TooLong => LineStart::Blank,
             };
         }
     }
@@ -107,7 +107,7 @@ impl<I: Read + Drop> Reader<I> {
             return None;
         }
         if cut == Cut::TooLong {
-            let is_comment = self.beginning == Beginning::Comment;
+            let is_comment = self.beginning == LineStart::Comment;
             return (!is_comment).then_some(Message::Wrong(WrongLine::TooLong));
         }
         match read_request(self.cutter.line()) {

@@ -2,9 +2,9 @@
 ghost use Rattle.std.specs.Prelude.{◌≡◌, ◌⊎◌, ◌↔◌, ℕ, true, false};
 ghost use Rattle.sector_device.specs.Crash.{WasLookedAt};
 ghost use Rattle.office_day.specs.Archive.{Archive, CatchesUp, IsKept, WasKept, next_of};
-ghost use Rattle.office_sessions.specs.Standing.{archived_of};
+ghost use Rattle.office_sessions.specs.OfficeStatus.{archived_of};
 
-use crate::look::Seen;
+use crate::look::LookAnswer;
 use crate::scheduler::Scheduler;
 use gate_journal::{Borrower, Journal};
 use office_day::Recess;
@@ -29,7 +29,7 @@ pub enum CounterCopyRefusal {
 
 /// How far an office's archive is.
 #[derive(Clone, Copy, Debug, PartialEq, Eq)]
-pub enum Kept {
+pub enum ArchiveState {
     /// There is none.
     NoArchive,
     /// All batches below this number are in it.
@@ -38,14 +38,14 @@ pub enum Kept {
     Failed,
 }
 
-impl Kept {
+impl ArchiveState {
     /// Below which number all batches are in the archive, if that is known.
     pub(crate) fn archived(self) -> Option<u64>
         ensures { result ≡ archived_of self }
     {
         match self {
-            Kept::UpTo(next) => Some(next),
-            Kept::NoArchive | Kept::Failed => None,
+            ArchiveState::UpTo(next) => Some(next),
+            ArchiveState::NoArchive | ArchiveState::Failed => None,
         }
     }
 }
@@ -53,27 +53,27 @@ impl Kept {
 /// Who keeps the archive of an office, looks into it, and makes copies of its ledger.
 pub trait Keeper {
     ghost use Rattle.office_day.specs.Archive.{no_archive};
-    ghost use Rattle.office_sessions.specs.declared.recess.Kept.{Kept};
+    ghost use Rattle.office_sessions.specs.declared.recess.ArchiveState.{ArchiveState};
 
     /// The archive, which an office that doesn't say so has none of.
     ghost archive: { Self → Archive } = { λ _. no_archive };
 
     /// How far it was when it was kept last.
-    ghost so_far: { Self → Kept };
+    ghost so_far: { Self → ArchiveState };
 
     /// Adds to the archive what it lacks of the ledger, whose device is only looked at and handed back.
-    fn keep<D: Device>(&mut self, journal: Journal<D>) -> (D, Kept)
+    fn keep<D: Device>(&mut self, journal: Journal<D>) -> (D, ArchiveState)
         ensures looked { WasLookedAt (D.state journal.device) (D.state result.0) }
         ensures kept { WasKept (D.state journal.device) (archive self.old) (archive self.new) }
         ensures so_far { so_far self.new ≡ result.1 }
-        ensures none { result.1 ≡ Kept.NoArchive → (archive self.old).honest ≡ false }
-        ensures up_to { (next : ℕ) → result.1 ≡ Kept.UpTo next → (archive self.old).honest ≡ true
+        ensures none { result.1 ≡ ArchiveState.NoArchive → (archive self.old).honest ≡ false }
+        ensures up_to { (next : ℕ) → result.1 ≡ ArchiveState.UpTo next → (archive self.old).honest ≡ true
             → next ≡ next_of (archive self.new) }
         ensures failed { ((archive self.new).failed ≡ true)
-            ↔ (((archive self.old).failed ≡ true) ⊎ (result.1 ≡ Kept.Failed)) };
+            ↔ (((archive self.old).failed ≡ true) ⊎ (result.1 ≡ ArchiveState.Failed)) };
 
     /// How far the archive is, as it was kept last.
-    fn kept(&self) -> Kept
+    fn kept(&self) -> ArchiveState
         ensures { result ≡ so_far self.now };
 
     /// Makes a copy of the ledger on the device. All batches below the number are in it. The device is only looked at
@@ -88,7 +88,7 @@ pub trait Keeper {
 
     /// The posting of a station with the greatest reference in the archive, and the number of the first batch that is
     /// in it. None without an archive, or if it can't be read.
-    fn last(&mut self, station: u8) -> Option<Seen>
+    fn last(&mut self, station: u8) -> Option<LookAnswer>
         ensures archive { archive self.new ≡ archive self.old }
         ensures so_far { so_far self.new ≡ so_far self.old };
 }
@@ -105,9 +105,9 @@ pub(crate) enum Wish {
 /// What came of it.
 #[derive(Clone, Copy)]
 pub(crate) enum Came {
-    Archive(Kept),
+    Archive(ArchiveState),
     Copy(Result<u64, CounterCopyRefusal>),
-    Last(Option<Seen>),
+    Last(Option<LookAnswer>),
 }
 
 /// A live office between two spans: its archive is kept, and copies are made that were asked for. If the archive can't
@@ -121,21 +121,21 @@ pub(crate) struct Granting<'a, R, K> {
 
 impl<R: Wait, K: Keeper> Granting<'_, R, K> {
     // Keeps the archive; if it can't be kept, no station takes a turn any more.
-    fn keep_archive<D: Device>(&mut self, journal: Journal<D>) -> (D, Kept)
+    fn keep_archive<D: Device>(&mut self, journal: Journal<D>) -> (D, ArchiveState)
         ensures looked { WasLookedAt (D.state journal.device) (D.state result.0) }
         ensures kept { WasKept (D.state journal.device)
             (K.archive self.old.keeper) (K.archive self.new.keeper) }
     {
         let (device, kept) = self.keeper.keep(journal);
         self.scheduler.note_kept(self.rt, kept);
-        if kept == Kept::Failed {
+        if kept == ArchiveState::Failed {
             self.scheduler.cut_off();
         }
         (device, kept)
     }
 
     // Does what a station wants, if it wants anything, and tells it what came of that.
-    fn grant<D: Device>(&mut self, device: D, station: u8, kept: Kept) -> D
+    fn grant<D: Device>(&mut self, device: D, station: u8, kept: ArchiveState) -> D
         ensures looked { WasLookedAt (D.state device) (D.state result) }
         ensures archive { K.archive self.new.keeper ≡ K.archive self.old.keeper }
     {

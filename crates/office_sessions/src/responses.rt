@@ -4,10 +4,10 @@ ghost use Rattle.text_grammar.specs.declared.requests.Request.TheVariants.{Balan
 ghost use Rattle.office_sessions.specs.declared.messages.Message.TheVariants.{Asked};
 ghost use Rattle.office_sessions.specs.Conversation.{is_answer, told_of_balance, IsOther, IsResponseTo};
 
-use crate::look::Seen;
+use crate::look::LookAnswer;
 use crate::messages::WrongLine;
 use crate::recess::CounterCopyRefusal;
-use crate::standing::Standing;
+use crate::status::OfficeStatus;
 use line_lock::BalanceRefusal;
 use station_desk::{Answer, Outcome};
 use std::fmt;
@@ -76,7 +76,7 @@ pub enum Response {
         judgement: Judgement,
     },
     /// The counter's posting with the greatest reference.
-    Last(Seen),
+    Last(LookAnswer),
     /// References of the counter begin with this one.
     First {
         reference: u64,
@@ -102,7 +102,7 @@ pub enum Response {
     /// Why there is no copy.
     NoCopy(CounterCopyRefusal),
     /// How the office stands.
-    Standing(Standing),
+    Status(OfficeStatus),
     /// By what the counter is known, which its writer tells.
     Name,
     /// The office closed before the question was answered.
@@ -194,7 +194,7 @@ impl fmt::Display for Response {
             Response::NoArchive => f.write_str("refused NoArchive"),
             Response::Copied { next } => write!(f, "copied {next}"),
             Response::NoCopy(refusal) => write!(f, "refused {refusal:?}"),
-            Response::Standing(standing) => write!(f, "{standing}"),
+            Response::Status(status) => write!(f, "{status}"),
             Response::Name => f.write_str("name"),
             Response::Closed => f.write_str("refused Closed"),
             Response::Wrong(wrong) => write!(f, "wrong {wrong}"),

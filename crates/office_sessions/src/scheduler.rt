@@ -3,7 +3,7 @@
 //! Nobody asks for a turn while no request waits. While the line may still be healing each station may ask after each
 //! turn; from then on one station alone is privileged, and which one follows from the last move, so that it alone is
 //! woken.
-use crate::recess::{Came, Kept, Wish};
+use crate::recess::{ArchiveState, Came, Wish};
 use four_state::Rule;
 use station_desk::{Errand, Gate, Question, Report};
 use std::alloc::{AllocError, Global};
@@ -92,7 +92,7 @@ pub(crate) struct Scheduler {
     // The stations gave up waiting for each other.
     abandoned: AtomicBool,
     // How far the archive is, as it was kept last.
-    kept: Mutex<Kept>,
+    kept: Mutex<ArchiveState>,
     // The archive can't be kept: nobody takes a turn any more.
     cut_off: AtomicBool,
     // The office's life is over.
@@ -102,7 +102,11 @@ pub(crate) struct Scheduler {
 
 impl Scheduler {
     /// For a line of so many stations, and an archive that is so far.
-    pub(crate) fn new(alloc: Global, stations: u8, kept: Kept) -> Result<Scheduler, AllocError> {
+    pub(crate) fn new(
+        alloc: Global,
+        stations: u8,
+        kept: ArchiveState,
+    ) -> Result<Scheduler, AllocError> {
         let mut wakers = Vec::with_capacity(alloc, stations as usize)?;
         for _ in 0..stations {
             wakers.push(Waker::new())?;
@@ -196,12 +200,12 @@ impl Scheduler {
     }
 
     /// The archive is so far now.
-    pub(crate) fn note_kept<R: Wait>(&self, rt: &R, kept: Kept) {
+    pub(crate) fn note_kept<R: Wait>(&self, rt: &R, kept: ArchiveState) {
         *self.kept.lock(rt) = kept;
     }
 
     /// How far the archive is, as it was kept last.
-    pub(crate) fn kept<R: Wait>(&self, rt: &R) -> Kept {
+    pub(crate) fn kept<R: Wait>(&self, rt: &R) -> ArchiveState {
         *self.kept.lock(rt)
     }
 

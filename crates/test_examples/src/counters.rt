@@ -4,7 +4,8 @@ use crate::scenes::line;
 use gate_journal::Journal;
 use office_day::{End, Line};
 use office_sessions::{
-    Clients, Closed, Counter, CounterCopyRefusal, Identity, Keeper, Kept, Kind, Seen, keep_open,
+    ArchiveState, Clients, ClosedOffice, Counter, CounterCopyRefusal, Identity, Keeper, Kind,
+    LookAnswer, keep_open,
 };
 use sector_device::{Device, MemoryDevice};
 use std::alloc::Global;
@@ -23,12 +24,12 @@ struct Sample {
 }
 
 impl Keeper for Sample {
-    ghost use Rattle.office_sessions.specs.declared.recess.Kept.TheVariants.{NoArchive};
+    ghost use Rattle.office_sessions.specs.declared.recess.ArchiveState.TheVariants.{NoArchive};
 
     ghost so_far = { λ _. NoArchive };
 
-    fn keep<D: Device>(&mut self, journal: Journal<D>) -> (D, Kept) {
-        (journal.into_device(), Kept::NoArchive)
+    fn keep<D: Device>(&mut self, journal: Journal<D>) -> (D, ArchiveState) {
+        (journal.into_device(), ArchiveState::NoArchive)
     }
 
     fn copy<D: Device>(&mut self, device: D) -> (D, Result<u64, CounterCopyRefusal>) {
@@ -39,11 +40,11 @@ impl Keeper for Sample {
         (device, Err(CounterCopyRefusal::Occupied))
     }
 
-    fn kept(&self) -> Kept {
-        Kept::NoArchive
+    fn kept(&self) -> ArchiveState {
+        ArchiveState::NoArchive
     }
 
-    fn last(&mut self, _station: u8) -> Option<Seen> {
+    fn last(&mut self, _station: u8) -> Option<LookAnswer> {
         None
     }
 }
@@ -193,7 +194,7 @@ fn are_told(answers: &mut PipeReader, wanted: &[u8]) -> io::Result<bool> {
 }
 
 // The office was closed once its stations had taken all turns, or were sent home.
-fn is_over(closed: &Closed<MemoryDevice>, stations: usize, moves: u64) -> bool {
+fn is_over(closed: &ClosedOffice<MemoryDevice>, stations: usize, moves: u64) -> bool {
     for station in &closed.stations {
         let is_over = station.end == End::Closed || moves == 2 && station.end == End::Reached;
         if !is_over || !station.unanswered.is_empty() {

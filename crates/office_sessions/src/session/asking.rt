@@ -5,12 +5,12 @@ ghost use Rattle.office_sessions.specs.declared.messages.Message.TheVariants.{As
 ghost use Rattle.office_sessions.specs.Conversation.{IsOther, IsAskedBy, IsResponseTo};
 ghost use Rattle.office_sessions.specs.Session.{HasPlace, OnlyTells, TellsNothing};
 
-use crate::recess::{Came, Kept, Wish};
+use crate::recess::{ArchiveState, Came, Wish};
 use crate::responses::Response;
 use crate::scheduler::Scheduler;
 use crate::search::{Search, Step};
 use crate::session::Session;
-use crate::standing::{Clients, Standing};
+use crate::status::{Clients, OfficeStatus};
 use station_desk::{Question, Report};
 use std::sync::Wait;
 
@@ -112,9 +112,12 @@ impl Session {
         ensures stays { OnlyTells self.old self.new }
     {
         match self.what_came(rt, scheduler, Wish::Archive) {
-            Some(Came::Archive(Kept::UpTo(next))) => self.respond(Response::Archived { next }),
-            Some(Came::Archive(Kept::NoArchive)) => self.respond(Response::NoArchive),
-            Some(Came::Archive(Kept::Failed) | Came::Copy(_) | Came::Last(_)) | None => false,
+            Some(Came::Archive(ArchiveState::UpTo(next))) => self.respond(Response::Archived {
+                next,
+            }),
+            Some(Came::Archive(ArchiveState::NoArchive)) => self.respond(Response::NoArchive),
+            Some(Came::Archive(ArchiveState::Failed) | Came::Copy(_) | Came::Last(_)) | None =>
+                false,
         }
     }
 
@@ -133,7 +136,7 @@ impl Session {
     }
 
     // Tells how the office stands; false if that isn't known yet.
-    pub(super) fn tell_standing<R: Wait, C: Clients>(
+    pub(super) fn tell_status<R: Wait, C: Clients>(
         &mut self,
         rt: &R,
         scheduler: &Scheduler,
@@ -149,7 +152,7 @@ impl Session {
         };
         let (kept, turns) = (scheduler.kept(rt), scheduler.turns());
         let others = clients.others(self.station);
-        self.respond(Response::Standing(Standing::new(room, kept, turns, others)))
+        self.respond(Response::Status(OfficeStatus::new(room, kept, turns, others)))
     }
 
     // Tells what comes of a step of a search, if anything.

@@ -8,7 +8,7 @@ ghost use Rattle.office_sessions.specs.Looked.{earlier_by};
 ghost use Rattle.office_sessions.specs.Session.{HasPlace, OnlyTells, TellsNothing};
 ghost use Rattle.turn_ledger.specs.Entry.{reference_of};
 
-use crate::look::{Look, Seen, farther, judge};
+use crate::look::{Look, LookAnswer, farther, judge};
 use crate::postings::Submission;
 use crate::recess::{Came, Wish};
 use crate::responses::{Judgement, Response};
@@ -139,7 +139,7 @@ impl Session {
         rt: &R,
         scheduler: &Scheduler,
         limit: u64,
-    ) -> Option<Result<Seen, FindRefusal>>
+    ) -> Option<Result<LookAnswer, FindRefusal>>
         requires behind { self.old.postings.unanswered ≡ 0 }
         requires right { MayLook self.old.next self.old.station limit }
         ensures stays { TellsNothing self.old self.new }
@@ -186,7 +186,7 @@ impl Session {
         &mut self,
         rt: &R,
         scheduler: &Scheduler,
-    ) -> Option<Result<Seen, FindRefusal>>
+    ) -> Option<Result<LookAnswer, FindRefusal>>
         requires behind { self.old.postings.unanswered ≡ 0 }
         requires right { MayLook self.old.next self.old.station u64.MAX }
         ensures stays { TellsNothing self.old self.new }
@@ -209,7 +209,7 @@ impl Session {
     }
 
     // Learns which reference was posted last.
-    fn learn(&mut self, seen: Seen)
+    fn learn(&mut self, seen: LookAnswer)
         ensures learned { self.old.earlier ≡ Earlier.Unlooked → self.new.earlier ≡ earlier_by seen }
         ensures else_same { self.old.earlier ≢ Earlier.Unlooked → self.new.earlier ≡ self.old.earlier }
         ensures greatest { IfSome seen.posting (λ last.

@@ -10,7 +10,7 @@ use crate::messages::Message;
 use crate::responses::Response;
 use crate::scheduler::Scheduler;
 use crate::session::{CAPACITY, Session};
-use crate::standing::Clients;
+use crate::status::Clients;
 use std::sync::Wait;
 use text_grammar::Request;
 
@@ -135,7 +135,7 @@ impl Session {
             }
             Message::Asked(Request::Copy) => self.tell_copied(rt, scheduler),
             Message::Asked(Request::Archive) => self.tell_archived(rt, scheduler),
-            Message::Asked(Request::Status) => self.tell_standing(rt, scheduler, clients),
+            Message::Asked(Request::Status) => self.tell_status(rt, scheduler, clients),
             Message::Asked(Request::Name) => self.respond(Response::Name),
             Message::Asked(Request::Help) => self.respond(Response::Help),
             Message::Asked(Request::Close) => self.close(scheduler),

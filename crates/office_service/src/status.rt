@@ -17,12 +17,12 @@ const MOST: u64 = 100_000_000;
 
 /// How an office stands, as its line tells it.
 #[derive(Drop)]
-pub struct Told {
+pub struct StatusLine {
     line: String,
 }
 
 /// A fact a line, its name and its value, without the end of the last line.
-impl fmt::Display for Told {
+impl fmt::Display for StatusLine {
     fn fmt<W: fmt::Write>(&self, f: &mut fmt::Formatter<W>) -> fmt::Result {
         let facts = self.line.strip_prefix(NAME).unwrap_or("");
         for (place, word) in facts.split_whitespace().enumerate() {
@@ -41,10 +41,10 @@ impl fmt::Display for Told {
 ///
 /// # Errors
 /// [`CounterFault`].
-pub fn ask_standing<'a, R: Files<File = File> + AllocGlobal + Clock>(
+pub fn ask_status<'a, R: Files<File = File> + AllocGlobal + Clock>(
     rt: &R,
     folder: &'a str,
-) -> Result<Told, CounterFault<'a>> {
+) -> Result<StatusLine, CounterFault<'a>> {
     let mut speaker = Speaker::at(rt, folder)?;
     let mut listener = Listener::at(rt, folder)?;
     let number = own_number(rt);
@@ -133,12 +133,12 @@ impl<'a> Listener<'a> {
     }
 
     // How the office stands, if the line that was heard tells that.
-    fn told(&self, alloc: Global) -> Result<Option<Told>, AllocError> {
+    fn told(&self, alloc: Global) -> Result<Option<StatusLine>, AllocError> {
         let line = std::str::from_utf8(self.cutter.line()).unwrap_or("");
         if !line.starts_with(NAME) {
             return Ok(None);
         }
         let line = format!(in alloc; "{line}")?;
-        Ok(Some(Told { line }))
+        Ok(Some(StatusLine { line }))
     }
 }

@@ -1,14 +1,14 @@
 //! How a live office stands.
 ghost use Rattle.std.specs.Prelude.{◌≡◌};
-ghost use Rattle.office_sessions.specs.Standing.{archived_of};
+ghost use Rattle.office_sessions.specs.OfficeStatus.{archived_of};
 
-use crate::recess::Kept;
+use crate::recess::ArchiveState;
 use line_lock::Room;
 use std::fmt;
 
 /// How an office stands.
 #[derive(Clone, Copy, Debug, PartialEq, Eq)]
-pub struct Standing {
+pub struct OfficeStatus {
     /// The number of the next batch.
     pub next: u64,
     /// How many slots of the live bank are free.
@@ -21,16 +21,16 @@ pub struct Standing {
     pub archived: Option<u64>,
 }
 
-impl Standing {
+impl OfficeStatus {
     /// Of an office whose ledger has this room, whose archive is so far, with so many turns taken and other clients.
-    pub(crate) fn new(room: Room, kept: Kept, turns: u64, clients: u64) -> Standing
+    pub(crate) fn new(room: Room, kept: ArchiveState, turns: u64, clients: u64) -> OfficeStatus
         ensures next { result.next ≡ room.next }
         ensures free { result.free ≡ room.free }
         ensures turns { result.turns ≡ turns }
         ensures clients { result.clients ≡ clients }
         ensures archived { result.archived ≡ archived_of kept }
     {
-        Standing {
+        OfficeStatus {
             next: room.next,
             free: room.free,
             turns,
@@ -41,7 +41,7 @@ impl Standing {
 }
 
 /// Its line, without the end.
-impl fmt::Display for Standing {
+impl fmt::Display for OfficeStatus {
     fn fmt<W: fmt::Write>(&self, f: &mut fmt::Formatter<W>) -> fmt::Result {
         write!(
             f,
