@@ -27,6 +27,7 @@ pub enum Stage {
 /// What earlier lines have put together for a call.
 #[derive(Drop)]
 pub struct Supply {
+    /// What calls that need no clerk take.
     pub hand: Hand,
     /// The events of a run.
     pub events: Vec<Event>,

@@ -1,5 +1,5 @@
 //! A console for tests: a line asks for one public call of the library, and what the call answers is printed. Here are
-//! the words for what stands on a line of stations: a clerk, an office, a desk. All others are in `test_words`.
+//! the words that need a clerk, an office, a desk or an archive in memory. All others are in `test_words`.
 //!
 //! But for the words in an office no word has a type parameter, so that it is proved once, as it is compiled. A
 //! [`Console`] has a device, or what stands on it, in hand. A word that isn't one of that is told, and changes nothing.

@@ -14,7 +14,7 @@ use std::test::Fail;
 use std::thread::Threads;
 use turn_ledger::Entry;
 
-// How many requests a feed has room for.
+/// How many requests a feed has room for.
 pub const PLACES: u64 = 4;
 
 /// A deposit to an account, with the reference 1.
@@ -27,6 +27,9 @@ pub fn deposit(to: u32, amount: u64) -> Entry {
 }
 
 /// An empty journal in memory, with so many slots in each bank.
+///
+/// # Errors
+/// Out of memory.
 pub fn formatted(alloc: Global, slots: u64) -> Result<MemoryDevice, Fail>
     requires some { 1 ≤ slots }
     requires few { slots ≤ 1000000 }
@@ -36,7 +39,7 @@ pub fn formatted(alloc: Global, slots: u64) -> Result<MemoryDevice, Fail>
     Ok(device)
 }
 
-// What a run leaves: how each station ended, how many turns it took, and what account 1 holds.
+/// What a run leaves: how each station ended, how many turns it took, and what account 1 holds.
 #[derive(Clone, Copy, PartialEq, Eq)]
 pub struct Remains {
     pub ends: [End; 2],
@@ -44,7 +47,7 @@ pub struct Remains {
     pub balance: Option<u64>,
 }
 
-// The run, until so many turns are taken. The bottom station is privileged at its start.
+/// The run, until so many turns are taken. The bottom station is privileged at its start.
 pub fn played<D: Device + Send + Drop, G: Gate + Sync, R: Abort + Threads + Wait + Sync>(
     rt: &R,
     alloc: Global,
@@ -62,7 +65,7 @@ pub fn played<D: Device + Send + Drop, G: Gate + Sync, R: Abort + Threads + Wait
     }
 }
 
-// The same on an empty journal in memory, with so many slots in each bank.
+/// The same on an empty journal in memory, with so many slots in each bank.
 pub fn played_in_memory<G: Gate + Sync, R: Abort + Threads + Wait + Sync>(
     rt: &R,
     alloc: Global,
@@ -112,7 +115,7 @@ fn turns_of(history: &[Turn], station: u8) -> u64 {
     count
 }
 
-// The feed of the bottom station, that of the top one, and both desks.
+/// The feed of the bottom station, that of the top one, and both desks.
 pub fn feeds_and_desks(alloc: Global) -> Result<(Feed, Feed, Vec<Desk>), Fail> {
     let (bottom_feed, bottom) = desk(alloc, PLACES as usize)?;
     let (top_feed, top) = desk(alloc, PLACES as usize)?;

@@ -1,4 +1,4 @@
-//! What a script has in hand, and whom a line is for.
+//! What a script has in hand that needs no clerk, and which words it is asked.
 use crate::bench::Bench;
 use crate::entries::no_entries;
 use crate::said::Said;
@@ -31,15 +31,20 @@ pub enum Scene {
 /// What earlier lines have put together for a call.
 #[derive(Drop)]
 pub struct Hand {
+    /// Where calls take their memory.
     pub alloc: Global,
     /// The switch of the device in hand.
     pub switch: Arc<Switch>,
     /// The other device, and its switch.
     pub other: Option<Bench>,
     pub other_switch: Arc<Switch>,
+    /// The entries of the line.
     pub entries: Vec<Entry>,
+    /// What the next power loss leaves.
     pub picks: Picks,
+    /// The accounts of the next journal or checkpoint.
     pub snapshot: Box<Snapshot>,
+    /// Where a listing ended.
     pub seam: Option<Seam>,
 }
 
@@ -49,16 +54,20 @@ impl Hand {
     /// # Errors
     /// Out of memory.
     pub fn new(alloc: Global) -> Result<Hand, AllocError> {
+        let switch = Arc::new(alloc, Switch::new())?;
+        let other_switch = Arc::new(alloc, Switch::new())?;
+        let entries = no_entries(alloc)?;
+        let snapshot = no_accounts(alloc)?;
         Ok(Hand {
             alloc,
-            switch: Arc::new(alloc, Switch::new())?,
+            switch,
             other: None,
-            other_switch: Arc::new(alloc, Switch::new())?,
-            entries: no_entries(alloc)?,
+            other_switch,
+            entries,
             picks: Picks {
                 list: Vec::new(alloc),
             },
-            snapshot: no_accounts(alloc)?,
+            snapshot,
             seam: None,
         })
     }
@@ -74,7 +83,7 @@ fn no_accounts(alloc: Global) -> Result<Box<Snapshot>, AllocError> {
 }
 
 impl Scene {
-    /// Does what a word asks for, and is what is in hand then.
+    /// Does what a word asks for, and answers what is in hand then.
     pub fn run(self, hand: &mut Hand, name: &str, said: &mut Said<'_>, told: &mut Told) -> Scene {
         match name {
             "nothing" => Scene::Nothing,
