@@ -1,4 +1,4 @@
-"""Runs tests as text: python3 checks/calls CALL_CONSOLE [NAME..]
+"""Runs tests as text: python3 checks/calls TEST_CONSOLE [NAME..]
 
 Each `NAME.calls` in a folder beside this file is typed into a process of its own, which has to print `NAME.out`, to end
 with status 0 and to write no errors. Drivers (`limits.py`, `openings.py`, ..) type what would be long as text, and know

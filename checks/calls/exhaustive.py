@@ -1,4 +1,4 @@
-"""Runs through all of a kind: python3 checks/calls/exhaustive.py [--every N] CALL_CONSOLE [NAME..]
+"""Runs through all of a kind: python3 checks/calls/exhaustive.py [--every N] TEST_CONSOLE [NAME..]
 
 Each run prints a line, and the status is 1 if one fails. With names only those run whose names have one of them. With
 `--every N` each takes one of N cases, and doesn't compare how many there are: that is for a program that wasn't built to

@@ -1,4 +1,4 @@
-"""Refuses each request for memory of a call in turn: python3 checks/calls/memory.py CALL_CONSOLE
+"""Refuses each request for memory of a call in turn: python3 checks/calls/memory.py TEST_CONSOLE
 
 Looks at what the call answers then, that all is as before, and that the same call answers as it has to once there is
 memory again. Prints a line for each call, and the status is 1 if one fails."""
