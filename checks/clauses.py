@@ -1,8 +1,8 @@
-"""Looks how wide clauses are: of each the longest line counts. Public are those of a public function, or of a method of a
-trait or of an impl of one. Prints how many of these are over 100 columns, of which crates, and each clause that is over 120,
-each comment in code that is, and each line of a definition or a proof that is over 200. A text of more than 60 characters that
-is no definition's stands at most three times in a crate: what says more often is given a name. Status 1 where more than 20 are
-over 100 or any is over its limit. Of clauses it reads the crates that are no crates of tests. It needs Python alone."""
+"""Looks how wide lines are, and how often a clause is said. No line of code, of a definition or of a proof is over 100
+columns, but a string, a tactic, and a line that is one long name. `rt fmt` joins clauses and ghost members of up to 117
+columns: 30 of these may be. Each other one is printed. A text of more than 60 characters that is no definition's stands at
+most three times in a crate: what stands more often is given a name. Of clauses it reads the crates that are no crates of
+tests. Status 1 where anything is printed behind the first line. It needs Python alone."""
 import re
 import sys
 from collections import Counter
@@ -10,17 +10,17 @@ from pathlib import Path
 
 ROOT = Path(__file__).resolve().parent.parent
 PAGE = 100
-MOST_OVER_THE_PAGE = 20
-NEVER_OVER = 120
-PROOFS_NEVER_OVER = 200
+MOST_JOINED = 30
+JOINED_NEVER_OVER = 117
+PATTERNS = ("*/src/**/*.rt", "*/specs/**/*.antt", "*/proofs/**/*.antt")
 LONG_TEXT = 60
 MOST_TIMES = 3
 
 OF_TESTS = re.compile(r"test_\w+")
-FUNCTION = re.compile(r"(\s*)(pub (?!\()|pub\([\w: ]+\) )?(?:const )?(?:unsafe )?fn (\w+)")
-OWNER = re.compile(r"(?:pub )?(?:unsafe )?(?:impl|trait)\b")
-PROMISES_OF_A_TRAIT = re.compile(r"(?:pub )?(?:unsafe )?(?:trait\b|impl\b.* for )")
 CLAUSE = re.compile(r"\s*(requires|ensures)\*? (\w+)?")
+JOINED = re.compile(r"\s*(?:requires|ensures|ghost|→) ")
+SINGLE = re.compile(r"(?:ghost )?use [^,]*;?$|#!?\[tactic\(|pub [\w-]+ : goal\.[\w-]+$")
+QUOTED = re.compile(r"'\\?\"'|\\.")
 DEFINITION = re.compile(r"(?!(?:If|On)(?:Ok|Err|Some|None)\b|Is(?:True|Err|ErrAnd)\b|MatchOption\b)[A-Z]\w* ")
 
 
@@ -42,29 +42,33 @@ def lines_of(lines, first):
 
 
 def clauses(lines):
-    """Of each clause the number of its line, its function, its label, whether it is public, its width, and its text."""
-    function, public, owner = "", False, ""
+    """The text of each clause."""
     for number, line in enumerate(lines):
-        if OWNER.match(line):
-            owner = line
-        elif found := FUNCTION.match(line):
-            indent, visible, function = found.groups()
-            public = visible == "pub " or bool(indent and PROMISES_OF_A_TRAIT.match(owner))
-        elif found := CLAUSE.match(line):
-            kind, label = found.groups()
-            own = list(lines_of(lines, number))
-            text = " ".join(" ".join(own).partition("{")[2].rpartition("}")[0].split())
-            yield number + 1, function, label or kind, public, max(map(len, own)), text
+        if CLAUSE.match(line):
+            yield " ".join(" ".join(lines_of(lines, number)).partition("{")[2].rpartition("}")[0].split())
 
 
-def other_lines():
-    """Comments in code, and lines of definitions and proofs, that are over their limits."""
-    for path in sorted([*(ROOT / "crates").glob("*/src/**/*.rt"), *(ROOT / "crates").glob("*/specs/**/*.antt"),
-                        *(ROOT / "crates").glob("*/proofs/**/*.antt")]):
-        for number, line in enumerate(path.read_text(encoding="utf-8").splitlines(), 1):
-            limit = PROOFS_NEVER_OVER if path.suffix == ".antt" else NEVER_OVER if line.lstrip().startswith("//") else None
-            if limit and len(line) > limit:
-                yield f"{path.relative_to(ROOT)}:{number}: {len(line)} columns"
+def wide_lines(path):
+    """Of each line that is over the page, but strings and single names: its number, its width, and whether `rt fmt` joins it."""
+    in_string = False
+    for number, line in enumerate(path.read_text(encoding="utf-8").splitlines(), 1):
+        is_code = path.suffix == ".rt" and (in_string or not line.lstrip().startswith("//"))
+        quotes = QUOTED.sub("", line).count('"') if is_code else 0
+        if len(line) > PAGE and not in_string and not quotes and not SINGLE.match(line.strip()):
+            yield number, len(line), path.suffix == ".rt" and bool(JOINED.match(line)) and len(line) <= JOINED_NEVER_OVER
+        in_string ^= quotes % 2 == 1
+    assert not in_string, f"{path} ends in a string"
+
+
+def too_wide():
+    """Each line that is too wide, and how many are joined."""
+    told, joined = [], 0
+    for path in sorted(path for pattern in PATTERNS for path in (ROOT / "crates").glob(pattern)):
+        for number, columns, is_joined in wide_lines(path):
+            joined += is_joined
+            if not is_joined:
+                told.append(f"{path.relative_to(ROOT)}:{number}: {columns} columns")
+    return told, joined
 
 
 def repeated(texts):
@@ -75,21 +79,15 @@ def repeated(texts):
 
 
 def main():
-    over, far_over, counted, texts = Counter(), [], Counter(), Counter()
-    for path in sources():
-        name = path.relative_to(ROOT)
-        for number, function, label, public, columns, text in clauses(path.read_text(encoding="utf-8").splitlines()):
-            counted[public] += 1
-            texts[name.parts[1], text] += 1
-            if public and columns > PAGE:
-                over[name.parts[1]] += 1
-            if columns > NEVER_OVER:
-                far_over.append(f"{name}:{number}: {label} of {function} has {columns} columns")
-    print(f"{sum(over.values())} of {counted[True]} public clauses are over {PAGE} columns, of which {MOST_OVER_THE_PAGE} may be; "
-          f"{len(far_over)} of these and {counted[False]} private ones are over {NEVER_OVER}")
-    far_over += [*other_lines(), *repeated(texts)]
-    print("\n".join([*(f"  {crate}: {count}" for crate, count in sorted(over.items())), *far_over]))
-    return int(sum(over.values()) > MOST_OVER_THE_PAGE or bool(far_over))
+    texts = Counter((path.relative_to(ROOT).parts[1], text) for path in sources()
+                    for text in clauses(path.read_text(encoding="utf-8").splitlines()))
+    told, joined = too_wide()
+    print(f"{joined} lines over {PAGE} columns are joined by the formatter, of which {MOST_JOINED} may be; {len(told)} others are; "
+          f"{sum(texts.values())} clauses")
+    told += repeated(texts)
+    if told:
+        print("\n".join(told))
+    return int(joined > MOST_JOINED or bool(told))
 
 
 if __name__ == "__main__":

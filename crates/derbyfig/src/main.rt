@@ -1,6 +1,7 @@
 //! Derbyfig: a crash-safe ledger of accounts, which stations in a row share.
 //!
-//! The crate `front_program` does all of it; here it is handed the words and the streams of the system.
+//! The crate `front_program` does all of it; here it is handed the words and the streams of the
+//! system.
 #![tactic(auto)]
 
 use front_program::{FileLocks, Surroundings, run_derbyfig_words, words_given};
@@ -12,7 +13,8 @@ fn main(rt: HostRuntime) -> ExitCode {
     let surroundings = Surroundings {
         input: rt.stdin(),
         output: rt.stdout(),
-        // a thread of the office looks at them, for which the type of the runtime has to be known here
+        // a thread of the office looks at them, for which the type of the runtime has to be known
+        // here
         locks: FileLocks(rt),
     };
     let (mut output, mut errors) = (rt.stdout(), rt.stderr());

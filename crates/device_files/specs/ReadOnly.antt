@@ -9,8 +9,8 @@ pub record ReadOnlyState (D : Type 0) : Type 0 where
   -- how many writes were refused
   pub refused : ℕ
 
--- What is to be known of it as a device: a crash leaves what it leaves of the inner device, and the writes that were
--- refused are among the failures.
+-- What is to be known of it as a device: a crash leaves what it leaves of the inner device, and the
+-- writes that were refused are among the failures.
 abbrev pub read_only_state : {D : Type 0} → (D → DeviceState) → ReadOnlyState D → DeviceState
 read_only_state state device = with_failures (state device.inner) device.refused
 

@@ -5,8 +5,8 @@ ghost use Rattle.device_files.specs.Opened.{IsJustOpened};
 use crate::buffer::ReadBuffer;
 use crate::device_file::DeviceFile;
 use crate::fail_stop::FailStop;
-use crate::locked_file::{LockedFile, Wanted};
-use crate::opening::{Making, check_length};
+use crate::locked_file::{DeviceNeeds, LockedFile};
+use crate::opening::{Creation, check_length};
 use crate::read_ahead::ReadAhead;
 use crate::refusal::{FileFault, FileRefusal};
 use crate::sector_file::SectorFile;
@@ -16,23 +16,27 @@ use std::os::unix::fs::FileExt;
 
 /// A device on a file. Nothing is promised of what the file holds.
 ///
-/// Reads go through a buffer of 128 KiB. A write is one positioned write of 512 bytes, a sync waits until the system
-/// says that the file's data is on the disk, and after a failed sync every call fails. No call takes memory.
+/// Reads go through a buffer of 128 KiB. A write is one positioned write of 512 bytes, a sync waits
+/// until the system says that the file's data is on the disk, and after a failed sync every call
+/// fails. No call takes memory.
 pub type FileDevice = DeviceOn<File>;
 
 /// The same on whatever files these are.
 pub type DeviceOn<F> = FailStop<ReadAhead<SectorFile<F>>>;
 
 impl<F: DeviceFile + Drop> DeviceOn<F> {
-    /// Opens the file, makes it if it isn't there, and locks it for as long as the device has it. If it has fewer
-    /// sectors than these, zero sectors are written at its end until it has them; one that is longer stays as it is.
-    /// Then it is synced, and the folder that it lies in, unless that may not be read and the file was there. A file
-    /// that this opening made and then can't grow is removed.
+    /// Opens the file, makes it if it isn't there, and locks it for as long as the device has it.
+    /// If it has fewer sectors than these, zero sectors are written at its end until it has them;
+    /// one that is longer stays as it is. Then it is synced, and the folder that it lies in, unless
+    /// that may not be read and the file was there. A file that this opening made and then can't
+    /// grow is removed.
     ///
-    /// A disk, which is a block device, has to have that many sectors, and is neither grown nor cut. It is refused if
-    /// it is in use, and unless it begins as a ledger does, or its first 256 sectors are zeros.
+    /// A disk, which is a block device, has to have that many sectors, and is neither grown nor
+    /// cut. It is refused if it is in use, and unless it begins as a ledger does, or its first 256
+    /// sectors are zeros.
     ///
-    /// The lock keeps out those alone who ask for it too: nobody else may write the file while the device is in use.
+    /// The lock keeps out those alone who ask for it too: nobody else may write the file while the
+    /// device is in use.
     pub fn open<R: Files<File = F>>(
         rt: &R,
         alloc: Global,
@@ -56,15 +60,16 @@ impl<F: DeviceFile + Drop> DeviceOn<F> {
         ensures opened { IfOk result IsJustOpened }
     {
         check_length(sectors)?;
-        let file = LockedFile::open(rt, alloc, path, Making::IfMissing)?;
-        let wanted = Wanted {
+        let file = LockedFile::open(rt, alloc, path, Creation::IfMissing)?;
+        let wanted = DeviceNeeds {
             sectors,
             overwrite: false,
         };
         file.into_device(rt, wanted)
     }
 
-    /// Opens a disk whatever it holds, which the device may then write over. All else is refused, and not made.
+    /// Opens a disk whatever it holds, which the device may then write over. All else is refused,
+    /// and not made.
     pub fn overwrite<R: Files<File = F>>(
         rt: &R,
         alloc: Global,
@@ -74,11 +79,11 @@ impl<F: DeviceFile + Drop> DeviceOn<F> {
         ensures enough { IfOk result (λ device. sectors ≤ device.inner.sectors) }
         ensures opened { IfOk result IsJustOpened }
     {
-        let file = LockedFile::open(rt, alloc, path, Making::Never)?;
+        let file = LockedFile::open(rt, alloc, path, Creation::Never)?;
         if !file.is_disk() {
             return Err(FileFault::NoDisk);
         }
-        let wanted = Wanted {
+        let wanted = DeviceNeeds {
             sectors,
             overwrite: true,
         };

@@ -14,7 +14,8 @@ pub trait DeviceFile: OpenFile + FileExt + AsRawFd {
     /// Keeps off those who would lock it so, for as long as it is open. Others may do the same.
     fn try_lock_shared(&self) -> io::Result<()>;
 
-    /// The block device that it is, if it is one. Its metadata have no length of it: that is where its end is.
+    /// The block device that it is, if it is one. Its metadata have no length of it: that is where
+    /// its end is.
     fn disk(&self, metadata: &Metadata) -> io::Result<Option<Disk>>;
 }
 

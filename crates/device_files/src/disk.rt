@@ -1,10 +1,11 @@
 //! Disks that a device is opened on: block devices.
-ghost use Rattle.std.specs.Prelude.{◌≡◌, ◌*◌, ◌/◌, ◌<◌, ◌≤◌, ◌^◌, ◌↔◌, ◌⊎◌, IsOk, IsTrue, IfOk, OnOk, Err};
+ghost use Rattle.std.specs.Prelude.{◌≡◌, ◌*◌, ◌/◌, ◌<◌, ◌≤◌, ◌^◌, ◌↔◌, ◌⊎◌, IsOk, IsTrue, IfOk};
+ghost use Rattle.std.specs.Prelude.{OnOk, Err};
 ghost use Rattle.device_files.specs.Disks.{BeginsAsLedger, IsZero};
 
 use crate::device_file::DeviceFile;
 use crate::disk_tables::{DeviceNumber, check_idle};
-use crate::locked_file::Wanted;
+use crate::locked_file::DeviceNeeds;
 use crate::opening::{SECTOR_LENGTH, check_length};
 use crate::refusal::FileFault;
 use sector_device::Sector;
@@ -46,12 +47,13 @@ pub(crate) fn idle_disk_sectors<R: Files>(
     disk_sectors(disk.length)
 }
 
-/// That a disk that is locked has as many sectors as are wanted, and holds a ledger or nothing or may be written over.
-/// It is synced then, and never grown or cut. `front` is room for its first sectors.
+/// That a disk that is locked has as many sectors as are wanted, and holds a ledger or nothing or
+/// may be written over. It is synced then, and never grown or cut. `front` is room for its first
+/// sectors.
 pub(crate) fn make_sure_of_disk<F: DeviceFile>(
     file: &F,
     sectors: u64,
-    wanted: Wanted,
+    wanted: DeviceNeeds,
     front: &mut [Sector],
 ) -> Result<(), FileFault>
     ensures enough { OnOk result (wanted.sectors ≤ sectors) }
@@ -90,7 +92,8 @@ fn look_at_front<F: DeviceFile>(
     Err(FileFault::DiskHasNoLedger)
 }
 
-/// Whether a disk that begins with these bytes holds a ledger, or nothing where other systems keep their marks.
+/// Whether a disk that begins with these bytes holds a ledger, or nothing where other systems keep
+/// their marks.
 fn may_be_written(bytes: &[u8]) -> bool
     ensures { IsTrue result ↔ (BeginsAsLedger bytes.now ⊎ IsZero bytes.now) }
 {

@@ -34,8 +34,8 @@ impl fmt::Display for DeviceNumber {
     }
 }
 
-/// Refuses a block device that may not be written, by what the system says of it: nobody may, or it is mounted, swapped
-/// to, or a part of another one. A system that has no such tables says nothing.
+/// Refuses a block device that may not be written, by what the system says of it: nobody may, or it
+/// is mounted, swapped to, or a part of another one. A system that has no such tables says nothing.
 pub(crate) fn check_idle<R: Files>(
     rt: &R,
     alloc: Global,
@@ -75,7 +75,8 @@ fn told<R: Files>(rt: &R, alloc: Global, path: &str) -> io::Result<Vec<u8>> {
     }
 }
 
-// Whether a line has this number, or tells of a node with it. Some file systems have a number of their own.
+// Whether a line has this number, or tells of a node with it. Some file systems have a number of
+// their own.
 fn is_mounted<R: Files>(rt: &R, mounts: &[u8], name: &[u8], number: DeviceNumber) -> bool {
     for line in mounts.split(|byte| *byte == b'\n') {
         if number_in(line) == Some(name) || is_node(rt, source_in(line), number) {

@@ -8,11 +8,12 @@ ghost use Rattle.device_files.specs.FailStop.{FailStopState, CountsRefused, fail
 use sector_device::{Device, DeviceFault, Sector};
 use std::marker::Model;
 
-/// A device that stops at a failed sync: from then on every call fails, without reaching the inner device. Until then
-/// each call is the inner device's own. It is honest exactly if the inner device is. No call takes memory.
+/// A device that stops at a failed sync: from then on every call fails, without reaching the inner
+/// device. Until then each call is the inner device's own. It is honest exactly if the inner device
+/// is. No call takes memory.
 ///
-/// After a failed sync a system may have dropped what was written, keep showing it, and answer the next sync with
-/// success, so nothing that the inner device says from then on is handed on.
+/// After a failed sync a system may have dropped what was written, keep showing it, and answer the
+/// next sync with success, so nothing that the inner device says from then on is handed on.
 #[derive(Debug, Drop)]
 pub struct FailStop<D: Device> {
     inner: D,
@@ -128,5 +129,6 @@ impl<D: Device> Device for FailStop<D> {
         outcome
     }
 
-    ghost sound = { λ f honest. sound_with_failures (D.state f.inner) f.refused (D.sound f.inner honest) };
+    ghost sound = { λ f honest.
+        sound_with_failures (D.state f.inner) f.refused (D.sound f.inner honest) };
 }

@@ -6,8 +6,8 @@ use std::fs::OpenFile;
 use std::io;
 use std::os::unix::fs::FileExt;
 
-/// Grows a file of `from` sectors until it has `to` of them. After an error it has the length from before, if the
-/// system can give it that.
+/// Grows a file of `from` sectors until it has `to` of them. After an error it has the length from
+/// before, if the system can give it that.
 pub(crate) fn grow<F: OpenFile + FileExt>(
     file: &F,
     from: u64,
@@ -26,7 +26,8 @@ pub(crate) fn grow<F: OpenFile + FileExt>(
     grown
 }
 
-// Each piece has its length before its zeros, so that whenever this ends, the file has whole sectors.
+// Each piece has its length before its zeros, so that whenever this ends, the file has whole
+// sectors.
 fn add_zero_sectors<F: OpenFile + FileExt>(
     file: &F,
     from: u64,

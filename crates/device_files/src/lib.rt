@@ -1,11 +1,12 @@
 //! Sectors in a file.
 //!
-//! `FileDevice` is a device on a file of the system, or on a block device, here called a disk. No contract speaks of
-//! what these hold. What is promised is that every call is safe and ends, that failures are counted, and that after a
-//! failed sync every later call fails. `ReadAhead` is the buffer that its reads go through: over any device it gives
-//! what that device gives.
+//! `FileDevice` is a device on a file of the system, or on a block device, here called a disk. No
+//! contract speaks of what these hold. What is promised is that every call is safe and ends, that
+//! failures are counted, and that after a failed sync every later call fails. `ReadAhead` is the
+//! buffer that its reads go through: over any device it gives what that device gives.
 //!
-//! The test `a_file_is_made_and_grown_and_never_cut` in `src/files.rt` of the crate `test_examples` is an example.
+//! The test `a_file_is_made_and_grown_and_never_cut` in `src/files.rt` of the crate `test_examples`
+//! is an example.
 #![tactic(auto)]
 
 mod buffer;
@@ -17,7 +18,7 @@ mod fail_stop;
 mod growth;
 mod locked_file;
 mod looking;
-mod made_file;
+mod new_file;
 mod opening;
 mod read_ahead;
 mod read_only;
@@ -31,10 +32,10 @@ pub use device_file::DeviceFile;
 pub use disk::Disk;
 pub use disk_tables::DeviceNumber;
 pub use fail_stop::FailStop;
-pub use locked_file::{LockedFile, Wanted};
-pub use looking::{Locking, ReadOnlyFile, ReadOnlyOn};
-pub use made_file::{FileNumber, MadeFile};
-pub use opening::{Making, clear_of_streams};
+pub use locked_file::{DeviceNeeds, LockedFile};
+pub use looking::{LockMode, ReadOnlyFile, ReadOnlyOn};
+pub use new_file::{FileNumber, NewFile};
+pub use opening::{Creation, clear_of_streams};
 pub use read_ahead::ReadAhead;
 pub use read_only::ReadOnly;
 pub use read_run::ReadRun;

@@ -1,5 +1,6 @@
 //! Files and disks that are open and locked, and not yet devices.
-ghost use Rattle.std.specs.Prelude.{◌≡◌, ◌*◌, ◌<◌, ◌^◌, false, true, max, length, vec_len, None, IsSome, IfOk, OnOk};
+ghost use Rattle.std.specs.Prelude.{◌≡◌, ◌*◌, ◌<◌, ◌^◌, false, true, max, length, vec_len, None};
+ghost use Rattle.std.specs.Prelude.{IsSome, IfOk, OnOk};
 ghost use Rattle.device_files.specs.ReadBuffer.{IsEmpty};
 ghost use Rattle.device_files.specs.LockedFile.{LockedState};
 ghost use Rattle.device_files.specs.Opened.{IsJustOpened};
@@ -9,9 +10,9 @@ use crate::device::{DeviceOn, device_over};
 use crate::device_file::DeviceFile;
 use crate::disk::{idle_disk_sectors, make_sure_of_disk};
 use crate::growth::grow;
-use crate::made_file::{FileNumber, MadeFile};
+use crate::new_file::{FileNumber, NewFile};
 use crate::opening::{
-    Making, Opened, SECTOR_LENGTH, cause, check_length, open_locked, whole_sectors,
+    Creation, OpenedFile, SECTOR_LENGTH, cause, check_length, open_locked, whole_sectors,
 };
 use crate::refusal::FileFault;
 use crate::sector_file::SectorFile;
@@ -21,25 +22,27 @@ use std::fs::Files;
 use std::marker::Model;
 use std::os::unix::fs::FileExt;
 
-/// How many sectors a file grows by in one write, and are read in one call of what isn't a device yet: 128 KiB.
+/// How many sectors a file grows by in one write, and are read in one call of what isn't a device
+/// yet: 128 KiB.
 const PIECE: usize = 256;
 
 /// What is wanted of a device.
 #[derive(Clone, Copy, Debug, PartialEq, Eq)]
-pub struct Wanted {
+pub struct DeviceNeeds {
     /// How many sectors it has to have at least.
     pub sectors: u64,
-    /// Whether a disk may hold anything. Else it has to begin as a ledger does, or its first 256 sectors are zeros.
+    /// Whether a disk may hold anything. Else it has to begin as a ledger does, or its first 256
+    /// sectors are zeros.
     pub overwrite: bool,
 }
 
-/// A file or a disk that is open and locked, and not a device yet. It was made if that was asked for, and else nothing
-/// of it has changed; nothing is written to it before [`into_device`](LockedFile::into_device). The memory that a
-/// device takes is there already.
+/// A file or a disk that is open and locked, and not a device yet. It was made if that was asked
+/// for, and else nothing of it has changed; nothing is written to it before
+/// [`into_device`](LockedFile::into_device). The memory that a device takes is there already.
 #[derive(Drop)]
 pub struct LockedFile<'a, F: DeviceFile> {
     path: &'a str,
-    opened: Opened<F>,
+    opened: OpenedFile<F>,
     number: FileNumber,
     sectors: u64,
     is_disk: bool,
@@ -60,16 +63,16 @@ impl<'a, F: DeviceFile> Model for LockedFile<'a, F> {
 }
 
 impl<'a, F: DeviceFile + Drop> LockedFile<'a, F> {
-    /// Opens and locks what is at the path, which is made as an empty file if that is asked for and nothing is there. A
-    /// disk is refused if it is in use.
+    /// Opens and locks what is at the path, which is made as an empty file if that is asked for and
+    /// nothing is there. A disk is refused if it is in use.
     pub fn open<R: Files<File = F>>(
         rt: &R,
         alloc: Global,
         path: &'a str,
-        making: Making,
+        making: Creation,
     ) -> Result<LockedFile<'a, F>, FileFault>
         ensures fits { IfOk result (λ file. file.sectors * 512 < 2 ^ 63) }
-        ensures not_made { making ≡ Making.Never → IfOk result (λ file. file.is_new ≡ false) }
+        ensures not_made { making ≡ Creation.Never → IfOk result (λ file. file.is_new ≡ false) }
     {
         let buffer = ReadBuffer::new(alloc)?;
         let zeros = zero_sectors(alloc)?;
@@ -109,12 +112,12 @@ impl<'a, F: DeviceFile + Drop> LockedFile<'a, F> {
     }
 
     /// The file, if this opening made it, so that it can be taken back.
-    pub fn made(&self) -> Option<MadeFile<'a>>
+    pub fn made(&self) -> Option<NewFile<'a>>
         ensures not_made { self.now.is_new ≡ false → result ≡ None }
         ensures made { self.now.is_new ≡ true → IsSome result }
     {
         let (path, number) = (self.path, self.number);
-        self.opened.is_new.then_some(MadeFile { path, number })
+        self.opened.is_new.then_some(NewFile { path, number })
     }
 
     /// Its first sector, and zeros if it has none.
@@ -150,15 +153,16 @@ impl<'a, F: DeviceFile + Drop> LockedFile<'a, F> {
         Ok(true)
     }
 
-    /// Makes a device of it, with at least so many sectors. Zero sectors are written at the end of a file until it has
-    /// them; one that is longer stays as it is. Then it is synced, and the folder that it lies in, unless that may not
-    /// be read. If the file was made by this opening and this fails, it is removed.
+    /// Makes a device of it, with at least so many sectors. Zero sectors are written at the end of
+    /// a file until it has them; one that is longer stays as it is. Then it is synced, and the
+    /// folder that it lies in, unless that may not be read. If the file was made by this opening
+    /// and this fails, it is removed.
     ///
     /// A disk has to have that many sectors, and is neither grown nor cut.
     pub fn into_device<R: Files<File = F>>(
         self,
         rt: &R,
-        wanted: Wanted,
+        wanted: DeviceNeeds,
     ) -> Result<DeviceOn<F>, FileFault>
         ensures sectors { IfOk result (λ device.
             device.inner.sectors ≡ max self.entry.sectors wanted.sectors) }
@@ -183,7 +187,7 @@ impl<'a, F: DeviceFile + Drop> LockedFile<'a, F> {
             }
             return Err(fault.for_writing());
         }
-        let Opened { file, .. } = opened;
+        let OpenedFile { file, .. } = opened;
         let file = SectorFile::new(file, sectors.max(wanted.sectors));
         Ok(device_over(file, buffer))
     }
@@ -198,7 +202,7 @@ fn zero_sectors(alloc: Global) -> Result<Vec<Sector>, AllocError>
 
 // Grows a file until it has so many sectors, and syncs it and the folder that has its name.
 fn lengthen<F: DeviceFile + Drop>(
-    opened: &Opened<F>,
+    opened: &OpenedFile<F>,
     found: u64,
     sectors: u64,
     zeros: &[Sector],

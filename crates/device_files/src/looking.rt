@@ -14,7 +14,8 @@ use std::fs;
 use std::fs::{File, Files, Metadata};
 use std::os::unix::fs::FileTypeExt;
 
-/// A file or a disk that is only read, through a buffer of 128 KiB. Nothing is promised of what it holds.
+/// A file or a disk that is only read, through a buffer of 128 KiB. Nothing is promised of what it
+/// holds.
 pub type ReadOnlyFile = ReadOnlyOn<File>;
 
 /// The same of whatever files these are.
@@ -22,7 +23,7 @@ pub type ReadOnlyOn<F> = ReadOnly<ReadAhead<SectorFile<F>>>;
 
 /// How others are kept off a file while it is looked at.
 #[derive(Clone, Copy, Debug, PartialEq, Eq)]
-pub enum Locking {
+pub enum LockMode {
     /// Others may look at it, and nobody may have it as a device.
     Shared,
     /// Not at all: another program may have it, and what is read may be torn.
@@ -35,7 +36,7 @@ impl<F: DeviceFile + Drop> ReadOnlyOn<F> {
         rt: &R,
         alloc: Global,
         path: &str,
-        locking: Locking,
+        locking: LockMode,
     ) -> Result<ReadOnlyOn<F>, FileFault>
         ensures fits { IfOk result (λ device. device.inner.sectors * 512 < 2 ^ 63) }
         ensures failures { IfOk result (λ device.
@@ -49,18 +50,19 @@ impl<F: DeviceFile + Drop> ReadOnlyOn<F> {
     }
 }
 
-// What is at the path, opened for reading. A pipe is refused before it is opened, which would wait for a writer.
+// What is at the path, opened for reading. A pipe is refused before it is opened, which would wait
+// for a writer.
 fn open_locked<F: DeviceFile + Drop, R: Files<File = F>>(
     rt: &R,
     path: &str,
-    locking: Locking,
+    locking: LockMode,
 ) -> Result<F, FileFault> {
     let found = fs::metadata(rt, path)?;
     if !is_file_or_disk(&found) {
         return Err(FileFault::NoFile);
     }
     let file = fs::open(rt, path)?;
-    if locking == Locking::Shared {
+    if locking == LockMode::Shared {
         file.try_lock_shared()?;
     }
     Ok(file)

@@ -1,4 +1,5 @@
-ghost use Rattle.std.specs.Prelude.{◌≡◌, ◌≢◌, ◌*◌, ◌%◌, ◌<◌, ◌≤◌, ◌^◌, ◌↔◌, ◌<ℤ◌, pos, false, IsOk, IfOk, IfErr, IfSome, Err};
+ghost use Rattle.std.specs.Prelude.{◌≡◌, ◌≢◌, ◌*◌, ◌%◌, ◌<◌, ◌≤◌, ◌^◌, ◌↔◌, ◌<ℤ◌, pos, false, IsOk};
+ghost use Rattle.std.specs.Prelude.{IfOk, IfErr, IfSome, Err};
 ghost use Rattle.std.specs.Fs.{metadata_len, file_type, IsFile};
 
 use crate::device_file::DeviceFile;
@@ -22,14 +23,14 @@ const LAST_STREAM: RawFd = 2;
 
 /// Whether a file is made where there is none.
 #[derive(Clone, Copy, Debug, PartialEq, Eq)]
-pub enum Making {
+pub enum Creation {
     IfMissing,
     Never,
 }
 
 /// A file that is open.
 #[derive(Drop)]
-pub(crate) struct Opened<F: OpenFile> {
+pub(crate) struct OpenedFile<F: OpenFile> {
     pub(crate) file: F,
     /// The folder that has its name, unless it may not be read, and so not synced.
     pub(crate) folder: Option<F>,
@@ -41,25 +42,26 @@ pub(crate) struct Opened<F: OpenFile> {
 pub(crate) fn open_locked<F: DeviceFile + Drop, R: Files<File = F>>(
     rt: &R,
     path: &str,
-    making: Making,
-) -> Result<Opened<F>, FileFault>
-    ensures not_made { making ≡ Making.Never → IfOk result (λ opened. opened.is_new ≡ false) }
+    making: Creation,
+) -> Result<OpenedFile<F>, FileFault>
+    ensures not_made { making ≡ Creation.Never → IfOk result (λ opened. opened.is_new ≡ false) }
 {
-    let Opened {
+    let OpenedFile {
         file,
         folder,
         is_new,
     } = open_in_folder(rt, path, making)?;
     let file = clear_of_streams(file)?;
     file.try_lock()?;
-    Ok(Opened {
+    Ok(OpenedFile {
         file,
         folder,
         is_new,
     })
 }
 
-/// Why what is at the path isn't a device, for a fault of its opening. A disk has faults of its own.
+/// Why what is at the path isn't a device, for a fault of its opening. A disk has faults of its
+/// own.
 pub(crate) fn cause<R: Files>(rt: &R, path: &str, fault: FileFault) -> FileFault {
     match fs::metadata(rt, path) {
         Ok(found) if found.file_type().is_block_device() => fault.of_disk(),
@@ -74,25 +76,25 @@ fn existing() -> OpenOptions {
     how
 }
 
-// The file, and the folder that has its name. A folder that may not be read can't be synced: there a file is opened,
-// and none is made.
+// The file, and the folder that has its name. A folder that may not be read can't be synced: there
+// a file is opened, and none is made.
 fn open_in_folder<R: Files>(
     rt: &R,
     path: &str,
-    making: Making,
-) -> Result<Opened<R::File>, FileFault>
-    ensures not_made { making ≡ Making.Never → IfOk result (λ opened. opened.is_new ≡ false) }
+    making: Creation,
+) -> Result<OpenedFile<R::File>, FileFault>
+    ensures not_made { making ≡ Creation.Never → IfOk result (λ opened. opened.is_new ≡ false) }
 {
     let mut how = existing();
     match how.open(rt, path) {
-        Ok(file) => Ok(Opened {
+        Ok(file) => Ok(OpenedFile {
             file,
             folder: readable_folder(rt, path)?,
             is_new: false,
         }),
-        Err(error) if error.kind() == ErrorKind::NotFound && making == Making::IfMissing => {
+        Err(error) if error.kind() == ErrorKind::NotFound && making == Creation::IfMissing => {
             let folder = folder_to_make_in(rt, path)?;
-            Ok(Opened {
+            Ok(OpenedFile {
                 file: how.create(true).open(rt, path)?,
                 folder: Some(folder),
                 is_new: true,
@@ -127,8 +129,8 @@ fn folder_of(path: &str) -> Path<'_> {
     }
 }
 
-/// Moves a file off the numbers of the standard streams: where one of these is closed, what is printed to it would land
-/// in the file.
+/// Moves a file off the numbers of the standard streams: where one of these is closed, what is
+/// printed to it would land in the file.
 ///
 /// # Errors
 /// The system gives it no other number.

@@ -6,12 +6,12 @@ use crate::read_run::ReadRun;
 use sector_device::{Device, DeviceFault, Sector};
 use std::marker::Model;
 
-/// A device with a buffer for its reads. Contracts see it as the device within: it is honest exactly if that is, and
-/// each call gives and keeps what that device's would.
+/// A device with a buffer for its reads. Contracts see it as the device within: it is honest
+/// exactly if that is, and each call gives and keeps what that device's would.
 ///
-/// A read of a sector that the buffer doesn't hold fills it with the 256 sectors from the eighth before that one on.
-/// Where they can't be read, that sector alone is. A write to a sector that the buffer holds empties it, and so does a
-/// call that fails. No call takes memory.
+/// A read of a sector that the buffer doesn't hold fills it with the 256 sectors from the eighth
+/// before that one on. Where they can't be read, that sector alone is. A write to a sector that the
+/// buffer holds empties it, and so does a call that fails. No call takes memory.
 #[derive(Debug, Drop)]
 pub struct ReadAhead<D: ReadRun> {
     inner: D,

@@ -8,9 +8,10 @@ ghost use Rattle.device_files.specs.ReadOnly.{ReadOnlyState, IsSettled, read_onl
 use sector_device::{Device, DeviceFault, Sector};
 use std::marker::Model;
 
-/// A device that is only read: no call but a read reaches the device within. A write fails and is counted. A sync
-/// answers `Ok` at once, and makes nothing durable: if the inner device is honest, nothing of it was pending when it
-/// was handed in, and reads leave that so. It is honest exactly if the inner device is. No call takes memory.
+/// A device that is only read: no call but a read reaches the device within. A write fails and is
+/// counted. A sync answers `Ok` at once, and makes nothing durable: if the inner device is honest,
+/// nothing of it was pending when it was handed in, and reads leave that so. It is honest exactly
+/// if the inner device is. No call takes memory.
 #[derive(Debug, Drop)]
 pub struct ReadOnly<D: Device> {
     inner: D,
@@ -26,7 +27,8 @@ impl<D: Device> Model for ReadOnly<D> {
 }
 
 impl<D: Device> ReadOnly<D> {
-    /// The device, of which no write was refused. If it is honest, nothing may be pending: sync it first.
+    /// The device, of which no write was refused. If it is honest, nothing may be pending: sync it
+    /// first.
     pub fn new(inner: D) -> ReadOnly<D>
         requires { IsSettled (D.state inner) }
         ensures { result ≡ record { inner = inner; refused = 0 } }
@@ -99,5 +101,6 @@ impl<D: Device> Device for ReadOnly<D> {
         Ok(())
     }
 
-    ghost sound = { λ r honest. sound_with_failures (D.state r.inner) r.refused (D.sound r.inner honest) };
+    ghost sound = { λ r honest.
+        sound_with_failures (D.state r.inner) r.refused (D.sound r.inner honest) };
 }

@@ -8,9 +8,10 @@ use sector_device::{Device, DeviceFault, MemoryDevice, Sector};
 
 /// A device that can read several sectors in one call.
 pub trait ReadRun: Device {
-    /// Reads as many sectors as `into` has, one behind another, the first one at `at`. After a fault `into` holds any
-    /// bytes, and the device is as before. A fault isn't counted among the failures: whoever needs one of the sectors
-    /// reads it alone, and that read tells whether it can be read.
+    /// Reads as many sectors as `into` has, one behind another, the first one at `at`. After a
+    /// fault `into` holds any bytes, and the device is as before. A fault isn't counted among the
+    /// failures: whoever needs one of the sectors reads it alone, and that read tells whether it
+    /// can be read.
     fn read_run(&mut self, at: u64, into: &mut [Sector]) -> Result<(), DeviceFault>
         requires { at + length into.old ≤ length (Self.state self.old).reads }
         ensures call { AreCalls (Self.state self.old) (Self.state self.new) ⊥ }

@@ -10,18 +10,20 @@ use thiserror::Error;
 /// Why a file didn't become a device.
 #[derive(Clone, Copy, Debug, PartialEq, Eq, Error)]
 pub enum FileRefusal {
-    /// There was no memory: for the buffer, or for what the system says of a disk. Nothing has been written.
+    /// There was no memory: for the buffer, or for what the system says of a disk. Nothing has been
+    /// written.
     #[error("out of memory")]
     Memory,
-    /// The file, or the folder that it lies in, can't be opened, read, grown or synced, it is neither a regular file
-    /// nor a disk, its length isn't a multiple of 512, another holds it, or the system has no locks for it. It may have
-    /// been grown, if it couldn't be synced after that. Or it is a disk with a fault of its own.
+    /// The file, or the folder that it lies in, can't be opened, read, grown or synced, it is
+    /// neither a regular file nor a disk, its length isn't a multiple of 512, another holds it, or
+    /// the system has no locks for it. It may have been grown, if it couldn't be synced after that.
+    /// Or it is a disk with a fault of its own.
     #[error("the file can't be used as a device")]
     File,
 }
 
-/// Why a file or a disk, which is a block device, can't be had: to look at it, or as a device. Nothing was written to a
-/// disk.
+/// Why a file or a disk, which is a block device, can't be had: to look at it, or as a device.
+/// Nothing was written to a disk.
 #[derive(Clone, Copy, Debug, PartialEq, Eq, Error)]
 pub enum FileFault {
     /// There is nothing at the path.
@@ -57,7 +59,8 @@ pub enum FileFault {
     /// It is a disk that may not be read and written: by this user, or by anybody.
     #[error("it is a disk that may not be read and written")]
     DiskDenied,
-    /// It is a disk that another program has, or that is mounted, swapped to or a part of another device.
+    /// It is a disk that another program has, or that is mounted, swapped to or a part of another
+    /// device.
     #[error("it is a disk that is in use")]
     DiskInUse,
     /// It is a disk with fewer sectors than were asked for.

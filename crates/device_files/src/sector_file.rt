@@ -9,8 +9,8 @@ use std::io;
 use std::marker::Model;
 use std::os::unix::fs::FileExt;
 
-/// The sectors of an open file: the system's own calls, with a count of their failures. Contracts know nothing else of
-/// the file; it is honest nowhere.
+/// The sectors of an open file: the system's own calls, with a count of their failures. Contracts
+/// know nothing else of the file; it is honest nowhere.
 #[derive(Debug, Drop)]
 pub struct SectorFile<F: OpenFile + FileExt> {
     file: F,

@@ -18,8 +18,8 @@ pub record FailingState (D : Type 0) : Type 0 where
 abbrev pub Counts : Op → Op → Type 0
 Counts op call = (op ≡ Any) ⊎ (op ≡ call)
 
--- A next call of this kind is one to fail: it is the one that is waited for, or that one was made and the device fails
--- for good.
+-- A next call of this kind is one to fail: it is the one that is waited for, or that one was made
+-- and the device fails for good.
 abbrev pub Fails : {D : Type 0} → Bool → FailingState D → Op → Type 0
 Fails for_good device call =
     (Counts device.op call × (device.left ≡ Some 0)) ⊎ ((for_good ≡ true) × (device.left ≡ None))
@@ -30,15 +30,17 @@ one_fewer None = None
 one_fewer (Some zero) = None
 one_fewer (Some (suc left)) = Some left
 
--- What a call of this kind makes of what is waited for, whatever becomes of it: calls of the kind that is counted are
--- counted, and no others.
+-- What a call of this kind makes of what is waited for, whatever becomes of it: calls of the kind
+-- that is counted are counted, and no others.
 pub record HasCounted {D : Type 0} (old new : FailingState D) (call : Op) : Type 0 where
   pub op : new.op ≡ old.op
   pub counted : Counts old.op call → new.left ≡ one_fewer old.left
   pub not_counted : (Counts old.op call → ⊥) → new.left ≡ old.left
 
--- What holds of any run of calls holds of what the inner device was asked, and any fault is its own.
-pub record IsPassedOn {D : Type 0} (state : D → DeviceState) (old new : FailingState D) (fault : Type 0) : Type 0 where
+-- What holds of any run of calls holds of what the inner device was asked, and any fault is its
+-- own.
+pub record IsPassedOn {D : Type 0} (state : D → DeviceState) (old new : FailingState D)
+    (fault : Type 0) : Type 0 where
   pub call : AreCalls (state old.inner) (state new.inner) fault
   pub failures : new.failures ≡ old.failures
 

@@ -1,16 +1,18 @@
-ghost use Rattle.std.specs.Prelude.{◌≡◌, ◌⊎◌, ◌+◌, ◌<◌, ◌≤◌, Bool, true, false, None, Some, length, IsTrue, IsFalse, IsErr, OnOk};
+ghost use Rattle.std.specs.Prelude.{◌≡◌, ◌⊎◌, ◌+◌, ◌<◌, ◌≤◌, Bool, true, false, None, Some, length};
+ghost use Rattle.std.specs.Prelude.{IsTrue, IsFalse, IsErr, OnOk};
 ghost use Rattle.sector_device.specs.Image.{sector_at, with_sector};
 ghost use Rattle.sector_device.specs.Device.{AreCalls, HasCause};
 ghost use Rattle.sector_device.specs.Crash.{IsLook, IsWrite, IsDurable};
 ghost use Rattle.sector_device.specs.Wrapped.{one_more, sound_with_failures};
-ghost use Rattle.fault_injector.specs.Failing.{FailingState, Counts, Fails, HasCounted, IsPassedOn, IsHeldBack, failing_state};
+ghost use Rattle.fault_injector.specs.Failing.{FailingState, Counts, Fails, HasCounted, IsPassedOn};
+ghost use Rattle.fault_injector.specs.Failing.{IsHeldBack, failing_state};
 
 use crate::op::Op;
 use sector_device::{Device, DeviceFault, Sector};
 use std::marker::Model;
 
 /// What becomes of the call that a device waits for, and of those behind it.
-pub trait Rule: Drop {
+pub trait FaultRule: Drop {
     ghost FOR_GOOD: { Bool };
 
     ghost may_give_leave: { Bool };
@@ -30,7 +32,7 @@ pub trait Rule: Drop {
 #[derive(Debug, Default, Drop)]
 pub struct Once;
 
-impl Rule for Once {
+impl FaultRule for Once {
     ghost FOR_GOOD = { false };
 
     ghost may_give_leave = { false };
@@ -42,7 +44,7 @@ impl Rule for Once {
 #[derive(Debug, Default, Drop)]
 pub struct ForGood;
 
-impl Rule for ForGood {
+impl FaultRule for ForGood {
     ghost FOR_GOOD = { true };
 
     ghost may_give_leave = { false };
@@ -50,33 +52,35 @@ impl Rule for ForGood {
     const FOR_GOOD: bool = true;
 }
 
-/// A device that fails from one call on: the k-th call of a kind, counted from 0 since it was made, and every later
-/// call of any kind fail without reaching the inner device.
+/// A device that fails from one call on: the k-th call of a kind, counted from 0 since it was made,
+/// and every later call of any kind fail without reaching the inner device.
 pub type Fuse<D> = Failing<D, ForGood>;
 
-/// A device that fails once: the k-th call of a kind, counted from 0 since it was made, fails without reaching the
-/// inner device, and every other call is passed on.
+/// A device that fails once: the k-th call of a kind, counted from 0 since it was made, fails
+/// without reaching the inner device, and every other call is passed on.
 pub type OneFault<D> = Failing<D, Once>;
 
-/// A device that waits for the k-th call of a kind, and fails by a rule from there. It is honest exactly if the inner
-/// device is.
+/// A device that waits for the k-th call of a kind, and fails by a rule from there. It is honest
+/// exactly if the inner device is.
 #[derive(Debug, Drop)]
-pub struct Failing<D: Device, R: Rule> {
+pub struct Failing<D: Device, R: FaultRule> {
     inner: D,
     op: Op,
-    // How many calls of that kind come before the one that is waited for; None once that one was made.
+    // How many calls of that kind come before the one that is waited for; None once that one was
+    // made.
     left: Option<u64>,
     failures: u64,
     rule: R,
 }
 
-impl<D: Device, R: Rule> Model for Failing<D, R> {
+impl<D: Device, R: FaultRule> Model for Failing<D, R> {
     ghost Value = { FailingState D };
 
-    ghost view = { λ f. record { inner = f.inner; op = f.op; left = f.left; failures = f.failures } };
+    ghost view = { λ f.
+        record { inner = f.inner; op = f.op; left = f.left; failures = f.failures } };
 }
 
-impl<D: Device, R: Rule + Default> Failing<D, R> {
+impl<D: Device, R: FaultRule + Default> Failing<D, R> {
     /// A device that waits for call number `at` of that kind.
     pub fn new(inner: D, op: Op, at: u64) -> Failing<D, R>
         ensures { result ≡ record { inner = inner; op = op; left = Some at; failures = 0 } }
@@ -85,7 +89,7 @@ impl<D: Device, R: Rule + Default> Failing<D, R> {
     }
 }
 
-impl<D: Device, R: Rule> Failing<D, R> {
+impl<D: Device, R: FaultRule> Failing<D, R> {
     /// A device that waits for call number `at` of that kind, and fails by this rule.
     pub(crate) fn by_rule(inner: D, op: Op, at: u64, rule: R) -> Failing<D, R>
         ensures { result ≡ record { inner = inner; op = op; left = Some at; failures = 0 } }
@@ -133,7 +137,7 @@ impl<D: Device, R: Rule> Failing<D, R> {
     }
 }
 
-impl<D: Device, R: Rule> Device for Failing<D, R> {
+impl<D: Device, R: FaultRule> Device for Failing<D, R> {
     ghost state = { failing_state D.state };
 
     fn sectors(&self) -> u64 {
@@ -206,5 +210,6 @@ impl<D: Device, R: Rule> Device for Failing<D, R> {
         self.inner.sync()
     }
 
-    ghost sound = { λ f honest. sound_with_failures (D.state f.inner) f.failures (D.sound f.inner honest) };
+    ghost sound = { λ f honest.
+        sound_with_failures (D.state f.inner) f.failures (D.sound f.inner honest) };
 }

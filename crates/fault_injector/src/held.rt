@@ -1,6 +1,6 @@
 ghost use Rattle.std.specs.Prelude.{◌≡◌, Some, true, false};
 
-use crate::failing::{Failing, Rule};
+use crate::failing::{Failing, FaultRule};
 use crate::op::Op;
 use sector_device::Device;
 use std::alloc::Global;
@@ -16,7 +16,8 @@ pub fn held_looks_in_numbers()
     ensures { HELD_LOOKS ≡ 10000000 }
 {}
 
-/// After how many looks it lets other threads run. On a busy machine that takes milliseconds, and a look nanoseconds.
+/// After how many looks it lets other threads run. On a busy machine that takes milliseconds, and a
+/// look nanoseconds.
 const LOOKS_IN_A_ROW: u32 = 1_000;
 
 /// The two flags between a held call and whoever lets it go. Nothing is claimed of them.
@@ -49,12 +50,12 @@ impl HeldFlags {
     }
 }
 
-/// The call waits for a leave: it raises the flag `begun`, and looks for the flag `go` at most 10,000,000 times. If it
-/// sees that one it is passed on, else it alone fails.
+/// The call waits for a leave: it raises the flag `begun`, and looks for the flag `go` at most
+/// 10,000,000 times. If it sees that one it is passed on, else it alone fails.
 #[derive(Debug, Drop)]
 pub struct Leave(pub Arc<HeldFlags, Global>);
 
-impl Rule for Leave {
+impl FaultRule for Leave {
     ghost FOR_GOOD = { false };
 
     ghost may_give_leave = { true };

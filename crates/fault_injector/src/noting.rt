@@ -9,9 +9,9 @@ use sector_device::{Device, DeviceFault, Sector};
 use std::alloc::{AllocFailed, Global};
 use std::marker::Model;
 
-/// A device that notes the calls that reach it, in order, and passes each on. It has room for so many calls; those
-/// behind them are passed on and not noted. It is honest exactly if the inner device is, and counts no failure of
-/// its own.
+/// A device that notes the calls that reach it, in order, and passes each on. It has room for so
+/// many calls; those behind them are passed on and not noted. It is honest exactly if the inner
+/// device is, and counts no failure of its own.
 ///
 /// Give it more room than calls are expected: a list that is full doesn't tell of a call too many.
 #[derive(Debug, Drop)]
@@ -23,7 +23,8 @@ pub struct Noting<D: Device> {
 impl<D: Device> Model for Noting<D> {
     ghost Value = { NotingState D };
 
-    ghost view = { λ n. record { inner = n.inner; calls = n.calls.items; room = vec_capacity n.calls } };
+    ghost view = { λ n.
+        record { inner = n.inner; calls = n.calls.items; room = vec_capacity n.calls } };
 }
 
 impl<D: Device> Noting<D> {

@@ -1,6 +1,8 @@
 -- A word grows by one bit at its top.
-use Rattle.std.proofs.Common.{◌≡◌, ℕ, ◌+◌, ◌*◌, ◌%◌, ◌^◌, ◌<◌, ◌≤◌, Bool, true, false, List, [], ◌∷◌, ◌++◌, length}
-use Rattle.std.proofs.Common.{get_or, take, bit_or, refl, sym, ap, ◌∙◌, arith, take-suc, length-take-le, pow-suc}
+use Rattle.std.proofs.Common.{◌≡◌, ℕ, ◌+◌, ◌*◌, ◌%◌, ◌^◌, ◌<◌, ◌≤◌, Bool, true, false, List, []}
+use Rattle.std.proofs.Common.{◌∷◌, ◌++◌, length}
+use Rattle.std.proofs.Common.{get_or, take, bit_or, refl, sym, ap, ◌∙◌, arith, take-suc}
+use Rattle.std.proofs.Common.{length-take-le, pow-suc}
 use Rattle.std.proofs.Common.{add-one}
 use Rattle.std.specs.Int.{from_bool}
 use Rattle.std.specs.Int.Bits.{or_shifted_r}
@@ -12,7 +14,8 @@ digit-lt : (b : Bool) → digit b < 2 ^ 1
 digit-lt true = omega arith
 digit-lt false = omega arith
 
-word_of-more : (bits : List Bool) (b : Bool) → word_of (bits ++ b ∷ []) ≡ digit b * 2 ^ length bits + word_of bits
+word_of-more : (bits : List Bool) (b : Bool)
+    → word_of (bits ++ b ∷ []) ≡ digit b * 2 ^ length bits + word_of bits
 word_of-more [] b = omega arith
 word_of-more (a ∷ bits) b =
     let rest = word_of-more bits b in
@@ -25,7 +28,9 @@ from_bool-digit true = refl
 from_bool-digit false = refl
 
 -- the first i bits and one more
-pub packed_more : (bits : List Bool) (i : ℕ) → i < length bits → length bits ≤ 64 → bit_or (word_of (take i bits)) (from_bool (get_or bits i false) * 2 ^ i % 2 ^ 64) ≡ word_of (take (i + 1) bits)
+pub packed_more : (bits : List Bool) (i : ℕ) → i < length bits → length bits ≤ 64
+    → bit_or (word_of (take i bits)) (from_bool (get_or bits i false) * 2 ^ i % 2 ^ 64)
+    ≡ word_of (take (i + 1) bits)
 packed_more bits i l most =
     let front = take i bits in
     let b = get_or bits i false in

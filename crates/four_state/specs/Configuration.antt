@@ -1,6 +1,8 @@
--- The line of E. W. Dijkstra, "Self-stabilizing systems in spite of distributed control", Communications of the ACM
--- 17(11), 1974: the solution with four-state machines. Each machine is a station here.
-use Rattle.std.specs.Prelude.{◌≡◌, ℕ, ◌-◌, ◌≤◌, Bool, true, false, not, List, length, slice_index_or}
+-- The line of E. W. Dijkstra, "Self-stabilizing systems in spite of distributed control",
+-- Communications of the ACM 17(11), 1974: the solution with four-state machines. Each machine is a
+-- station here.
+use Rattle.std.specs.Prelude.{◌≡◌, ℕ, ◌-◌, ◌≤◌, Bool, true, false, not, List, length}
+use Rattle.std.specs.Prelude.{slice_index_or}
 use Rattle.std.specs.Bool.{beq}
 
 -- The bits of every station: place s of each list belongs to station s, counted from the bottom.

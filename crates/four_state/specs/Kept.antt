@@ -15,4 +15,5 @@ kept c = inside (stations c) (words_of c)
 -- what is shown of a line gives back how it is kept
 pub kept-shown : (a : Inside) → IsKept a.stations a.words → kept (shown a.stations a.words) ≡ a
 kept-shown a k =
-    ap (λ (n : ℕ). inside n (words_of (shown a.stations a.words))) k.number ∙ ap (inside a.stations) k.same_words
+    ap (λ (n : ℕ). inside n (words_of (shown a.stations a.words))) k.number
+    ∙ ap (inside a.stations) k.same_words

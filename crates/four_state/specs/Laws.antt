@@ -8,7 +8,8 @@ use Rattle.four_state.specs.declared.rules.Rule.{Rule}
 -- The list of privileges has exactly the pairs whose guard is true.
 abbrev pub ListsPrivileges : Type 0
 ListsPrivileges =
-    (c : Configuration) → IsConfiguration c → (s : ℕ) (rule : Rule) → Contains {X = ℕ × Rule} (privileges_of c) (s, rule) ↔ IsPrivilege c s rule
+    (c : Configuration) → IsConfiguration c → (s : ℕ) (rule : Rule)
+    → Contains {X = ℕ × Rule} (privileges_of c) (s, rule) ↔ IsPrivilege c s rule
 
 -- In every configuration at least one privilege is present.
 abbrev pub SomeoneIsPrivileged : Type 0

@@ -1,4 +1,5 @@
--- Marks on the boundaries between neighbors: each is one privilege, so their number is the number of privileges.
+-- Marks on the boundaries between neighbors: each is one privilege, so their number is the number
+-- of privileges.
 use Rattle.std.specs.Prelude.{ℕ, ◌+◌, ◌-◌, Bool, true, false, cond, not, ◌&&◌, List, [], ◌∷◌, map}
 use Rattle.std.specs.List.{range_with_len}
 use Rattle.four_state.specs.Configuration.{Configuration, stations, x_at, up_at, differ}

@@ -1,4 +1,5 @@
-use Rattle.std.specs.Prelude.{◌≡◌, ℕ, ◌+◌, ◌-◌, ◌==◌, Bool, not, ◌&&◌, nat_lt, List, [], ◌∷◌, map, length, Option, IsTrue}
+use Rattle.std.specs.Prelude.{◌≡◌, ℕ, ◌+◌, ◌-◌, ◌==◌, Bool, not, ◌&&◌, nat_lt, List, [], ◌∷◌, map}
+use Rattle.std.specs.Prelude.{length, Option, IsTrue}
 use Rattle.std.specs.Bool.{beq}
 use Rattle.std.specs.List.{filter, find, flat_map, range_with_len}
 use Rattle.four_state.specs.Configuration.{Configuration, stations, x_at, up_at, differ}
@@ -9,12 +10,14 @@ use Rattle.four_state.specs.declared.rules.Rule.TheVariants.{Bottom, Top, Raise,
 abbrev pub is_middle : Configuration → ℕ → Bool
 is_middle c s = nat_lt 0 s && nat_lt (s + 1) (stations c)
 
--- Dijkstra's guards: whether station s may move by this rule. s - 1 is its lower neighbor, s + 1 its upper one.
+-- Dijkstra's guards: whether station s may move by this rule. s - 1 is its lower neighbor, s + 1
+-- its upper one.
 abbrev pub guard : Configuration → ℕ → Rule → Bool
 guard c s Bottom = s == 0 && (beq (x_at c s) (x_at c (s + 1)) && not (up_at c (s + 1)))
 guard c s Top = (s + 1) == stations c && differ (x_at c s) (x_at c (s - 1))
 guard c s Raise = is_middle c s && differ (x_at c s) (x_at c (s - 1))
-guard c s Lower = is_middle c s && (beq (x_at c s) (x_at c (s + 1)) && (up_at c s && not (up_at c (s + 1))))
+guard c s Lower =
+    is_middle c s && (beq (x_at c s) (x_at c (s + 1)) && (up_at c s && not (up_at c (s + 1))))
 
 -- a privilege: a station and a rule whose guard is true
 abbrev pub IsPrivilege : Configuration → ℕ → Rule → Type 0

@@ -1,4 +1,5 @@
--- How a line is kept: the bits x in one word and the bits up in another, in which bit s is that of station s.
+-- How a line is kept: the bits x in one word and the bits up in another, in which bit s is that of
+-- station s.
 use Rattle.std.specs.Prelude.{◌≡◌, ℕ, ◌==◌, Bool, List, [], ◌∷◌, map, length, slice_index_or}
 use Rattle.std.specs.Int.{bit_at}
 use Rattle.std.specs.List.{range_with_len}
@@ -19,7 +20,8 @@ bits_of n word = map (λ s. bit_at word s == 1) (range_with_len 0 n)
 
 -- the bits of the first n stations
 abbrev pub shown : ℕ → List ℕ → Configuration
-shown n words = record { x = bits_of n (slice_index_or words 0 0); up = bits_of n (slice_index_or words 1 0) }
+shown n words =
+    record { x = bits_of n (slice_index_or words 0 0); up = bits_of n (slice_index_or words 1 0) }
 
 pub record IsKept (n : ℕ) (words : List ℕ) : Type 0 where
   pub line : IsLine (shown n words)

@@ -1,6 +1,8 @@
 //! The line itself.
 
-ghost use Rattle.std.specs.Prelude.{◌≡◌, ℕ, ◌+◌, ◌-◌, ◌<◌, ◌≤◌, ◌⊎◌, ◌↔◌, ◌≢◌, length, true, false, IsTrue, IsOk, IfOk, IsNone, IfSome, IsBitSet, slice_set, slice_index_or, map, ◌^◌};
+ghost use Rattle.std.specs.Prelude.{◌≡◌, ℕ, ◌+◌, ◌-◌, ◌<◌, ◌≤◌, ◌⊎◌, ◌↔◌, ◌≢◌, length, true, false};
+ghost use Rattle.std.specs.Prelude.{IsTrue, IsOk, IfOk, IsNone, IfSome, IsBitSet, slice_set};
+ghost use Rattle.std.specs.Prelude.{slice_index_or, map, ◌^◌};
 ghost use Rattle.std.specs.List.{Contains, range_with_len};
 ghost use Rattle.four_state.specs.Configuration.{stations, x_at, up_at, IsLine};
 ghost use Rattle.four_state.specs.Privilege.{IsPrivilege, IsLegitimate, privileges_of, choice};
@@ -57,7 +59,8 @@ impl Line {
     /// The first and the last bit of `up` are ignored: they are set to true and false.
     ///
     /// # Errors
-    /// [`LineRefusal::Stations`] unless `n` is 2 to 64; then [`LineRefusal::Length`] unless each list has `n` bits.
+    /// [`LineRefusal::Stations`] unless `n` is 2 to 64; then [`LineRefusal::Length`] unless each
+    /// list has `n` bits.
     pub fn from_bits(n: u64, x: &[bool], up: &[bool]) -> Result<Line, LineRefusal>
         ensures stations { (result ≡ Err LineRefusal.Stations) ↔ ((n < 2) ⊎ (64 < n)) }
         ensures length { (result ≡ Err LineRefusal.Length)

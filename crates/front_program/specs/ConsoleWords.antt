@@ -1,7 +1,8 @@
 -- What the words of `turn_console` ask for, in the terms of `clap`.
 use Rattle.std.specs.Prelude.{◌≡◌, ℕ, Bool, true, false, List, [], ◌∷◌, Option, None, Some, codes}
 use Rattle.std.specs.Str.Parse.{digits_value, without_leading_plus}
-use Rattle.clap.specs.Words.{App, Rule, Text, matches_of, new_app, new_rule, first_of, one_of, with_rule}
+use Rattle.clap.specs.Words.{App, Rule, Text, matches_of, new_app, new_rule, first_of, one_of}
+use Rattle.clap.specs.Words.{with_rule}
 use Rattle.clap.specs.declared.builder.action.ArgAction.TheVariants.{Set, SetTrue}
 use Rattle.clap.specs.declared.builder.value_parser.ValueParser.TheVariants as value_parser
 
@@ -10,7 +11,8 @@ abbrev pub path_option : Text → Rule
 path_option name = record (new_rule name) { long = Some name; action = Some Set; value_names = 1 }
 
 abbrev pub number_option : Text → ℕ → ℕ → Rule
-number_option name least most = record (path_option name) { parser = Some (value_parser.Unsigned least most) }
+number_option name least most =
+    record (path_option name) { parser = Some (value_parser.Unsigned least most) }
 
 abbrev pub flag_option : Text → Rule
 flag_option name = record (new_rule name) { long = Some name; action = Some SetTrue }
@@ -36,11 +38,15 @@ overwrite_option = flag_option (codes "overwrite")
 
 -- the program's command line
 abbrev pub console : App
-console = with_rule (with_rule (with_rule (with_rule (with_rule (new_app (codes "turn_console")) device_option) sectors_option) migrate_option) slots_option) overwrite_option
+console = with_rule
+    (with_rule (with_rule
+    (with_rule (with_rule (new_app (codes "turn_console")) device_option) sectors_option)
+    migrate_option) slots_option) overwrite_option
 
 -- the words ask for this number of sectors
 abbrev pub AskForSectors : List Text → ℕ → Type 0
-AskForSectors words sectors = (text : Text) × (one_of (codes "sectors") (matches_of console words) ≡ Some text)
+AskForSectors words sectors =
+    (text : Text) × (one_of (codes "sectors") (matches_of console words) ≡ Some text)
     × (sectors ≡ digits_value 10 (without_leading_plus text))
 
 -- the words ask for the device in this file, or for none
@@ -54,7 +60,8 @@ AskForMigration words old = old ≡ first_of (codes "migrate") (matches_of conso
 -- they ask for this number of slots, or for none
 abbrev pub AskForSlots : List Text → Option ℕ → Type 0
 AskForSlots words None = first_of (codes "slots") (matches_of console words) ≡ None
-AskForSlots words (Some slots) = (text : Text) × (one_of (codes "slots") (matches_of console words) ≡ Some text)
+AskForSlots words (Some slots) =
+    (text : Text) × (one_of (codes "slots") (matches_of console words) ≡ Some text)
     × (slots ≡ digits_value 10 (without_leading_plus text))
 
 -- a flag is set where its text is true, and isn't where that is false or there is none
@@ -65,4 +72,5 @@ pub record IsFlagOf (text : Option Text) (flag : Bool) : Type 0 where
 
 -- they ask for a disk to be written over, or don't
 abbrev pub AskForOverwrite : List Text → Bool → Type 0
-AskForOverwrite words overwrite = IsFlagOf (one_of (codes "overwrite") (matches_of console words)) overwrite
+AskForOverwrite words overwrite =
+    IsFlagOf (one_of (codes "overwrite") (matches_of console words)) overwrite

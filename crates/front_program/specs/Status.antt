@@ -1,4 +1,5 @@
--- By which status a program ends, for what it was refused by: by one of a rule, or by one of a failure.
+-- By which status a program ends, for what it was refused by: by one of a rule, or by one of a
+-- failure.
 use Rattle.std.specs.Prelude.{ℕ}
 use Rattle.gate_journal.specs.declared.refusals.FormatRefusal.{FormatRefusal}
 use Rattle.gate_journal.specs.declared.refusals.FormatRefusal.TheVariants as format
@@ -15,7 +16,8 @@ use Rattle.ledger_file.specs.declared.refusal.LedgerRefusal.TheVariants as ledge
 use Rattle.front_scripts.specs.declared.faults.ScriptFault.{ScriptFault}
 use Rattle.front_scripts.specs.declared.faults.ScriptFault.TheVariants as script
 use Rattle.front_program.specs.declared.status.Status.{Status}
-use Rattle.front_program.specs.declared.status.Status.TheVariants.{Done, Refused, WrongWords, Failed}
+use Rattle.front_program.specs.declared.status.Status.TheVariants.{Done, Refused, WrongWords}
+use Rattle.front_program.specs.declared.status.Status.TheVariants.{Failed}
 
 -- the status as a number, of `derbyfig`
 abbrev pub code_of : Status → ℕ
@@ -30,7 +32,8 @@ console_code_of Done = 0
 console_code_of WrongWords = 2
 console_code_of _ = 1
 
--- where memory or the device fails nothing is known of the ledger, and every other refusal says that there is none
+-- where memory or the device fails nothing is known of the ledger, and every other refusal says
+-- that there is none
 abbrev pub of_opening : OpenRefusal → Status
 of_opening opening.Memory = Failed
 of_opening opening.Device = Failed

@@ -20,8 +20,9 @@ use Rattle.front_program.specs.declared.status.Status.TheVariants.{Refused, Fail
 use Rattle.front_program.specs.declared.faults.Fault.{Fault}
 use Rattle.front_program.specs.declared.faults.Fault.TheVariants as fault
 
--- a ledger that isn't one, or isn't the archive's, a folder without an archive or that isn't for copies, a file that is
--- missing in it, or a ledger that doesn't go on where the archive ends, is a rule's matter; else something failed
+-- a ledger that isn't one, or isn't the archive's, a folder without an archive or that isn't for
+-- copies, a file that is missing in it, or a ledger that doesn't go on where the archive ends, is a
+-- rule's matter; else something failed
 abbrev pub of_archive : ArchiveFault → Status
 of_archive (archive.NoLedger path refusal) = of_opening refusal
 of_archive (archive.Foreign volume) = Refused
@@ -51,7 +52,8 @@ of_office (office.Archive inner) = of_archive inner
 of_office (office.Counters inner) = of_counters inner
 of_office _ = Failed
 
--- that no office is open, or that a client speaks there, is a rule's matter, and else something failed
+-- that no office is open, or that a client speaks there, is a rule's matter, and else something
+-- failed
 abbrev of_counter : CounterRefusal → Status
 of_counter counter.NotOpen = Refused
 of_counter counter.HasClient = Refused

@@ -130,8 +130,8 @@ const TO_MAKE: &[(Verb, CommandText)] = &[
     (Verb::Migrate, MIGRATE),
 ];
 
-// Each part has a function. One that named all three constants would be proved over all of their texts at once, which
-// are more than the prover takes.
+// Each part has a function. One that named all three constants would be proved over all of their
+// texts at once, which are more than the prover takes.
 
 fn running_commands() -> &'static [(Verb, CommandText)] {
     TO_RUN

@@ -6,8 +6,8 @@ use journal_recovery::OpenName;
 use ledger_file::{LedgerRefusal, PartFault};
 use std::fmt;
 
-/// A fault of a script, in the words of `turn_console`: why a disk is refused, but only that a file is, and by its name
-/// why no older ledger was copied.
+/// A fault of a script, in the words of `turn_console`: why a disk is refused, but only that a file
+/// is, and by its name why no older ledger was copied.
 #[derive(Clone, Copy, Debug)]
 pub(crate) struct ToldByConsole<'a>(pub Fault<'a>);
 

@@ -17,11 +17,11 @@ use std::io::{Read, Write};
 use std::sync::Wait;
 use std::thread::Threads;
 
-/// Runs the program and gives its status: 0 if the script ran to its end, or help was asked for, 1 after a fault, 2
-/// after wrong words. The first of the words is the program's name. A file that is the device is opened, made and grown
-/// before the script is read; a part of a ledger, or one of another version, isn't grown. Answers go to the writer,
-/// what is told of faults and wrong words to `errors`, of which a fault is ignored. It may wait if the script has a
-/// day.
+/// Runs the program and gives its status: 0 if the script ran to its end, or help was asked for, 1
+/// after a fault, 2 after wrong words. The first of the words is the program's name. A file that is
+/// the device is opened, made and grown before the script is read; a part of a ledger, or one of
+/// another version, isn't grown. Answers go to the writer, what is told of faults and wrong words
+/// to `errors`, of which a fault is ignored. It may wait if the script has a day.
 pub fn run_program<
     F: Files<File = File> + AllocGlobal + Threads + Wait + Sync,
     R: Read,
@@ -29,8 +29,8 @@ pub fn run_program<
     E: Write,
 >(rt: &F, words: &[&str], reader: &mut R, writer: &mut W, errors: &mut E) -> u8
     ensures status { result ≤ 2 }
-    // of a reader whose bytes are known: no line of the script is wrong, or nothing was read, as where help was asked
-    // for
+    // of a reader whose bytes are known: no line of the script is wrong, or nothing was read, as
+    // where help was asked for
     ensures sound { result ≡ 0 → (reader.new ≡ reader.old)
         ⊎ IfSome (R.remaining reader.old) (λ bytes. first_fault 1 (lines bytes) ≡ None) }
 {

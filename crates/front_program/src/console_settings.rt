@@ -1,8 +1,9 @@
 //! What `turn_console` is asked for.
-ghost use Rattle.std.specs.Prelude.{◌≡◌, ◌↔◌, ◌⊎◌, None, Some, false, IsSome, IsTrue, IfOk, IfSome, Err, option_map};
+ghost use Rattle.std.specs.Prelude.{◌≡◌, ◌↔◌, ◌⊎◌, None, Some, false, IsSome, IsTrue, IfOk, IfSome};
+ghost use Rattle.std.specs.Prelude.{Err, option_map};
 ghost use Rattle.front_program.specs.ConsoleSettings.{IsPlanOf, NamesOnePath};
 
-use crate::request::{OlderLedger, ScriptFile, ScriptOptions};
+use crate::invocation::{OlderLedger, ScriptFile, ScriptOptions};
 use crate::wrong_words::WrongWords;
 use std::num::NonZeroU64;
 

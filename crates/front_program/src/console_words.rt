@@ -1,10 +1,13 @@
 //! The words of `turn_console`.
-ghost use Rattle.std.specs.Prelude.{◌≡◌, ◌≤◌, None, false, IfOk, IfErr, IfSome, length, map, option_map};
+ghost use Rattle.std.specs.Prelude.{◌≡◌, ◌≤◌, None, false, IfOk, IfErr, IfSome, length, map};
+ghost use Rattle.std.specs.Prelude.{option_map};
 ghost use Rattle.std.specs.Int.NonZero.{non_zero_u64_get};
 ghost use Rattle.clap.specs.Values.{kind_of};
 ghost use Rattle.clap.specs.Words.{app_of, rule_of};
 ghost use Rattle.clap.specs.declared.error.kind.ErrorKind.TheVariants.{OutOfMemory};
-ghost use Rattle.front_program.specs.ConsoleWords.{AskForSectors, AskForDevice, AskForMigration, AskForOverwrite, AskForSlots, console, sectors_option};
+ghost use Rattle.front_program.specs.ConsoleWords.{AskForSectors, AskForDevice, AskForMigration};
+ghost use Rattle.front_program.specs.ConsoleWords.{AskForOverwrite, AskForSlots, console};
+ghost use Rattle.front_program.specs.ConsoleWords.{sectors_option};
 
 use crate::console_settings::Options;
 use crate::option_table::{SECTORS, SLOTS, flag, non_zero, option};
@@ -44,8 +47,8 @@ An example script, which shows that a deposit survives a power loss:
 /// What `clap` tells before this is met.
 const OUT_OF_RANGE: &str = "a number is out of range";
 
-/// What `clap` reads from the program's words, of which the first is the program's name; or what it answers to wrong
-/// words, to the wish for help, and if there is no memory.
+/// What `clap` reads from the program's words, of which the first is the program's name; or what it
+/// answers to wrong words, to the wish for help, and if there is no memory.
 ///
 /// # Errors
 /// What `clap` answers to wrong words, to the wish for help, and out of memory.
@@ -57,7 +60,8 @@ pub fn options<'a>(alloc: Global, words: &'a [&'a str]) -> Result<Options<'a>, E
     ensures device { let asked = map (λ word. word.now) words.entry.now in
         IfOk result (λ options. AskForDevice asked (option_map (λ path. path.now) options.device)) }
     ensures migrate { let asked = map (λ word. word.now) words.entry.now in
-        IfOk result (λ options. AskForMigration asked (option_map (λ path. path.now) options.migrate)) }
+        IfOk result (λ options.
+        AskForMigration asked (option_map (λ path. path.now) options.migrate)) }
     ensures slots { let asked = map (λ word. word.now) words.entry.now in
         IfOk result (λ options. AskForSlots asked (option_map non_zero_u64_get options.slots)) }
     ensures overwrite { let asked = map (λ word. word.now) words.entry.now in

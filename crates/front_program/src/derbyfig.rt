@@ -5,14 +5,14 @@ ghost use Rattle.clap.specs.declared.error.kind.ErrorKind.TheVariants.{DisplayHe
 ghost use Rattle.front_program.specs.Statuses.{of_inspection, status_of};
 
 use crate::faults::Fault;
+use crate::invocation::{CopyOptions, Invocation, Origin};
 use crate::office_plan::plan_office;
-use crate::request::{CopyOptions, Origin, Request};
 use crate::running::{run_on_device, say};
 use crate::status::Status;
 use crate::telling::{tell, tell_words, tell_wrong, unwritten};
-use crate::words::read_request;
+use crate::words::read_invocation;
 use clap::Error;
-use device_files::{Locking, ReadOnlyFile};
+use device_files::{LockMode, ReadOnlyFile};
 use ledger_counters::{RosterPath, is_disk, remove_roster, take_along};
 use ledger_file::{CopyPlace, FormatOptions, Original, format_ledger, open_for_copy};
 use ledger_folder::{AddedBatches, ArchiveOptions, archive, newest_of};
@@ -24,12 +24,13 @@ use std::fmt;
 use std::fs::{File, Files};
 use std::io::{Read, Write};
 use std::time::Clock;
-use text_streams::Watched;
+use text_streams::WatchedWriter;
 
-/// Runs the program and gives its status, as [`Status::code`] has it. The first of the words is the program's name. A
-/// script, and what the terminal of an office says, come from the input of the surroundings. Answers go to the writer,
-/// what is told of faults and wrong words to `errors`, of which a fault is ignored; so does the progress of long work,
-/// if it is to be shown. The call may wait.
+/// Runs the program and gives its status, as [`Status::code`] has it. The first of the words is the
+/// program's name. A script, and what the terminal of an office says, come from the input of the
+/// surroundings. Answers go to the writer, what is told of faults and wrong words to `errors`, of
+/// which a fault is ignored; so does the progress of long work, if it is to be shown. The call may
+/// wait.
 pub fn run_derbyfig<
     R: Runtime,
     I: Read + Send + Drop + 'static,
@@ -48,28 +49,28 @@ pub fn run_derbyfig<
     ensures { result ≤ 3 }
 {
     let alloc = rt.alloc();
-    let request = match read_request(alloc, words) {
+    let request = match read_invocation(alloc, words) {
         Ok(request) => request,
         Err(error) => return tell_error(alloc, error, writer, errors).code(),
     };
     let mut reporter = Reporter { rt, writer };
     let outcome = match request {
-        Request::Serve(serving) => {
+        Invocation::Serve(serving) => {
             return serve_counters(rt, &serving, surroundings, reporter.writer, errors).code();
         }
-        Request::Inspect(wish) => {
+        Invocation::Inspect(wish) => {
             let is_check = matches!(wish.task, Task::Check { .. });
             let looked = inspect(rt, &wish, reporter.writer, errors, shows_progress);
             return ended_looking(alloc, is_check, looked, errors).code();
         }
-        Request::Run(running) => {
+        Invocation::Run(running) => {
             run_on_device(rt, running, &mut surroundings.input, reporter.writer)
         }
-        Request::Close { counter, seconds } => reporter.close(counter, seconds),
-        Request::Status { counter } => reporter.tell_status(counter),
-        Request::Format { path, formatting } => reporter.make(path, formatting),
-        Request::Copy(copying) => reporter.copy(copying),
-        Request::Archive(archiving) => reporter.add_to_archive(archiving),
+        Invocation::Close { counter, seconds } => reporter.close(counter, seconds),
+        Invocation::Status { counter } => reporter.tell_status(counter),
+        Invocation::Format { path, formatting } => reporter.make(path, formatting),
+        Invocation::Copy(copying) => reporter.copy(copying),
+        Invocation::Archive(archiving) => reporter.add_to_archive(archiving),
     };
     ended(alloc, outcome, errors).code()
 }
@@ -182,8 +183,8 @@ impl<R: Files<File = File> + AllocGlobal + Clock + Clone + Drop, W: Write> Repor
         self.say(format_args!("{done} {}", copying.formatting.slots))
     }
 
-    // What is to be copied, which is found sound first, so that nothing is made if it isn't. Of an archive, which is
-    // all found sound, it is the newest file.
+    // What is to be copied, which is found sound first, so that nothing is made if it isn't. Of an
+    // archive, which is all found sound, it is the newest file.
     fn original<'a>(
         &self,
         copying: CopyOptions<'a>,
@@ -207,7 +208,7 @@ impl<R: Files<File = File> + AllocGlobal + Clock + Clone + Drop, W: Write> Repor
 
     // A ledger that is to be copied.
     fn opened<'a>(&self, path: &'a str) -> Result<ReadOnlyFile, Fault<'a>> {
-        ReadOnlyFile::open(self.rt, self.rt.alloc(), path, Locking::Shared).map_err(
+        ReadOnlyFile::open(self.rt, self.rt.alloc(), path, LockMode::Shared).map_err(
             |fault| Fault::of_source(path, fault),
         )
     }
@@ -238,8 +239,8 @@ impl<R: Files<File = File> + AllocGlobal + Clock + Clone + Drop, W: Write> Repor
         }
     }
 
-    // A new ledger has the counters that are kept there, and has them before it is one: without them an office would
-    // give their stations to others. A disk has no file beside it.
+    // A new ledger has the counters that are kept there, and has them before it is one: without
+    // them an office would give their stations to others. A disk has no file beside it.
     fn counters_first<'a>(
         &self,
         place: CopyPlace<'a, File>,
@@ -260,7 +261,8 @@ impl<R: Files<File = File> + AllocGlobal + Clock + Clone + Drop, W: Write> Repor
         }
     }
 
-    // The counters of a copy that was made and removed again are removed too, as far as the system lets them.
+    // The counters of a copy that was made and removed again are removed too, as far as the system
+    // lets them.
     fn forget_counters(&self, is_made: bool, new: &str) {
         if is_made && !is_disk(self.rt, new) {
             let _ = remove_roster(self.rt, RosterPath::Beside(new));
@@ -284,7 +286,7 @@ pub(crate) fn tell_error<W: Write, E: Write>(
     ensures wrong { kind_of error ≢ DisplayHelp → kind_of error ≢ DisplayVersion
         → (result ≡ Status.WrongWords) ⊎ (result ≡ Status.Failed) }
 {
-    let mut output = Watched::over(writer);
+    let mut output = WatchedWriter::over(writer);
     match tell_words(alloc, error, &mut output, errors) {
         Ok(status) => status,
         Err(_) => unwritten(alloc, output.is_closed(), errors),

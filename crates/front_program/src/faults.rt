@@ -60,7 +60,8 @@ pub enum Fault<'a> {
     /// The counters of a ledger can't be taken along.
     #[error("{0}")]
     Counters(#[from] CountersFault<'a>),
-    /// A ledger, or several as one book, wasn't inspected to its end; or an archive that is to be restored isn't sound.
+    /// A ledger, or several as one book, wasn't inspected to its end; or an archive that is to be
+    /// restored isn't sound.
     #[error("{0}")]
     Inspection(#[from] InspectionFault<'a>),
 }

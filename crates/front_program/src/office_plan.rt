@@ -1,17 +1,18 @@
 //! Whether the words that ask for an office go together, and what is worked out of them.
-ghost use Rattle.std.specs.Prelude.{◌≡◌, ◌≢◌, ◌≤◌, ◌<◌, ◌+◌, ◌↔◌, length, None, option_map, unwrap_or, IsTrue, IfOk, IfErr, IfSome, Err};
+ghost use Rattle.std.specs.Prelude.{◌≡◌, ◌≢◌, ◌≤◌, ◌<◌, ◌+◌, ◌↔◌, length, None, option_map};
+ghost use Rattle.std.specs.Prelude.{unwrap_or, IsTrue, IfOk, IfErr, IfSome, Err};
 ghost use Rattle.front_program.specs.ServeOptions.{counters_of, fewest_of, stations_of};
 
 use crate::wrong_words::WrongWords;
 use four_state::{FEWEST_STATIONS, MOST_STATIONS};
 use ledger_file::FormatOptions;
-use office_service::{Plan, ServeOptions};
+use office_service::{OfficePlan, ServeOptions};
 
 /// What is worked out of what is asked of an office, if the words go together.
 ///
 /// # Errors
 /// [`WrongWords`], the first that holds.
-pub fn plan_office(serving: &ServeOptions<'_>) -> Result<Plan, WrongWords>
+pub fn plan_office(serving: &ServeOptions<'_>) -> Result<OfficePlan, WrongWords>
     ensures some { IfOk result (λ plan. 2 ≤ plan.stations) }
     ensures enough { IfOk result (λ plan. counters_of serving.now ≤ plan.stations) }
     ensures stations { IfOk result (λ plan. plan.stations ≡ stations_of serving.now) }
@@ -27,13 +28,14 @@ pub fn plan_office(serving: &ServeOptions<'_>) -> Result<Plan, WrongWords>
         ↔ ((1 ≤ counters_of serving.now) × (counters_of serving.now ≤ 64)
         × (stations_of serving.now < fewest_of serving.now)) }
 {
-    Ok(Plan {
+    Ok(OfficePlan {
         stations: stations_wanted(serving)?,
         formatting: formatting(serving)?,
     })
 }
 
-// How many stations the office has: as many as are asked for, and else one for each counter, but two at least.
+// How many stations the office has: as many as are asked for, and else one for each counter, but
+// two at least.
 fn stations_wanted(serving: &ServeOptions<'_>) -> Result<u64, WrongWords>
     ensures some { IfOk result (λ stations. 2 ≤ stations) }
     ensures enough { IfOk result (λ stations. length serving.now.counters.items ≤ stations) }

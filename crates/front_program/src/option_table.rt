@@ -1,4 +1,5 @@
-//! Options with a number, each with its name and its limits, and how options of other kinds are made.
+//! Options with a number, each with its name and its limits, and how options of other kinds are
+//! made.
 ghost use Rattle.std.specs.Prelude.{◌≡◌, ◌≤◌, ℕ, List, None, Some, false, IfOk, IfSome, option_map};
 ghost use Rattle.std.specs.Int.NonZero.{non_zero_u64_get};
 ghost use Rattle.std.specs.Str.Parse.{digits_value, without_leading_plus};

@@ -8,8 +8,8 @@ ghost use Rattle.journal_recovery.specs.Older.{OldRecoveryRefuses};
 ghost use Rattle.journal_recovery.specs.Postings.{MayHoldPostings};
 
 use crate::faults::Fault;
-use crate::request::{OlderLedger, ScriptFile, ScriptOptions};
-use device_files::{FileDevice, FileFault, Making};
+use crate::invocation::{OlderLedger, ScriptFile, ScriptOptions};
+use device_files::{Creation, FileDevice, FileFault};
 use front_scripts::{ScriptFault, run_script};
 use journal_recovery::{MigrateRefusal, OpenRefusal, may_hold_postings, migrate};
 use ledger_counters::{RosterPath, note_script};
@@ -26,8 +26,9 @@ use text_streams::write_all;
 /// How many sectors a device in memory has, unless that is said.
 const IN_MEMORY: u64 = 64;
 
-/// Runs a script on the device that is asked for. A file has to be there, unless it is said how many sectors it has:
-/// then it is made and grown before the script is read, but a part of a ledger, or one of another version, isn't grown.
+/// Runs a script on the device that is asked for. A file has to be there, unless it is said how
+/// many sectors it has: then it is made and grown before the script is read, but a part of a
+/// ledger, or one of another version, isn't grown.
 ///
 /// # Errors
 /// [`Fault`].
@@ -67,8 +68,8 @@ fn opened<'a, F: Files<File = File> + AllocGlobal>(
     let path = file.path;
     let opened = match sectors {
         Some(sectors) if file.overwrite => FileDevice::overwrite(rt, rt.alloc(), path, sectors),
-        Some(sectors) => open_for_script(rt, path, sectors, Making::IfMissing),
-        None => open_for_script(rt, path, 0, Making::Never),
+        Some(sectors) => open_for_script(rt, path, sectors, Creation::IfMissing),
+        None => open_for_script(rt, path, 0, Creation::Never),
     };
     opened.map_err(|fault| unopened(path, fault))
 }
@@ -77,8 +78,8 @@ fn unopened(path: &str, fault: FileFault) -> Fault<'_> {
     Fault::of_ledger(path, LedgerRefusal::from(fault))
 }
 
-// The device that an older ledger was copied onto, which is said. The older one is opened first, so that no other file
-// is made where it can't be.
+// The device that an older ledger was copied onto, which is said. The older one is opened first, so
+// that no other file is made where it can't be.
 fn upgraded<'a, F: Files<File = File> + AllocGlobal, W: Write>(
     rt: &F,
     file: ScriptFile<'a>,
@@ -101,9 +102,9 @@ fn upgraded<'a, F: Files<File = File> + AllocGlobal, W: Write>(
     Ok(device)
 }
 
-/// Copies the ledger of an older device onto one that holds no postings, which is handed back, and lets go of the older
-/// one. Where the other may hold postings, nothing is written to it, nothing read of the older one, and there is no
-/// answer.
+/// Copies the ledger of an older device onto one that holds no postings, which is handed back, and
+/// lets go of the older one. Where the other may hold postings, nothing is written to it, nothing
+/// read of the older one, and there is no answer.
 ///
 /// # Errors
 /// As of [`migrate`].
@@ -127,7 +128,8 @@ pub(crate) fn migrate_onto<D: Device + Drop, E: Device + Drop>(
         → refusal ≢ OpenRefusal.Memory → refusal ≢ OpenRefusal.Device
         → OldRecoveryRefuses (D.state old).reads refusal }
     ensures migrated { (D.state old).honest → (E.state device).honest
-        → IfSome result.1 (λ made. OnOk made (IsMigrated slots (D.state old).reads (E.state result.0))) }
+        → IfSome result.1
+        (λ made. OnOk made (IsMigrated slots (D.state old).reads (E.state result.0))) }
 {
     let (mut device, may_hold) = may_hold_postings(alloc, device);
     let refusal = match may_hold {

@@ -49,7 +49,8 @@ impl Status {
     }
 }
 
-/// Where memory or the device fails, nothing is known; every other refusal says that there is no ledger.
+/// Where memory or the device fails, nothing is known; every other refusal says that there is no
+/// ledger.
 impl From<OpenRefusal> for Status {
     ghost use Rattle.std.specs.Prelude.{◌≡◌};
     ghost use Rattle.front_program.specs.Status.{of_opening};

@@ -1,7 +1,8 @@
 //! What a program tells on standard error.
 ghost use Rattle.std.specs.Prelude.{◌≡◌, ◌≢◌, ◌⊎◌, true, false, Ok, IfOk, IsOk};
 ghost use Rattle.clap.specs.Values.{kind_of};
-ghost use Rattle.clap.specs.declared.error.kind.ErrorKind.TheVariants.{DisplayHelp, DisplayVersion, OutOfMemory};
+ghost use Rattle.clap.specs.declared.error.kind.ErrorKind.TheVariants.{DisplayHelp, DisplayVersion};
+ghost use Rattle.clap.specs.declared.error.kind.ErrorKind.TheVariants.{OutOfMemory};
 
 use crate::status::Status;
 use clap::Error;
@@ -79,8 +80,8 @@ pub(crate) fn tell_words<W: Write, E: Write>(
     Ok(Status::Done)
 }
 
-/// How a program ends that couldn't write its output to the end: well if the output's reader went away, since it has
-/// what it wanted; else it tells that, and failed.
+/// How a program ends that couldn't write its output to the end: well if the output's reader went
+/// away, since it has what it wanted; else it tells that, and failed.
 pub(crate) fn unwritten<E: Write>(alloc: Global, is_closed: bool, errors: &mut E) -> Status
     ensures closed { is_closed ≡ true → result ≡ Status.Done }
     ensures failed { is_closed ≡ false → result ≡ Status.Failed }

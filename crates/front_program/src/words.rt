@@ -1,17 +1,17 @@
 //! The words of `derbyfig`.
 ghost use Rattle.std.specs.Prelude.{◌≤◌, IfOk};
 ghost use Rattle.std.specs.Int.NonZero.{non_zero_u64_get};
-ghost use Rattle.front_program.specs.Requests.{IsWithin};
+ghost use Rattle.front_program.specs.Invocations.{IsWithin};
 
 use crate::commands::{Verb, derbyfig_command};
+use crate::invocation::{CopyOptions, Invocation, Origin, ScriptFile, ScriptOptions};
 use crate::option_table::{
     ACCOUNT, AT, FORMAT, FROM, REFERENCE, SECONDS, SECTORS, SLOTS, STATIONS, non_zero,
 };
-use crate::request::{CopyOptions, Origin, Request, ScriptFile, ScriptOptions};
 use crate::wrong_words::WrongWords;
 use clap::error::ErrorKind;
 use clap::{ArgMatches, Error};
-use device_files::Locking;
+use device_files::LockMode;
 use ledger_counters::{is_name, name_of};
 use ledger_file::FormatOptions;
 use ledger_folder::ArchiveOptions;
@@ -19,12 +19,12 @@ use ledger_inspection::{Date, Format, Inspection, JournalWish, Selection, Task};
 use office_service::{CounterFolder, ServeOptions, TERMINAL};
 use std::alloc::{AllocError, Global};
 
-/// What the words ask for, of which the first is the program's name; or what `clap` answers to wrong words, to the wish
-/// for help or the version, and if there is no memory.
+/// What the words ask for, of which the first is the program's name; or what `clap` answers to
+/// wrong words, to the wish for help or the version, and if there is no memory.
 ///
 /// # Errors
 /// What `clap` answers to wrong words, to the wish for help or the version, and out of memory.
-pub fn read_request<'a>(alloc: Global, words: &'a [&'a str]) -> Result<Request<'a>, Error>
+pub fn read_invocation<'a>(alloc: Global, words: &'a [&'a str]) -> Result<Invocation<'a>, Error>
     ensures within { IfOk result IsWithin }
 {
     let mut command = derbyfig_command(alloc)?;
@@ -39,7 +39,7 @@ pub fn read_request<'a>(alloc: Global, words: &'a [&'a str]) -> Result<Request<'
     }
 }
 
-fn requested<'a>(alloc: Global, matches: &ArgMatches<'a>) -> Result<Request<'a>, WrongWords>
+fn requested<'a>(alloc: Global, matches: &ArgMatches<'a>) -> Result<Invocation<'a>, WrongWords>
     ensures within { IfOk result IsWithin }
 {
     let (name, options) = matches.subcommand().ok_or(WrongWords::Undeclared)?;
@@ -47,7 +47,7 @@ fn requested<'a>(alloc: Global, matches: &ArgMatches<'a>) -> Result<Request<'a>,
         Verb::Run => running(options),
         Verb::Serve => serving(alloc, options),
         Verb::Close => closing(options),
-        Verb::Status => Ok(Request::Status {
+        Verb::Status => Ok(Invocation::Status {
             counter: path(options, "COUNTER")?,
         }),
         Verb::Check => {
@@ -70,7 +70,7 @@ fn path<'a>(options: &ArgMatches<'a>, name: &str) -> Result<&'a str, WrongWords>
     options.get_str(name).ok_or(WrongWords::Undeclared)
 }
 
-fn running<'a>(options: &ArgMatches<'a>) -> Result<Request<'a>, WrongWords>
+fn running<'a>(options: &ArgMatches<'a>) -> Result<Invocation<'a>, WrongWords>
     ensures within { IfOk result IsWithin }
 {
     let file = options.get_str("FILE").map(|path| ScriptFile {
@@ -80,10 +80,10 @@ fn running<'a>(options: &ArgMatches<'a>) -> Result<Request<'a>, WrongWords>
         noted: true,
     });
     let sectors = SECTORS.given(options)?;
-    Ok(Request::Run(ScriptOptions { file, sectors }))
+    Ok(Invocation::Run(ScriptOptions { file, sectors }))
 }
 
-fn serving<'a>(alloc: Global, options: &ArgMatches<'a>) -> Result<Request<'a>, WrongWords>
+fn serving<'a>(alloc: Global, options: &ArgMatches<'a>) -> Result<Invocation<'a>, WrongWords>
     ensures within { IfOk result IsWithin }
 {
     let path = path(options, "FILE")?;
@@ -91,7 +91,7 @@ fn serving<'a>(alloc: Global, options: &ArgMatches<'a>) -> Result<Request<'a>, W
     let stations = STATIONS.given(options)?;
     let format = non_zero(FORMAT.given(options)?);
     let terminal = options.get_flag("terminal");
-    Ok(Request::Serve(ServeOptions {
+    Ok(Invocation::Serve(ServeOptions {
         path,
         sectors,
         counters: counters(alloc, options, terminal)?,
@@ -144,18 +144,18 @@ fn add_counter<'a>(
 // How long an office may take to close, unless that is said.
 const PATIENCE: u64 = 60;
 
-fn closing<'a>(options: &ArgMatches<'a>) -> Result<Request<'a>, WrongWords>
+fn closing<'a>(options: &ArgMatches<'a>) -> Result<Invocation<'a>, WrongWords>
     ensures within { IfOk result IsWithin }
 {
     let counter = path(options, "COUNTER")?;
     let seconds = SECONDS.given(options)?.unwrap_or(PATIENCE);
-    Ok(Request::Close { counter, seconds })
+    Ok(Invocation::Close { counter, seconds })
 }
 
-fn making<'a>(options: &ArgMatches<'a>) -> Result<Request<'a>, WrongWords>
+fn making<'a>(options: &ArgMatches<'a>) -> Result<Invocation<'a>, WrongWords>
     ensures within { IfOk result IsWithin }
 {
-    Ok(Request::Format {
+    Ok(Invocation::Format {
         path: path(options, "FILE")?,
         formatting: formatting(options)?,
     })
@@ -172,14 +172,14 @@ fn formatting(options: &ArgMatches<'_>) -> Result<FormatOptions, WrongWords>
 }
 
 // What is to be copied, but not onto itself.
-fn copying<'a>(options: &ArgMatches<'a>, origin: Origin) -> Result<Request<'a>, WrongWords>
+fn copying<'a>(options: &ArgMatches<'a>, origin: Origin) -> Result<Invocation<'a>, WrongWords>
     ensures within { IfOk result IsWithin }
 {
     let (old, path) = (path(options, origin.word())?, path(options, "NEW")?);
     if old == path {
         return Err(WrongWords::NewIs(origin));
     }
-    Ok(Request::Copy(CopyOptions {
+    Ok(Invocation::Copy(CopyOptions {
         old,
         origin,
         path,
@@ -187,10 +187,10 @@ fn copying<'a>(options: &ArgMatches<'a>, origin: Origin) -> Result<Request<'a>, 
     }))
 }
 
-fn archiving<'a>(options: &ArgMatches<'a>) -> Result<Request<'a>, WrongWords>
+fn archiving<'a>(options: &ArgMatches<'a>) -> Result<Invocation<'a>, WrongWords>
     ensures within { IfOk result IsWithin }
 {
-    Ok(Request::Archive(ArchiveOptions {
+    Ok(Invocation::Archive(ArchiveOptions {
         ledger: path(options, "LEDGER")?,
         folder: path(options, "FOLDER")?,
     }))
@@ -200,21 +200,21 @@ fn looking<'a>(
     alloc: Global,
     options: &ArgMatches<'a>,
     task: Task,
-) -> Result<Request<'a>, WrongWords>
+) -> Result<Invocation<'a>, WrongWords>
     ensures within { IfOk result IsWithin }
 {
-    Ok(Request::Inspect(Inspection {
+    Ok(Invocation::Inspect(Inspection {
         paths: files(alloc, options)?,
         locking: locking(options),
         task,
     }))
 }
 
-fn locking(options: &ArgMatches<'_>) -> Locking {
+fn locking(options: &ArgMatches<'_>) -> LockMode {
     if options.get_flag("unlocked") {
-        Locking::Unlocked
+        LockMode::Unlocked
     } else {
-        Locking::Shared
+        LockMode::Shared
     }
 }
 

@@ -1,9 +1,10 @@
 //! What is wrong with words that `clap` let through.
-use crate::request::Origin;
+use crate::invocation::Origin;
 use std::alloc::AllocFailed;
 use thiserror::Error;
 
-/// What is wrong with words, or why they don't go together. Of those that don't, the first that holds is answered.
+/// What is wrong with words, or why they don't go together. Of those that don't, the first that
+/// holds is answered.
 #[derive(Clone, Copy, Debug, PartialEq, Eq, Error)]
 pub enum WrongWords {
     /// There is no memory.

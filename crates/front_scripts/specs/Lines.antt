@@ -11,7 +11,9 @@ abbrev pub this_or_later : ℕ → Option LineFault → Option ScriptFault → O
 this_or_later number (Some cause) later = Some (Line number cause)
 this_or_later number None later = later
 
--- the fault of the first line that is none of the grammar, where the first one of these lines has this number
+-- the fault of the first line that is none of the grammar, where the first one of these lines has
+-- this number
 abbrev pub first_fault : ℕ → List (List ℕ) → Option ScriptFault
 first_fault number [] = None
-first_fault number (line ∷ more) = this_or_later number (line_fault (words_of line)) (first_fault (number + 1) more)
+first_fault number (line ∷ more) =
+    this_or_later number (line_fault (words_of line)) (first_fault (number + 1) more)

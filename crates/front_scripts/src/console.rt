@@ -31,7 +31,8 @@ pub enum Console<D: Device> {
 }
 
 impl<D: PowerLoss + Drop> Console<D> {
-    /// Runs a command and prints what it answers. A fault is that of the output, or running out of memory in a day.
+    /// Runs a command and prints what it answers. A fault is that of the output, or running out of
+    /// memory in a day.
     pub fn run<W: Write, R: Threads + Wait + Sync>(
         mut self,
         rt: &R,

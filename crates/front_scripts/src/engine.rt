@@ -15,8 +15,9 @@ use std::thread::Threads;
 use text_grammar::{Lines, read_command};
 use text_streams::{Output, SCRIPT_LIMIT, read_script};
 
-/// Reads a script whole and runs its lines on the device; what a line answers is printed to the writer. A line that is
-/// none of the grammar ends it; what earlier lines printed stands. It may wait if the script has a day.
+/// Reads a script whole and runs its lines on the device; what a line answers is printed to the
+/// writer. A line that is none of the grammar ends it; what earlier lines printed stands. It may
+/// wait if the script has a day.
 ///
 /// # Errors
 /// [`ScriptFault`]: the first wrong line, or why the script can't be read or its answers written.
@@ -27,7 +28,8 @@ pub fn run_script<H: Threads + Wait + Sync, R: Read, W: Write, D: PowerLoss + Dr
     writer: &mut W,
     device: D,
 ) -> Result<(), ScriptFault>
-    // of a reader whose bytes are known: no line of the script is wrong, or a line is told that is the first wrong one
+    // of a reader whose bytes are known: no line of the script is wrong, or a line is told that is
+    // the first wrong one
     ensures sound { OnOk result (IfSome (R.remaining reader.old) (λ bytes.
         first_fault 1 (lines bytes) ≡ None)) }
     ensures line { IfErr result (λ fault. (line : ℕ) (cause : LineFault) → fault ≡ Line line cause

@@ -1,8 +1,10 @@
-//! The engine of scripts: it runs a script of commands over a clerk on a device, and prints what they answer.
+//! The engine of scripts: it runs a script of commands over a clerk on a device, and prints what
+//! they answer.
 //!
 //! [`run_script`] runs a script on a device that is handed in.
 //!
-//! The test `a_deposit_survives_a_power_loss` in `src/scripts.rt` of the crate `test_examples` is an example.
+//! The test `a_deposit_survives_a_power_loss` in `src/scripts.rt` of the crate `test_examples` is
+//! an example.
 #![tactic(auto)]
 
 mod console;

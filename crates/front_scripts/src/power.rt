@@ -9,8 +9,8 @@ use std::alloc::Global;
 
 /// A device whose power the script's line `crash` can cut.
 pub trait PowerLoss: Device + Send {
-    /// The device after a power loss: it reads as one of the images that the loss may leave, and counts no failure for
-    /// it.
+    /// The device after a power loss: it reads as one of the images that the loss may leave, and
+    /// counts no failure for it.
     fn lose_power(self, alloc: Global) -> Self
         ensures call { AreCalls (Self.state self) (Self.state result) ⊥ }
         ensures left { (Self.state self).honest
@@ -20,7 +20,8 @@ pub trait PowerLoss: Device + Send {
 impl PowerLoss for MemoryDevice {
     ghost use Rattle.sector_device.specs.MemoryDevice.{memory_device_state, IsPendingIn, HasPicks};
 
-    /// Sectors that weren't synced keep what was last written: one of the images that a power loss may leave.
+    /// Sectors that weren't synced keep what was last written: one of the images that a power loss
+    /// may leave.
     fn lose_power(self, alloc: Global) -> Self
         ensures call { AreCalls (memory_device_state self) (memory_device_state result) ⊥ }
         ensures left { (memory_device_state self).honest

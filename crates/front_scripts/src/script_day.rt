@@ -37,8 +37,8 @@ pub enum NoDay<D: Device> {
 }
 
 impl<D: Device + Send + Drop> ScriptedClerk<D> {
-    /// Lets the stations take so many turns, each in a thread of its own, with what is held for them. What has no
-    /// answer then is held again.
+    /// Lets the stations take so many turns, each in a thread of its own, with what is held for
+    /// them. What has no answer then is held again.
     pub fn day<R: Threads + Wait + Sync>(
         self,
         rt: &R,

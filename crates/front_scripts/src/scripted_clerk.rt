@@ -12,8 +12,8 @@ use text_grammar::Bits;
 use turn_clerk::{Clerk, Turn, TurnRefusal};
 use turn_ledger::{Entry, Ledger};
 
-/// A clerk on a device, and for each station of its line the entries that are held for its turn. The clerk stands on
-/// the heap, since a console is handed on from command to command.
+/// A clerk on a device, and for each station of its line the entries that are held for its turn.
+/// The clerk stands on the heap, since a console is handed on from command to command.
 #[derive(Drop)]
 pub struct ScriptedClerk<D: Device> {
     pub(crate) clerk: Box<Clerk<D>>,
@@ -34,7 +34,8 @@ impl<D: Device> Model for ScriptedClerk<D> {
 }
 
 impl<D: Device> ScriptedClerk<D> {
-    /// Opens a clerk on the device, with a line of these bits, or tells why not and hands the device back.
+    /// Opens a clerk on the device, with a line of these bits, or tells why not and hands the
+    /// device back.
     pub fn open(
         alloc: Global,
         device: D,
@@ -71,8 +72,8 @@ impl<D: Device> ScriptedClerk<D> {
         }
     }
 
-    /// Takes the turn of a station with what it holds, which is empty then; the turn is the last of the history. A
-    /// refused turn leaves what is held.
+    /// Takes the turn of a station with what it holds, which is empty then; the turn is the last of
+    /// the history. A refused turn leaves what is held.
     pub fn turn(&mut self, station: u64) -> Result<(), TurnRefusal> {
         let station = station_number(station);
         let Some(held) = self.held.get_mut(station as usize) else {
@@ -116,8 +117,8 @@ impl<D: Device> ScriptedClerk<D> {
     }
 }
 
-// The station that a script's number means to a clerk. A line has 64 stations at most, so a number over 255 is that of
-// no station, and so is 255.
+// The station that a script's number means to a clerk. A line has 64 stations at most, so a number
+// over 255 is that of no station, and so is 255.
 fn station_number(number: u64) -> u8
     ensures { result ≡ min number 255 }
 {

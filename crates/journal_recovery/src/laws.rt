@@ -15,9 +15,9 @@ ghost use Rattle.journal_recovery.specs.declared.refusals.Cause.TheVariants.{Ban
 
 use gate_journal::{one_old_reading, one_reading};
 
-/// An image recovers to at most one state, and if it does no refusal holds of it; of any image at most one refusal
-/// holds. So `recover` answers `Ok` on an honest device exactly if what reads give recovers to a state, out of memory
-/// and device faults apart.
+/// An image recovers to at most one state, and if it does no refusal holds of it; of any image at
+/// most one refusal holds. So `recover` answers `Ok` on an honest device exactly if what reads give
+/// recovers to a state, out of memory and device faults apart.
 pub fn one_recovery()
     ensures state { (image : Image) (s t : State) → RecoversTo s image → RecoversTo t image
         → s ≡ t }
@@ -29,9 +29,9 @@ pub fn one_recovery()
     one_reading();
 }
 
-/// In what an image recovers to each account is sealed that the live bank's snapshot marks, with the balance that it
-/// has there; and behind the marks stand zeros. Where another byte stands there, or the balances are over the limit
-/// together, the bank is what is damaged.
+/// In what an image recovers to each account is sealed that the live bank's snapshot marks, with
+/// the balance that it has there; and behind the marks stand zeros. Where another byte stands
+/// there, or the balances are over the limit together, the bank is what is damaged.
 pub fn seals_are_recovered()
     ensures no_spare { (image : Image) (slots : ℕ) (live : LiveBank) (contents : BankContents)
         (s : State) → ReadsAs image slots live contents → RecoversTo s image
@@ -49,9 +49,9 @@ pub fn seals_are_recovered()
     one_reading();
 }
 
-/// The same of layouts 1 and 2: an image recovers to at most one state, if it does no refusal holds of it, and of any
-/// image at most one refusal holds. So what `read_old` answers on an honest device is determined by what reads give,
-/// want of memory and device faults apart.
+/// The same of layouts 1 and 2: an image recovers to at most one state, if it does no refusal holds
+/// of it, and of any image at most one refusal holds. So what `read_old` answers on an honest
+/// device is determined by what reads give, want of memory and device faults apart.
 pub fn one_old_recovery()
     ensures state { (image : Image) (s t : State) → OldRecoversTo s image → OldRecoversTo t image
         → s ≡ t }

@@ -1,8 +1,8 @@
-//! What a device holds, as a ledger: the journal is opened, and its records are posted in order to the balances of its
-//! snapshot.
+//! What a device holds, as a ledger: the journal is opened, and its records are posted in order to
+//! the balances of its snapshot.
 //!
-//! The test `an_acknowledged_deposit_outlives_a_power_loss` in `src/recovery.rt` of the crate `test_examples` is an
-//! example.
+//! The test `an_acknowledged_deposit_outlives_a_power_loss` in `src/recovery.rt` of the crate
+//! `test_examples` is an example.
 #![tactic(auto)]
 
 mod copying;

@@ -10,8 +10,9 @@ use gate_journal::begins_as_journal;
 use sector_device::{Device, DeviceFault};
 use std::alloc::Global;
 
-/// Whether a device may hold postings that writing over it would lose: it begins as a journal does, of any layout,
-/// damaged or not, and isn't a ledger of the present layout whose next sequence is 0. It is only read, and handed back.
+/// Whether a device may hold postings that writing over it would lose: it begins as a journal does,
+/// of any layout, damaged or not, and isn't a ledger of the present layout whose next sequence is
+/// 0. It is only read, and handed back.
 ///
 /// # Errors
 /// `Memory` and `Device` alone.

@@ -4,8 +4,9 @@ use gate_journal::{JournalCause, JournalRefusal};
 use std::fmt;
 use thiserror::Error;
 
-/// Why a device was not opened as a ledger. Out of memory is answered before any device call; of the others the first
-/// that holds of the device's image, and a device call that fails ends the opening where it is met.
+/// Why a device was not opened as a ledger. Out of memory is answered before any device call; of
+/// the others the first that holds of the device's image, and a device call that fails ends the
+/// opening where it is met.
 #[derive(Clone, Copy, Debug, PartialEq, Eq, Error)]
 pub enum OpenRefusal {
     /// There is no memory for the ledger. The device wasn't called.
@@ -17,10 +18,12 @@ pub enum OpenRefusal {
     /// The journal has another layout than 3: this one.
     #[error("its ledger has version {0}, which isn't known")]
     Version(u16),
-    /// The superblock tells of no slots or of more than 1,000,000, or the device has too few sectors for them.
+    /// The superblock tells of no slots or of more than 1,000,000, or the device has too few
+    /// sectors for them.
     #[error("its number of slots is out of range, or it is too short for them")]
     Size,
-    /// A slot, counted from 0 in the live bank, or a bank, is damaged: the first that is, for this cause.
+    /// A slot, counted from 0 in the live bank, or a bank, is damaged: the first that is, for this
+    /// cause.
     #[error("damage at {slot}: {cause}")]
     Damaged { slot: u64, cause: Cause },
     /// A call of the device failed; nothing is known of the journal.
@@ -28,8 +31,8 @@ pub enum OpenRefusal {
     Device,
 }
 
-/// What is wrong with a slot, or, for `Bank`, with a bank, whose number then stands in the place of the slot's. Places
-/// are counted from 0.
+/// What is wrong with a slot, or, for `Bank`, with a bank, whose number then stands in the place of
+/// the slot's. Places are counted from 0.
 #[derive(Clone, Copy, Debug, PartialEq, Eq, Error)]
 pub enum Cause {
     /// The gate is open and the body's bytes are no record.
@@ -41,8 +44,9 @@ pub enum Cause {
     /// The gate is open, and that of a slot before it isn't.
     #[error("a slot is open behind a closed one")]
     Tail,
-    /// No bank's gate is open, the head of an open one isn't sound, both are open with the same epoch, or the live
-    /// one's balances are over the limit together, or behind its marks stands a byte that isn't zero.
+    /// No bank's gate is open, the head of an open one isn't sound, both are open with the same
+    /// epoch, or the live one's balances are over the limit together, or behind its marks stands a
+    /// byte that isn't zero.
     #[error("a bank isn't sound, or none is live")]
     Bank,
     /// The bytes at this place of the record are those of no entry.
@@ -53,7 +57,8 @@ pub enum Cause {
     Verdict(u8),
 }
 
-/// The name of a refused opening, as the output of a script has it: its variant's, with its numbers behind it.
+/// The name of a refused opening, as the output of a script has it: its variant's, with its numbers
+/// behind it.
 #[derive(Clone, Copy, Debug)]
 pub struct OpenName(pub OpenRefusal);
 

@@ -1,7 +1,8 @@
 -- What is wrong with the counters of a ledger.
 use Rattle.std.specs.Prelude.{Bool, true, false}
 use Rattle.ledger_counters.specs.declared.refusal.RosterFault.{RosterFault}
-use Rattle.ledger_counters.specs.declared.refusal.RosterFault.TheVariants.{Memory, Unread, Unwritten, NoName, Full}
+use Rattle.ledger_counters.specs.declared.refusal.RosterFault.TheVariants.{Memory, Unread}
+use Rattle.ledger_counters.specs.declared.refusal.RosterFault.TheVariants.{Unwritten, NoName, Full}
 
 -- a rule refuses it, unless memory, a read or a write failed
 abbrev pub is_refusal : RosterFault → Bool

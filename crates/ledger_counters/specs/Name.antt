@@ -7,7 +7,8 @@ IsFromTo first last byte = (first ≤ byte) × (byte ≤ last)
 
 -- a letter or a digit of ASCII, - or _
 abbrev pub IsNameByte : ℕ → Type 0
-IsNameByte byte = IsFromTo 48 57 byte ⊎ IsFromTo 65 90 byte ⊎ IsFromTo 97 122 byte ⊎ (byte ≡ 45) ⊎ (byte ≡ 95)
+IsNameByte byte =
+    IsFromTo 48 57 byte ⊎ IsFromTo 65 90 byte ⊎ IsFromTo 97 122 byte ⊎ (byte ≡ 45) ⊎ (byte ≡ 95)
 
 -- 1 to 64 of them
 pub record IsName (text : List ℕ) : Type 0 where

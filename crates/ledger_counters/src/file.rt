@@ -1,7 +1,7 @@
 //! The files of rosters.
 use crate::place::RosterPath;
 use crate::refusal::{CountersFault, RosterFault};
-use crate::roster::{Left, Roster};
+use crate::roster::{LastUse, Roster};
 use std::fs::{File, Files};
 use std::io::{ErrorKind, Read, Write};
 use std::{fs, io};
@@ -117,8 +117,8 @@ fn remove<R: Files<File = File> + AllocGlobal>(
     }
 }
 
-/// A copy of a ledger has the same counters: what is kept at the first place is kept at the second one too, and nothing
-/// if nothing is.
+/// A copy of a ledger has the same counters: what is kept at the first place is kept at the second
+/// one too, and nothing if nothing is.
 ///
 /// # Errors
 /// [`CountersFault`].
@@ -143,7 +143,7 @@ pub fn note_script<'a, R: Files<File = File> + AllocGlobal>(
 ) -> Result<(), CountersFault<'a>> {
     match read_roster(rt, place)? {
         Some(mut roster) => {
-            roster.leave(Left::Script);
+            roster.leave(LastUse::Script);
             write_roster(rt, place, &roster)
         }
         None => Ok(()),

@@ -1,7 +1,7 @@
-//! A roster as the text of its file: a line for its kind, one for the ledger, one for the batch from which on only
-//! offices posted, one for how it was left, and one for each counter.
+//! A roster as the text of its file: a line for its kind, one for the ledger, one for the batch
+//! from which on only offices posted, one for how it was left, and one for each counter.
 use crate::refusal::RosterFault;
-use crate::roster::{Left, Roster};
+use crate::roster::{LastUse, Roster};
 use std::alloc::Global;
 use std::fmt;
 
@@ -11,12 +11,12 @@ const KIND: &str = "derbyfig counters 1";
 /// How many lines stand before those of the counters.
 const FIRST_LINES: u64 = 4;
 
-impl fmt::Display for Left {
+impl fmt::Display for LastUse {
     fn fmt<W: fmt::Write>(&self, f: &mut fmt::Formatter<W>) -> fmt::Result {
         match self {
-            Left::Open(number) => write!(f, "open {number}"),
-            Left::Closed(number) => write!(f, "closed {number}"),
-            Left::Script => f.write_str("script"),
+            LastUse::Open(number) => write!(f, "open {number}"),
+            LastUse::Closed(number) => write!(f, "closed {number}"),
+            LastUse::Script => f.write_str("script"),
         }
     }
 }
@@ -86,12 +86,12 @@ fn number_of(line: Option<&str>, word: &str) -> Option<u64> {
 }
 
 // How a line says that the ledger was left.
-fn left_of(line: Option<&str>) -> Option<Left> {
+fn left_of(line: Option<&str>) -> Option<LastUse> {
     if line? == "script" {
-        return Some(Left::Script);
+        return Some(LastUse::Script);
     }
     match number_of(line, "open ") {
-        Some(number) => Some(Left::Open(number)),
-        None => Some(Left::Closed(number_of(line, "closed ")?)),
+        Some(number) => Some(LastUse::Open(number)),
+        None => Some(LastUse::Closed(number_of(line, "closed ")?)),
     }
 }

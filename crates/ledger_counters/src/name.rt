@@ -19,8 +19,8 @@ fn is_name_byte(byte: u8) -> bool
     byte.is_ascii_alphanumeric() || byte == b'-' || byte == b'_'
 }
 
-/// The name and the folder of a counter: `NAME=PATH`, or a path whose last part is the name. What stands before a `=`
-/// names the counter only if it has no `/`.
+/// The name and the folder of a counter: `NAME=PATH`, or a path whose last part is the name. What
+/// stands before a `=` names the counter only if it has no `/`.
 pub fn name_of(word: &str) -> (&str, &str) {
     match word.split_once('=') {
         Some((name, folder)) if !name.contains('/') => (name, folder),

@@ -6,7 +6,8 @@ use std::{fmt, fs};
 /// Where the counters of a ledger are kept.
 #[derive(Clone, Copy, Debug, PartialEq, Eq)]
 pub enum RosterPath<'a> {
-    /// In a file beside the ledger of this path, whose name is the ledger's with `.counters` behind it.
+    /// In a file beside the ledger of this path, whose name is the ledger's with `.counters` behind
+    /// it.
     Beside(&'a str),
     /// In the file `counters` of this folder, which is an archive's.
     Inside(&'a str),

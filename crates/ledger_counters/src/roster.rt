@@ -1,5 +1,8 @@
 //! Which station each counter has, and from which batch on only offices posted.
-ghost use Rattle.std.specs.Prelude.{◌≡◌, ◌<◌, ◌≤◌, ◌++◌, ◌∷◌, [], min, map, true, false, bytes_eq, HoldsAt, All, IsNone, length, string_bytes, slice_get, Contains, Some, None, Err, IfOk, IfErr, IfSome, IsTrue, OnOk, OnErr};
+ghost use Rattle.std.specs.Prelude.{◌≡◌, ◌<◌, ◌≤◌, ◌++◌, ◌∷◌, [], min, map, true, false, bytes_eq};
+ghost use Rattle.std.specs.Prelude.{HoldsAt, All, IsNone, length, string_bytes, slice_get};
+ghost use Rattle.std.specs.Prelude.{Contains, Some, None, Err, IfOk, IfErr, IfSome, IsTrue, OnOk};
+ghost use Rattle.std.specs.Prelude.{OnErr};
 ghost use Rattle.ledger_counters.specs.Faults.{IsOfSeat};
 ghost use Rattle.ledger_counters.specs.Name.{IsName};
 ghost use Rattle.ledger_counters.specs.Seats.{Seats, IsAsLeft};
@@ -14,8 +17,9 @@ pub const MOST_COUNTERS: usize = 64;
 
 /// How a ledger was left.
 #[derive(Clone, Copy, Debug, PartialEq, Eq)]
-pub enum Left {
-    /// An office was opened when the next batch had this number, and didn't tell that it was closed.
+pub enum LastUse {
+    /// An office was opened when the next batch had this number, and didn't tell that it was
+    /// closed.
     Open(u64),
     /// An office was closed when the next batch had this number.
     Closed(u64),
@@ -29,7 +33,7 @@ pub struct Roster {
     /// A number by which the ledger is told from others.
     ledger: u64,
     since: u64,
-    left: Left,
+    left: LastUse,
     names: Vec<String>,
 }
 
@@ -50,18 +54,18 @@ impl Model for Roster {
 }
 
 impl Roster {
-    /// No counter yet, of the ledger with this number, whose next batch has that one: what stands before it is no
-    /// counter's.
+    /// No counter yet, of the ledger with this number, whose next batch has that one: what stands
+    /// before it is no counter's.
     pub fn new(alloc: Global, ledger: u64, next: u64) -> Roster
         ensures nobody { result.names ≡ [] }
         ensures since { result.since ≡ next }
-        ensures left { result.left ≡ Left.Open next }
+        ensures left { result.left ≡ LastUse.Open next }
         ensures ledger { result.ledger ≡ ledger }
     {
         Roster {
             ledger,
             since: next,
-            left: Left::Open(next),
+            left: LastUse::Open(next),
             names: Vec::new(alloc),
         }
     }
@@ -82,7 +86,7 @@ impl Roster {
     }
 
     /// How the ledger was left.
-    pub fn left(&self) -> Left
+    pub fn left(&self) -> LastUse
         ensures { result ≡ self.now.left }
     {
         let Roster { left, .. } = self;
@@ -105,7 +109,8 @@ impl Roster {
         station_in(self.names.as_slice(), name)
     }
 
-    /// The station of the counter with this name: its own, and that of a new one is the next that no counter has.
+    /// The station of the counter with this name: its own, and that of a new one is the next that
+    /// no counter has.
     ///
     /// # Errors
     /// [`RosterFault`], `NoName`, `Full` or `Memory`; nothing has changed then.
@@ -114,7 +119,8 @@ impl Roster {
         ensures known { Contains self.old.names name.now → self.new.names ≡ self.old.names }
         ensures new { (Contains self.old.names name.now → ⊥) → IfOk result (λ station.
             self.new.names ≡ self.old.names ++ name.now ∷ []) }
-        ensures named { (Contains self.old.names name.now → ⊥) → IfOk result (λ station. IsName name.now) }
+        ensures named { (Contains self.old.names name.now → ⊥)
+            → IfOk result (λ station. IsName name.now) }
         ensures no_name { result ≡ Err RosterFault.NoName
             → (IsName name.now → ⊥) × (Contains self.old.names name.now → ⊥) }
         ensures full { result ≡ Err RosterFault.Full
@@ -157,12 +163,12 @@ impl Roster {
         Ok(station as u8)
     }
 
-    /// An office is opened on the ledger, whose next batch has this number. If that isn't as an office left it, what
-    /// stands before the next batch is no counter's.
+    /// An office is opened on the ledger, whose next batch has this number. If that isn't as an
+    /// office left it, what stands before the next batch is no counter's.
     pub fn settle(&mut self, next: u64)
         ensures as_left { IsAsLeft self.old.left next → self.new.since ≡ min self.old.since next }
         ensures changed { (IsAsLeft self.old.left next → ⊥) → self.new.since ≡ next }
-        ensures left { self.new.left ≡ Left.Open next }
+        ensures left { self.new.left ≡ LastUse.Open next }
         ensures names { self.new.names ≡ self.old.names }
         ensures ledger { self.new.ledger ≡ self.old.ledger }
     {
@@ -170,11 +176,11 @@ impl Roster {
             self.since = next;
         }
         self.since = self.since.min(next);
-        self.left = Left::Open(next);
+        self.left = LastUse::Open(next);
     }
 
     /// How the ledger is left now.
-    pub fn leave(&mut self, left: Left)
+    pub fn leave(&mut self, left: LastUse)
         ensures left { self.new.left ≡ left }
         ensures since { self.new.since ≡ self.old.since }
         ensures names { self.new.names ≡ self.old.names }
@@ -185,14 +191,14 @@ impl Roster {
 }
 
 // Whether the next batch has the number that an office left.
-fn is_as_left(left: Left, next: u64) -> bool
+fn is_as_left(left: LastUse, next: u64) -> bool
     ensures yes { IsTrue result → IsAsLeft left next }
     ensures no { result ≡ false → IsAsLeft left next → ⊥ }
 {
     match left {
-        Left::Open(number) => number <= next,
-        Left::Closed(number) => number == next,
-        Left::Script => false,
+        LastUse::Open(number) => number <= next,
+        LastUse::Closed(number) => number == next,
+        LastUse::Script => false,
     }
 }
 
@@ -215,7 +221,8 @@ fn place_of(names: &[String], name: &str) -> Option<usize>
     ensures within { IfSome result (λ place. place < length names.now) }
     ensures some { IfSome result (λ place.
         HoldsAt (λ one. bytes_eq (string_bytes one) name.now ≡ true) names.now place) }
-    ensures none { IsNone result → All (λ one. bytes_eq (string_bytes one) name.now ≡ false) names.now }
+    ensures none { IsNone result
+        → All (λ one. bytes_eq (string_bytes one) name.now ≡ false) names.now }
 {
     names.iter().position(|one| one.as_str() == name)
 }

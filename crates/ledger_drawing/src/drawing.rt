@@ -3,7 +3,7 @@ ghost use Rattle.std.specs.Prelude.{◌≡◌, Err};
 ghost use Rattle.sector_device.specs.Crash.{AreLooks};
 
 use crate::faults::DrawFault;
-use crate::kind::Kind;
+use crate::kind::SectorKind;
 use crate::map::Map;
 use crate::place::Place;
 use crate::section::{COLUMNS, Section};
@@ -41,10 +41,11 @@ const SECTIONS_AT: u64 = 124;
 /// How high a heading is with the room before it.
 const HEADING: u64 = 24;
 
-/// Draws the sectors of a device as a picture in SVG: what each is, which gates are open, which bank is live, and in
-/// red the sector of the damage. Each part of the layout begins with a row of its own. Of more than 4,096 sectors
-/// neighbours of one part are drawn as one cell, which is red if one of them is damaged, and else a record if one of
-/// them is. The device is only read; the memory doesn't grow with its sectors.
+/// Draws the sectors of a device as a picture in SVG: what each is, which gates are open, which
+/// bank is live, and in red the sector of the damage. Each part of the layout begins with a row of
+/// its own. Of more than 4,096 sectors neighbours of one part are drawn as one cell, which is red
+/// if one of them is damaged, and else a record if one of them is. The device is only read; the
+/// memory doesn't grow with its sectors.
 ///
 /// # Errors
 /// A read failed, the drawing can't be written, or out of memory.
@@ -126,7 +127,7 @@ fn print_legend<W: Write>(output: &mut Output<'_, W>) -> Result<(), StreamFault>
         "<rect class=\"live\" x=\"{LEFT}\" y=\"{LEGEND_AT}\" width=\"4\" height=\"28\"/>"
     ))?;
     output.line(format_args!("<text class=\"faint\" x=\"26\" y=\"102\">the live bank</text>"))?;
-    for (index, kind) in Kind::ALL.iter().enumerate() {
+    for (index, kind) in SectorKind::ALL.iter().enumerate() {
         let (row, column) = (index as u64 / 5, index as u64 % 5);
         let (x, y) = (KINDS_AT + KIND_WIDTH * column, KIND_HEIGHT * row);
         print_kind(*kind, x, y.saturating_add(LEGEND_AT), output)?;
@@ -136,7 +137,7 @@ fn print_legend<W: Write>(output: &mut Output<'_, W>) -> Result<(), StreamFault>
 
 // One kind of the legend.
 fn print_kind<W: Write>(
-    kind: Kind,
+    kind: SectorKind,
     x: u64,
     y: u64,
     output: &mut Output<'_, W>,

@@ -3,7 +3,7 @@ use std::fmt;
 
 /// What a sector is drawn as. Of the sectors that one cell stands for the greatest is drawn.
 #[derive(Clone, Copy, Debug, PartialEq, Eq, PartialOrd, Ord)]
-pub(crate) enum Kind {
+pub(crate) enum SectorKind {
     Unknown,
     Unused,
     ClosedGate,
@@ -18,52 +18,52 @@ pub(crate) enum Kind {
     Damaged,
 }
 
-impl Kind {
+impl SectorKind {
     /// All kinds, in the order of the legend.
-    pub(crate) const ALL: [Kind; 10] = [
-        Kind::Damaged,
-        Kind::Superblock,
-        Kind::Head,
-        Kind::Snapshot,
-        Kind::Record,
-        Kind::OpenGate,
-        Kind::Free,
-        Kind::ClosedGate,
-        Kind::Unused,
-        Kind::Unknown,
+    pub(crate) const ALL: [SectorKind; 10] = [
+        SectorKind::Damaged,
+        SectorKind::Superblock,
+        SectorKind::Head,
+        SectorKind::Snapshot,
+        SectorKind::Record,
+        SectorKind::OpenGate,
+        SectorKind::Free,
+        SectorKind::ClosedGate,
+        SectorKind::Unused,
+        SectorKind::Unknown,
     ];
 
     /// What the legend says of it.
     pub(crate) fn label(self) -> &'static str {
         match self {
-            Kind::Damaged => "damaged",
-            Kind::Superblock => "superblock",
-            Kind::Head => "head of a bank",
-            Kind::Snapshot => "snapshot",
-            Kind::Record => "body, record",
-            Kind::OpenGate => "gate, open",
-            Kind::Free => "body, free",
-            Kind::ClosedGate => "gate, closed",
-            Kind::Unused => "not used",
-            Kind::Unknown => "not known",
+            SectorKind::Damaged => "damaged",
+            SectorKind::Superblock => "superblock",
+            SectorKind::Head => "head of a bank",
+            SectorKind::Snapshot => "snapshot",
+            SectorKind::Record => "body, record",
+            SectorKind::OpenGate => "gate, open",
+            SectorKind::Free => "body, free",
+            SectorKind::ClosedGate => "gate, closed",
+            SectorKind::Unused => "not used",
+            SectorKind::Unknown => "not known",
         }
     }
 }
 
 /// The name of its class in the style.
-impl fmt::Display for Kind {
+impl fmt::Display for SectorKind {
     fn fmt<W: fmt::Write>(&self, f: &mut fmt::Formatter<W>) -> fmt::Result {
         f.write_str(match self {
-            Kind::Damaged => "damaged",
-            Kind::Superblock => "superblock",
-            Kind::Head => "head",
-            Kind::Snapshot => "snapshot",
-            Kind::Record => "record",
-            Kind::OpenGate => "open",
-            Kind::Free => "free",
-            Kind::ClosedGate => "closed",
-            Kind::Unused => "unused",
-            Kind::Unknown => "unknown",
+            SectorKind::Damaged => "damaged",
+            SectorKind::Superblock => "superblock",
+            SectorKind::Head => "head",
+            SectorKind::Snapshot => "snapshot",
+            SectorKind::Record => "record",
+            SectorKind::OpenGate => "open",
+            SectorKind::Free => "free",
+            SectorKind::ClosedGate => "closed",
+            SectorKind::Unused => "unused",
+            SectorKind::Unknown => "unknown",
         })
     }
 }

@@ -1,9 +1,11 @@
-//! Where on a device the damage is that an opening was refused for, and a picture of the device's sectors.
+//! Where on a device the damage is that an opening was refused for, and a picture of the device's
+//! sectors.
 //!
-//! [`locate`] looks a second time at a device of layout 1, 2 or 3 and finds the sector and the byte. [`draw`] draws the
-//! sectors, with that one in red. Nothing is written.
+//! [`locate`] looks a second time at a device of layout 1, 2 or 3 and finds the sector and the
+//! byte. [`draw`] draws the sectors, with that one in red. Nothing is written.
 //!
-//! The test `damaged_heads_are_found` in `src/drawings.rt` of the crate `test_examples` is an example.
+//! The test `damaged_heads_are_found` in `src/drawings.rt` of the crate `test_examples` is an
+//! example.
 #![tactic(auto)]
 
 mod banks;

@@ -3,7 +3,7 @@ ghost use Rattle.std.specs.Prelude.{◌≡◌, ◌≢◌, ◌⊎◌, ◌↔◌, 
 ghost use Rattle.sector_device.specs.Crash.{AreLooks};
 ghost use Rattle.ledger_drawing.specs.Damage.{HasDamage};
 
-use crate::kind::Kind;
+use crate::kind::SectorKind;
 use crate::place::Place;
 use crate::section::{COLUMNS, Heading, Section};
 use crate::sectors::{find_live, find_plan, read_gate};
@@ -11,7 +11,8 @@ use gate_journal::{Bank, Plan};
 use sector_device::{Device, DeviceFault};
 use std::fmt;
 
-/// The most cells of slots, but for the last one of each bank, or of a device without a known layout.
+/// The most cells of slots, but for the last one of each bank, or of a device without a known
+/// layout.
 const MOST_CELLS: u64 = 4096;
 
 /// A device that is drawn.
@@ -116,17 +117,17 @@ impl Map {
         device: &mut D,
         from: u64,
         to: u64,
-    ) -> Result<Kind, DeviceFault>
+    ) -> Result<SectorKind, DeviceFault>
         ensures looks { AreLooks (D.state device.old) (D.state device.new) (IsErr result) }
-        ensures damaged { IfOk result (λ kind. (kind ≡ Kind.Damaged) ↔ HasDamage self.now.damage from to) }
+        ensures damaged { IfOk result (λ kind. (kind ≡ SectorKind.Damaged) ↔ HasDamage self.now.damage from to) }
     {
         if self.is_damaged(from, to) {
-            return Ok(Kind::Damaged);
+            return Ok(SectorKind::Damaged);
         }
         match self.plan {
-            Some(_) if from >= self.used() => Ok(Kind::Unused),
+            Some(_) if from >= self.used() => Ok(SectorKind::Unused),
             Some(plan) => greatest_kind(device, plan, from, to),
-            None => Ok(Kind::Unknown),
+            None => Ok(SectorKind::Unknown),
         }
     }
 
@@ -140,7 +141,8 @@ impl Map {
     }
 }
 
-/// What the drawing is of: the layout, the number of slots and of sectors, and how many of these one cell stands for.
+/// What the drawing is of: the layout, the number of slots and of sectors, and how many of these
+/// one cell stands for.
 impl fmt::Display for Map {
     fn fmt<W: fmt::Write>(&self, f: &mut fmt::Formatter<W>) -> fmt::Result {
         write_plan(self.plan, f)?;
@@ -176,11 +178,11 @@ fn greatest_kind<D: Device>(
     plan: Plan,
     from: u64,
     to: u64,
-) -> Result<Kind, DeviceFault>
+) -> Result<SectorKind, DeviceFault>
     ensures looks { AreLooks (D.state device.old) (D.state device.new) (IsErr result) }
-    ensures not_damaged { IfOk result (λ kind. kind ≢ Kind.Damaged) }
+    ensures not_damaged { IfOk result (λ kind. kind ≢ SectorKind.Damaged) }
 {
-    let mut greatest = Kind::Unused;
+    let mut greatest = SectorKind::Unused;
     for sector in from..to {
         greatest = greatest.max(read_kind(device, plan, sector)?);
     }
@@ -188,27 +190,32 @@ fn greatest_kind<D: Device>(
 }
 
 // The kind of one sector.
-fn read_kind<D: Device>(device: &mut D, plan: Plan, sector: u64) -> Result<Kind, DeviceFault>
+fn read_kind<D: Device>(device: &mut D, plan: Plan, sector: u64) -> Result<SectorKind, DeviceFault>
     ensures looks { AreLooks (D.state device.old) (D.state device.new) (IsErr result) }
-    ensures not_damaged { IfOk result (λ kind. kind ≢ Kind.Damaged) }
+    ensures not_damaged { IfOk result (λ kind. kind ≢ SectorKind.Damaged) }
 {
     if sector == 0 {
-        return Ok(Kind::Superblock);
+        return Ok(SectorKind::Superblock);
     }
     let Some(within) = within_bank(plan, sector - 1) else {
-        return Ok(Kind::Unused);
+        return Ok(SectorKind::Unused);
     };
     let front = plan.layout.front;
     if within >= front && (within - front) % 2 == 0 {
-        return kind_by_gate(device, sector.saturating_add(1), Kind::Record, Kind::Free);
+        return kind_by_gate(
+            device,
+            sector.saturating_add(1),
+            SectorKind::Record,
+            SectorKind::Free,
+        );
     }
     if within == 0 || within >= front {
-        return kind_by_gate(device, sector, Kind::OpenGate, Kind::ClosedGate);
+        return kind_by_gate(device, sector, SectorKind::OpenGate, SectorKind::ClosedGate);
     }
     Ok(if within == 1 {
-        Kind::Head
+        SectorKind::Head
     } else {
-        Kind::Snapshot
+        SectorKind::Snapshot
     })
 }
 
@@ -216,9 +223,9 @@ fn read_kind<D: Device>(device: &mut D, plan: Plan, sector: u64) -> Result<Kind,
 fn kind_by_gate<D: Device>(
     device: &mut D,
     gate: u64,
-    if_open: Kind,
-    if_closed: Kind,
-) -> Result<Kind, DeviceFault>
+    if_open: SectorKind,
+    if_closed: SectorKind,
+) -> Result<SectorKind, DeviceFault>
     ensures looks { AreLooks (D.state device.old) (D.state device.new) (IsErr result) }
     ensures one { IfOk result (λ kind. (kind ≡ if_open) ⊎ (kind ≡ if_closed)) }
 {
@@ -228,7 +235,8 @@ fn kind_by_gate<D: Device>(
     Ok(if_closed)
 }
 
-// How many sectors of its bank stand before the one that stands so many behind the superblock's, if it is in a bank.
+// How many sectors of its bank stand before the one that stands so many behind the superblock's, if
+// it is in a bank.
 fn within_bank(plan: Plan, behind: u64) -> Option<u64> {
     let size = plan.bank_sectors();
     if behind < size {

@@ -7,7 +7,8 @@ use std::fmt;
 /// A byte of a device.
 #[derive(Clone, Copy, Debug, PartialEq, Eq)]
 pub struct Place {
-    /// The number of the bank that the sector is in, 0 or 1. Sector 0 is in none, and layout 1 has none.
+    /// The number of the bank that the sector is in, 0 or 1. Sector 0 is in none, and layout 1 has
+    /// none.
     pub bank: Option<u8>,
     /// The slot whose body or gate the sector is, counted from 0 in its bank, if it is one.
     pub slot: Option<u64>,
@@ -19,8 +20,8 @@ pub struct Place {
 }
 
 impl Place {
-    /// The number of the byte in a file, in which sector k begins at byte 512·k. If it doesn't fit into 64 bits, which
-    /// is so of no device that has a layout, the answer is `2^64 - 1`.
+    /// The number of the byte in a file, in which sector k begins at byte 512·k. If it doesn't fit
+    /// into 64 bits, which is so of no device that has a layout, the answer is `2^64 - 1`.
     pub fn offset(self) -> u64
         ensures { self.sector * 512 + self.byte < 2 ^ 64
             → result ≡ self.sector * 512 + self.byte }

@@ -1,5 +1,6 @@
 -- What a first sector says decides whether its file is a part of a ledger, and why.
-use Rattle.std.proofs.Common.{◌≡◌, ◌≢◌, ◌≤◌, ◌<◌, ◌+◌, ◌*◌, ℕ, List, inr, refl, sym, ◌∙◌, ap, subst, arith}
+use Rattle.std.proofs.Common.{◌≡◌, ◌≢◌, ◌≤◌, ◌<◌, ◌+◌, ◌*◌, ℕ, List, inr, refl, sym, ◌∙◌, ap, subst}
+use Rattle.std.proofs.Common.{arith}
 use Rattle.std.specs.Prelude.{◌↔◌, ◌⊎◌, Option, None, Some, IfSome, IfNone}
 use Rattle.gate_journal.specs.Layout.{IsOfVersion, IsSuperblock, in_use}
 use Rattle.gate_journal.specs.declared.first_sector.FirstSector.{FirstSector}
@@ -11,42 +12,60 @@ use Rattle.ledger_file.specs.Plan.{TellsSlots, IsPart, IsForeign, IsWhole}
 -- what is said of a first sector, both ways
 pub record IsSaid (bytes : List ℕ) (said : FirstSector) : Type 0 where
   pub no_journal : (said ≡ says.NoJournal) ↔ IsForeign bytes
-  pub other_version : (version : ℕ) → (said ≡ says.OtherVersion version) ↔ (IsOfVersion bytes version × (version ≢ in_use.version))
-  pub unsound : (said ≡ says.Unsound) ↔ (IsOfVersion bytes in_use.version × ((slots : ℕ) → IsSuperblock bytes in_use.version slots → 1 ≤ slots → slots ≤ 1000000 → ⊥))
-  pub journal : (slots : ℕ) → (said ≡ says.Journal slots) ↔ (IsSuperblock bytes in_use.version slots × (1 ≤ slots) × (slots ≤ 1000000))
+  pub other_version : (version : ℕ)
+      → (said ≡ says.OtherVersion version)
+      ↔ (IsOfVersion bytes version × (version ≢ in_use.version))
+  pub unsound : (said ≡ says.Unsound)
+      ↔ (IsOfVersion bytes in_use.version
+      × ((slots : ℕ) → IsSuperblock bytes in_use.version slots → 1 ≤ slots → slots ≤ 1000000 → ⊥))
+  pub journal : (slots : ℕ)
+      → (said ≡ says.Journal slots)
+      ↔ (IsSuperblock bytes in_use.version slots × (1 ≤ slots) × (slots ≤ 1000000))
 
 -- which said sector makes a file a part of a ledger, and why
 abbrev pub IsCause : FirstSector → ℕ → PartFault → Type 0
 IsCause said found (OtherVersion version) = said ≡ says.OtherVersion version
 IsCause said found Unsound = said ≡ says.Unsound
-IsCause said found (Short slots sectors needed) = (said ≡ says.Journal slots) × (needed ≡ 39 + 4 * slots) × (sectors ≡ found) × (found < needed)
+IsCause said found (Short slots sectors needed) =
+    (said ≡ says.Journal slots) × (needed ≡ 39 + 4 * slots) × (sectors ≡ found) × (found < needed)
 
 module _ (bytes : List ℕ) (said : FirstSector) (is : IsSaid bytes said) (found : ℕ) where
   pub tells : (slots : ℕ) → said ≡ says.Journal slots → TellsSlots bytes slots
-  tells slots same = let told = (is.journal slots).0 same in record { superblock = told.0; some = told.1; most = told.2 }
+  tells slots same = let told = (is.journal slots).0 same in
+      record { superblock = told.0; some = told.1; most = told.2 }
 
   pub cause_of : (fault : PartFault) → IsPart bytes found fault → IsCause said found fault
   cause_of (OtherVersion version) part = (is.other_version version).1 part
-  cause_of Unsound part = is.unsound.1 (part.0, λ slots block some most. part.1 slots (record { superblock = block; some = some; most = most }))
-  cause_of (Short slots sectors needed) part = ((is.journal slots).1 (part.0.superblock, part.0.some, part.0.most), part.1, part.2, part.3)
+  cause_of Unsound part =
+      is.unsound.1 (
+        part.0,
+        λ slots block some most.
+            part.1 slots (record { superblock = block; some = some; most = most }),
+      )
+  cause_of (Short slots sectors needed) part =
+      ((is.journal slots).1 (part.0.superblock, part.0.some, part.0.most), part.1, part.2, part.3)
 
   pub part_of : (fault : PartFault) → IsCause said found fault → IsPart bytes found fault
   part_of (OtherVersion version) cause = (is.other_version version).0 cause
-  part_of Unsound cause = let told = is.unsound.0 cause in (told.0, λ slots it. told.1 slots it.superblock it.some it.most)
+  part_of Unsound cause = let told = is.unsound.0 cause in
+      (told.0, λ slots it. told.1 slots it.superblock it.some it.most)
   part_of (Short slots sectors needed) cause = (tells slots cause.0, cause.1, cause.2, cause.3)
 
 -- a sector that says so has no other cause
-pub foreign_none : (said : FirstSector) (found : ℕ) (fault : PartFault) → said ≡ says.NoJournal → IsCause said found fault → ⊥
+pub foreign_none : (said : FirstSector) (found : ℕ) (fault : PartFault) → said ≡ says.NoJournal
+    → IsCause said found fault → ⊥
 foreign_none said found (OtherVersion version) is cause = cc (is, cause)
 foreign_none said found Unsound is cause = cc (is, cause)
 foreign_none said found (Short slots sectors needed) is cause = cc (is, cause.0)
 
-pub other_one : (said : FirstSector) (found version : ℕ) (fault : PartFault) → said ≡ says.OtherVersion version → IsCause said found fault → OtherVersion version ≡ fault
+pub other_one : (said : FirstSector) (found version : ℕ) (fault : PartFault)
+    → said ≡ says.OtherVersion version → IsCause said found fault → OtherVersion version ≡ fault
 other_one said found version (OtherVersion w) is cause = cc (is, cause)
 other_one said found version Unsound is cause = absurd (cc (is, cause))
 other_one said found version (Short slots sectors needed) is cause = absurd (cc (is, cause.0))
 
-pub unsound_one : (said : FirstSector) (found : ℕ) (fault : PartFault) → said ≡ says.Unsound → IsCause said found fault → Unsound ≡ fault
+pub unsound_one : (said : FirstSector) (found : ℕ) (fault : PartFault) → said ≡ says.Unsound
+    → IsCause said found fault → Unsound ≡ fault
 unsound_one said found (OtherVersion w) is cause = absurd (cc (is, cause))
 unsound_one said found Unsound is cause = refl
 unsound_one said found (Short slots sectors needed) is cause = absurd (cc (is, cause.0))
@@ -60,7 +79,8 @@ slots_of (says.Journal slots) = slots
 pub same_slots : (a b : ℕ) → says.Journal a ≡ says.Journal b → a ≡ b
 same_slots a b is = ap slots_of is
 
-pub short_one : (said : FirstSector) (found slots : ℕ) (fault : PartFault) → said ≡ says.Journal slots → IsCause said found fault
+pub short_one : (said : FirstSector) (found slots : ℕ) (fault : PartFault)
+    → said ≡ says.Journal slots → IsCause said found fault
     → (found < 39 + 4 * slots) × (Short slots found (39 + 4 * slots) ≡ fault)
 short_one said found slots (OtherVersion w) is cause = absurd (cc (is, cause))
 short_one said found slots Unsound is cause = absurd (cc (is, cause))
@@ -77,19 +97,29 @@ same_fault a b is = ap fault_in is
 
 -- a superblock's file is a part where it has fewer sectors than that needs, and else a whole one
 module _ (bytes : List ℕ) (slots found : ℕ) (is : IsSaid bytes (says.Journal slots)) where
-  pub short_both : (result : Option PartFault) → IfSome result (λ fault. fault ≡ Short slots found (39 + 4 * slots)) → IfSome result (λ _. found < 39 + 4 * slots)
-      → IfNone result (39 + 4 * slots ≤ found) → (fault : PartFault) → (result ≡ Some fault) ↔ IsPart bytes found fault
+  pub short_both : (result : Option PartFault)
+      → IfSome result (λ fault. fault ≡ Short slots found (39 + 4 * slots))
+      → IfSome result (λ _. found < 39 + 4 * slots)
+      → IfNone result (39 + 4 * slots ≤ found) → (fault : PartFault)
+      → (result ≡ Some fault) ↔ IsPart bytes found fault
   short_both None some short whole fault = (
     λ e. absurd (cc e),
-    λ part. let one = short_one (says.Journal slots) found slots fault refl (cause_of bytes (says.Journal slots) is found fault part) in absurd (omega (arith, one.0, whole)),
+    λ part. let one =
+        short_one (says.Journal slots) found slots fault refl
+        (cause_of bytes (says.Journal slots) is found fault part) in
+        absurd (omega (arith, one.0, whole)),
   )
   short_both (Some told) some short whole fault = (
     λ e.
         subst (IsPart bytes found) (sym some ∙ same_fault told fault e)
-        (part_of bytes (says.Journal slots) is found (Short slots found (39 + 4 * slots)) (refl, refl, refl, short)),
-    λ part. ap Some (some ∙ (short_one (says.Journal slots) found slots fault refl (cause_of bytes (says.Journal slots) is found fault part)).1),
+        (part_of bytes (says.Journal slots) is found (Short slots found (39 + 4 * slots))
+        (refl, refl, refl, short)),
+    λ part. ap Some
+        (some ∙ (short_one (says.Journal slots) found slots fault refl
+        (cause_of bytes (says.Journal slots) is found fault part)).1),
   )
 
-  pub whole_none : (result : Option PartFault) → IfNone result (39 + 4 * slots ≤ found) → IfNone result (IsForeign bytes ⊎ IsWhole bytes found)
+  pub whole_none : (result : Option PartFault) → IfNone result (39 + 4 * slots ≤ found)
+      → IfNone result (IsForeign bytes ⊎ IsWhole bytes found)
   whole_none None whole = inr (slots, tells bytes (says.Journal slots) is found slots refl, whole)
   whole_none (Some told) whole = tt

@@ -9,14 +9,17 @@ use Rattle.journal_recovery.specs.State.{State, ledger_of, start_of}
 use Rattle.journal_recovery.specs.Recovery.{BankStandsFor, RecoversTo}
 use Rattle.journal_recovery.specs.RecoveryLaws.{BankStandsFor-start}
 
-pub new_recovers : (slots : ℕ) (held : State) (snapshot : Snapshot) (image : Image) → ledger_of snapshot ≡ held.ledger → IsLedger held.ledger
+pub new_recovers : (slots : ℕ) (held : State) (snapshot : Snapshot) (image : Image)
+    → ledger_of snapshot ≡ held.ledger → IsLedger held.ledger
     → IsNewJournal slots held.next snapshot image → RecoversTo held image
 new_recovers slots held snapshot image is sound reads =
-    let start : held ≡ start_of (live_from held.next) (only_snapshot snapshot) = λ i. record { ledger = sym is i; next = held.next } in
+    let start : held ≡ start_of (live_from held.next) (only_snapshot snapshot) =
+    λ i. record { ledger = sym is i; next = held.next } in
     record {
       slots = slots;
       live = live_from held.next;
       contents = only_snapshot snapshot;
       reads = reads;
-      stand_for = subst (BankStandsFor (live_from held.next) (only_snapshot snapshot)) (sym start) (BankStandsFor-start (live_from held.next) snapshot (subst IsLedger (sym is) sound));
+      stand_for = subst (BankStandsFor (live_from held.next) (only_snapshot snapshot)) (sym start)
+          (BankStandsFor-start (live_from held.next) snapshot (subst IsLedger (sym is) sound));
     }

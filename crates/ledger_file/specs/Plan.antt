@@ -4,7 +4,8 @@ use Rattle.gate_journal.specs.Layout.{IsOfVersion, IsSuperblock, in_use}
 use Rattle.ledger_file.specs.declared.plan.PartFault.{PartFault}
 use Rattle.ledger_file.specs.declared.plan.PartFault.TheVariants.{OtherVersion, Unsound, Short}
 use Rattle.ledger_file.specs.declared.refusal.LedgerRefusal.{LedgerRefusal}
-use Rattle.ledger_file.specs.declared.refusal.LedgerRefusal.TheVariants.{HasLedger, HasPart, HasOther}
+use Rattle.ledger_file.specs.declared.refusal.LedgerRefusal.TheVariants.{HasLedger, HasPart}
+use Rattle.ledger_file.specs.declared.refusal.LedgerRefusal.TheVariants.{HasOther}
 
 -- the first sector is that of a ledger in use with so many slots in each bank
 pub record TellsSlots (first : List ℕ) (slots : ℕ) : Type 0 where
@@ -12,12 +13,15 @@ pub record TellsSlots (first : List ℕ) (slots : ℕ) : Type 0 where
   pub some : 1 ≤ slots
   pub most : slots ≤ 1000000
 
--- The file begins as a ledger does, and isn't a whole one, for this reason: it is of another version, its superblock
--- isn't sound, or it has fewer sectors than the 39 + 4·slots that its superblock needs.
+-- The file begins as a ledger does, and isn't a whole one, for this reason: it is of another
+-- version, its superblock isn't sound, or it has fewer sectors than the 39 + 4·slots that its
+-- superblock needs.
 abbrev pub IsPart : List ℕ → ℕ → PartFault → Type 0
 IsPart first sectors (OtherVersion version) = IsOfVersion first version × (version ≢ in_use.version)
-IsPart first sectors Unsound = IsOfVersion first in_use.version × ((slots : ℕ) → TellsSlots first slots → ⊥)
-IsPart first sectors (Short slots found needed) = TellsSlots first slots × (needed ≡ 39 + 4 * slots) × (found ≡ sectors) × (sectors < needed)
+IsPart first sectors Unsound =
+    IsOfVersion first in_use.version × ((slots : ℕ) → TellsSlots first slots → ⊥)
+IsPart first sectors (Short slots found needed) =
+    TellsSlots first slots × (needed ≡ 39 + 4 * slots) × (found ≡ sectors) × (sectors < needed)
 
 -- it begins as a ledger does, and is a whole one
 abbrev pub IsWhole : List ℕ → ℕ → Type 0

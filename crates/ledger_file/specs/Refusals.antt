@@ -8,7 +8,8 @@ use Rattle.ledger_file.specs.declared.refusal.LedgerRefusal.TheVariants.{Device,
 
 -- a missing file is reported as one that could be made, and all else as it is
 abbrev pub IsToldAs : FileFault → LedgerRefusal → Type 0
-IsToldAs inner told = ((inner ≡ fault.Missing) × (told ≡ Missing)) ⊎ ((inner ≢ fault.Missing) × (told ≡ Device inner))
+IsToldAs inner told =
+    ((inner ≡ fault.Missing) × (told ≡ Missing)) ⊎ ((inner ≢ fault.Missing) × (told ≡ Device inner))
 
 -- a ledger wasn't made
 abbrev pub IsOfFormatting : LedgerRefusal → Type 0

@@ -1,10 +1,11 @@
 //! Opening a file as a ledger, and making one.
-ghost use Rattle.std.specs.Prelude.{◌≡◌, ◌+◌, ◌*◌, ◌<◌, ◌≤◌, ◌^◌, ◌↔◌, max, false, IsOk, IsTrue, IfOk};
+ghost use Rattle.std.specs.Prelude.{◌≡◌, ◌+◌, ◌*◌, ◌<◌, ◌≤◌, ◌^◌, ◌↔◌, max, false, IsOk, IsTrue};
+ghost use Rattle.std.specs.Prelude.{IfOk};
 ghost use Rattle.std.specs.Int.NonZero.{non_zero_u64_get};
 
 use crate::plan::{check_formatting, sectors_planned};
 use crate::refusal::LedgerRefusal;
-use device_files::{DeviceFile, DeviceOn, FileFault, LockedFile, MadeFile, Making, Wanted};
+use device_files::{Creation, DeviceFile, DeviceNeeds, DeviceOn, FileFault, LockedFile, NewFile};
 use gate_journal::{FirstSector, FormatRefusal, MOST_SLOTS, format, sectors_needed};
 use std::alloc::Global;
 use std::fs::Files;
@@ -24,8 +25,9 @@ pub struct FormatOptions {
     pub overwrite: bool,
 }
 
-/// Opens the ledger at a path, which is there, as a device of at least as many sectors as are asked for. A whole ledger
-/// in a file is grown to them by zero sectors. All else is refused, and keeps its bytes and its length.
+/// Opens the ledger at a path, which is there, as a device of at least as many sectors as are asked
+/// for. A whole ledger in a file is grown to them by zero sectors. All else is refused, and keeps
+/// its bytes and its length.
 ///
 /// # Errors
 /// [`LedgerRefusal`].
@@ -40,22 +42,22 @@ pub fn open_ledger<F: DeviceFile + Drop, R: Files<File = F> + AllocGlobal>(
         (device.inner.failures ≡ 0) × (device.refused ≡ 0)) }
     ensures works { IfOk result (λ device. device.stopped ≡ false) }
 {
-    let file = LockedFile::open(rt, rt.alloc(), path, Making::Never)?;
+    let file = LockedFile::open(rt, rt.alloc(), path, Creation::Never)?;
     let first = file.first_sector()?;
     if FirstSector::of(&first) == FirstSector::NoJournal {
         return Err(LedgerRefusal::NoLedger);
     }
     let sectors = sectors_planned(&first, file.sectors(), asked)?;
-    let wanted = Wanted {
+    let wanted = DeviceNeeds {
         sectors,
         overwrite: false,
     };
     Ok(file.into_device(rt, wanted)?)
 }
 
-/// Opens what a script works on: a disk as `FileDevice::open` does, and so a file, which is made if that is asked for
-/// and it isn't there. But a part of a ledger, or one of another version, isn't grown, so that the script finds what is
-/// wrong with it.
+/// Opens what a script works on: a disk as `FileDevice::open` does, and so a file, which is made if
+/// that is asked for and it isn't there. But a part of a ledger, or one of another version, isn't
+/// grown, so that the script finds what is wrong with it.
 ///
 /// # Errors
 /// As `FileDevice::open_with_cause`.
@@ -63,7 +65,7 @@ pub fn open_for_script<F: DeviceFile + Drop, R: Files<File = F> + AllocGlobal>(
     rt: &R,
     path: &str,
     asked: u64,
-    making: Making,
+    making: Creation,
 ) -> Result<DeviceOn<F>, FileFault>
     ensures fits { IfOk result (λ device. device.inner.sectors * 512 < 2 ^ 63) }
     ensures failures { IfOk result (λ device.
@@ -76,7 +78,7 @@ pub fn open_for_script<F: DeviceFile + Drop, R: Files<File = F> + AllocGlobal>(
     } else {
         sectors_for_script(&file, asked)
     };
-    let wanted = Wanted {
+    let wanted = DeviceNeeds {
         sectors,
         overwrite: false,
     };
@@ -92,10 +94,10 @@ fn sectors_for_script<F: DeviceFile + Drop>(file: &LockedFile<'_, F>, asked: u64
     }
 }
 
-/// Makes an empty ledger at a path, where a file is made if none is there. What is there has to hold nothing, unless it
-/// may be overwritten: each byte of a file is looked at, and of a disk the first 256 sectors. A file gets the sectors
-/// that the ledger needs; one that this call made is removed if it doesn't become a ledger. What is refused keeps its
-/// bytes and its length.
+/// Makes an empty ledger at a path, where a file is made if none is there. What is there has to
+/// hold nothing, unless it may be overwritten: each byte of a file is looked at, and of a disk the
+/// first 256 sectors. A file gets the sectors that the ledger needs; one that this call made is
+/// removed if it doesn't become a ledger. What is refused keeps its bytes and its length.
 ///
 /// # Errors
 /// [`LedgerRefusal`]. After `Format(Device)` nothing is known of the sectors.
@@ -118,7 +120,7 @@ pub fn format_ledger<F: DeviceFile + Drop, R: Files<File = F> + AllocGlobal>(
 }
 
 /// Removes the file that was made for a ledger.
-pub(crate) fn take_back<R: Files>(rt: &R, made: Option<MadeFile<'_>>) {
+pub(crate) fn take_back<R: Files>(rt: &R, made: Option<NewFile<'_>>) {
     if let Some(made) = made {
         made.remove(rt);
     }
@@ -129,7 +131,7 @@ pub(crate) fn device_to_format<'a, F: DeviceFile + Drop, R: Files<File = F> + Al
     rt: &R,
     path: &'a str,
     formatting: FormatOptions,
-) -> Result<(DeviceOn<F>, Option<MadeFile<'a>>), LedgerRefusal>
+) -> Result<(DeviceOn<F>, Option<NewFile<'a>>), LedgerRefusal>
     ensures enough { IfOk result (λ both. formatting.sectors ≤ both.0.inner.sectors) }
     ensures needed { IfOk result (λ both.
         39 + 4 * non_zero_u64_get formatting.slots ≤ both.0.inner.sectors) }
@@ -139,9 +141,9 @@ pub(crate) fn device_to_format<'a, F: DeviceFile + Drop, R: Files<File = F> + Al
     if slots > MOST_SLOTS {
         return Err(LedgerRefusal::Format(FormatRefusal::TooManySlots));
     }
-    let file = LockedFile::open(rt, rt.alloc(), path, Making::IfMissing)?;
+    let file = LockedFile::open(rt, rt.alloc(), path, Creation::IfMissing)?;
     check_held(rt.alloc(), &file, formatting.overwrite)?;
-    let wanted = Wanted {
+    let wanted = DeviceNeeds {
         sectors: sectors_to_format(slots, file.sectors(), file.is_disk(), formatting.sectors)?,
         overwrite: formatting.overwrite,
     };
@@ -149,8 +151,8 @@ pub(crate) fn device_to_format<'a, F: DeviceFile + Drop, R: Files<File = F> + Al
     Ok((file.into_device(rt, wanted)?, made))
 }
 
-// How many sectors a device is to have that gets so many slots. A disk isn't grown, so it has those that they need
-// already.
+// How many sectors a device is to have that gets so many slots. A disk isn't grown, so it has those
+// that they need already.
 fn sectors_to_format(
     slots: u64,
     found: u64,
@@ -172,7 +174,8 @@ fn sectors_to_format(
     Ok(needed.max(asked))
 }
 
-// That a file may be formatted. Whether a disk holds something else than a ledger is told where it becomes a device.
+// That a file may be formatted. Whether a disk holds something else than a ledger is told where it
+// becomes a device.
 fn check_held<F: DeviceFile + Drop>(
     alloc: Global,
     file: &LockedFile<'_, F>,

@@ -1,5 +1,6 @@
 //! What becomes of a file that is opened as a ledger, decided before anything of it changes.
-ghost use Rattle.std.specs.Prelude.{◌≡◌, ◌⊎◌, ◌↔◌, ◌+◌, ◌*◌, ◌<◌, ◌≤◌, max, Err, Some, IsOk, IsTrue, IfOk, IfErr, IfSome, IfNone};
+ghost use Rattle.std.specs.Prelude.{◌≡◌, ◌⊎◌, ◌↔◌, ◌+◌, ◌*◌, ◌<◌, ◌≤◌, max, Err, Some, IsOk};
+ghost use Rattle.std.specs.Prelude.{IsTrue, IfOk, IfErr, IfSome, IfNone};
 ghost use Rattle.ledger_file.specs.Plan.{IsPart, IsWhole, IsForeign, IsHeld};
 
 use crate::refusal::LedgerRefusal;
@@ -21,9 +22,10 @@ pub enum PartFault {
     Short { slots: u64, found: u64, needed: u64 },
 }
 
-/// How many sectors a file is to have that is opened with at least as many as are asked for. It has `found` of them, of
-/// which the first is `first`, or zeros if there is none. One that begins as a ledger does, and has not all of that
-/// ledger's sectors, is left as it is: filled up with zeros it would be taken for a whole one, with fewer records.
+/// How many sectors a file is to have that is opened with at least as many as are asked for. It has
+/// `found` of them, of which the first is `first`, or zeros if there is none. One that begins as a
+/// ledger does, and has not all of that ledger's sectors, is left as it is: filled up with zeros it
+/// would be taken for a whole one, with fewer records.
 ///
 /// # Errors
 /// [`PartFault`], where it is so.
@@ -38,7 +40,8 @@ pub fn sectors_planned(first: &Sector, found: u64, asked: u64) -> Result<u64, Pa
     }
 }
 
-/// Whether a file may be formatted: it is blank, which is to say that each of its bytes is zero, or may be overwritten.
+/// Whether a file may be formatted: it is blank, which is to say that each of its bytes is zero, or
+/// may be overwritten.
 ///
 /// # Errors
 /// [`LedgerRefusal`], by what it holds.

@@ -8,7 +8,8 @@ use Rattle.journal_recovery.specs.declared.refusals.OpenRefusal.TheVariants as o
 use Rattle.ledger_file.specs.declared.refusal.LedgerRefusal.{LedgerRefusal}
 use Rattle.ledger_file.specs.declared.refusal.LedgerRefusal.TheVariants as ledger
 use Rattle.ledger_folder.specs.declared.copying.FolderCopyRefusal.{FolderCopyRefusal}
-use Rattle.ledger_folder.specs.declared.copying.FolderCopyRefusal.TheVariants.{Memory, Ledger, Unwritten}
+use Rattle.ledger_folder.specs.declared.copying.FolderCopyRefusal.TheVariants.{Memory, Ledger}
+use Rattle.ledger_folder.specs.declared.copying.FolderCopyRefusal.TheVariants.{Unwritten}
 
 -- that there is no memory, and else that the file isn't written
 abbrev pub refusal_of : LedgerRefusal → FolderCopyRefusal

@@ -10,7 +10,8 @@ use Rattle.ledger_folder.specs.declared.faults.Part.TheVariants as part
 use Rattle.ledger_folder.specs.declared.faults.ArchiveFault.{ArchiveFault}
 use Rattle.ledger_folder.specs.declared.faults.ArchiveFault.TheVariants as fault
 
--- out of memory stays out of memory, whether a ledger can't be looked at, or the one that is to be added can't be made
+-- out of memory stays out of memory, whether a ledger can't be looked at, or the one that is to be
+-- added can't be made
 abbrev pub of_file : Part → FileFault → ArchiveFault
 of_file ledger file.Memory = fault.Memory
 of_file ledger inner = fault.Unread ledger inner
@@ -25,8 +26,8 @@ IsReadFault (fault.NoLedger (part.File path) refusal) = refusal ≡ opening.Devi
 IsReadFault (fault.Lost (part.File path) refusal) = refusal ≡ read.Device
 IsReadFault _ = ⊥
 
--- the numbers that a fault tells show it: the earliest batch comes behind the end of what is before it, or the next one
--- before the archive's end
+-- the numbers that a fault tells show it: the earliest batch comes behind the end of what is before
+-- it, or the next one before the archive's end
 abbrev pub TellsNumbers : ArchiveFault → Type 0
 TellsNumbers (fault.Missing volume first before end) = end < first
 TellsNumbers (fault.Gap path first end) = end < first

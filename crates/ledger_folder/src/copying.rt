@@ -23,13 +23,14 @@ pub enum FolderCopyRefusal {
     Ledger(OpenRefusal),
     /// Something has the copy's name, and stays as it is.
     Occupied,
-    /// The file can't be made, written, or given its name. Nothing of it is left, unless the system fails to take it
-    /// away.
+    /// The file can't be made, written, or given its name. Nothing of it is left, unless the system
+    /// fails to take it away.
     Unwritten,
 }
 
-/// Opens and locks the folder of an office's copies, and finds out whether a file can be made in it. What a copy left
-/// there that wasn't finished is removed. The folder of the office's archive is refused, by whatever path.
+/// Opens and locks the folder of an office's copies, and finds out whether a file can be made in
+/// it. What a copy left there that wasn't finished is removed. The folder of the office's archive
+/// is refused, by whatever path.
 ///
 /// # Errors
 /// [`ArchiveFault::Folder`], for the first [`FolderFault`] that holds, or out of memory.
@@ -69,10 +70,11 @@ fn folder_of_copies<'a, R: Files<File = File>>(
     }
 }
 
-/// Copies the ledger on a device into a folder, with as many slots, under the number of its next batch in twenty
-/// digits. The copy is made under the name `unfinished` and synced. Then the ledger's counters, which are kept at that
-/// path, are kept beside the copy's name too, the copy is given it, and the folder is synced: whatever ends this early,
-/// nothing stands under a copy's name but a whole one, with its counters. The device is only read, and handed back.
+/// Copies the ledger on a device into a folder, with as many slots, under the number of its next
+/// batch in twenty digits. The copy is made under the name `unfinished` and synced. Then the
+/// ledger's counters, which are kept at that path, are kept beside the copy's name too, the copy is
+/// given it, and the folder is synced: whatever ends this early, nothing stands under a copy's name
+/// but a whole one, with its counters. The device is only read, and handed back.
 ///
 /// # Errors
 /// [`FolderCopyRefusal`], the first that holds.

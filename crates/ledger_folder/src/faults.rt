@@ -1,6 +1,7 @@
 //! Why nothing, or not all, was added to an archive.
 ghost use Rattle.std.specs.Prelude.{◌≡◌, ◌↔◌};
-ghost use Rattle.ledger_folder.specs.Faults.{TellsNumbers, IsReadFault, IsElsewhere, of_file, of_device};
+ghost use Rattle.ledger_folder.specs.Faults.{TellsNumbers, IsReadFault, IsElsewhere, of_file};
+ghost use Rattle.ledger_folder.specs.Faults.{of_device};
 
 use device_files::FileFault;
 use gate_journal::ReadRefusal;
@@ -24,10 +25,12 @@ pub enum FolderFault {
     /// The system fails to open, lock, list, change or sync it.
     #[error("the system fails to open, lock, list, change or sync it")]
     Failed,
-    /// It is for copies, and the archive's folder too, where a copy would be taken for a file of the archive.
+    /// It is for copies, and the archive's folder too, where a copy would be taken for a file of
+    /// the archive.
     #[error("it is the archive's folder; the copies need another one")]
     OfArchive,
-    /// It is for copies, and another office makes its own in it, or another program adds to an archive in it.
+    /// It is for copies, and another office makes its own in it, or another program adds to an
+    /// archive in it.
     #[error("another program adds to this folder; end that one first, or take another folder")]
     Taken,
     /// It is for copies, and no file can be made in it.
@@ -67,7 +70,8 @@ impl fmt::Display for Part<'_> {
     }
 }
 
-/// Why an archive doesn't have all that its ledger lists, or can't be read. What was added before stands.
+/// Why an archive doesn't have all that its ledger lists, or can't be read. What was added before
+/// stands.
 #[derive(Clone, Copy, Debug, Error)]
 pub enum ArchiveFault<'a> {
     /// There is no memory.
@@ -91,7 +95,8 @@ pub enum ArchiveFault<'a> {
         part: Part<'a>,
         refusal: ReadRefusal,
     },
-    /// The first record of the archive's newest ledger doesn't have the number that is its name, or it has no record.
+    /// The first record of the archive's newest ledger doesn't have the number that is its name, or
+    /// it has no record.
     #[error("{volume}: it isn't of this archive: its first record doesn't have the number that is its name")]
     Foreign {
         volume: Volume<'a>,

@@ -45,8 +45,9 @@ impl<'a> Folder<'a> {
         Ok(Folder { path, file })
     }
 
-    /// The same for whoever adds to it. The folder is synced: an earlier run may have been ended between giving a file
-    /// its name and that sync, and then a power failure would take what is built on.
+    /// The same for whoever adds to it. The folder is synced: an earlier run may have been ended
+    /// between giving a file its name and that sync, and then a power failure would take what is
+    /// built on.
     ///
     /// # Errors
     /// [`ArchiveFault::Folder`].
@@ -124,7 +125,8 @@ impl<'a> Folder<'a> {
         format!(in alloc; "{folder}/unfinished")
     }
 
-    /// Whether a file can be made in it, which is taken away again. So is one of that name from before.
+    /// Whether a file can be made in it, which is taken away again. So is one of that name from
+    /// before.
     pub(crate) fn can_be_written<R: Files<File = File>>(&self, rt: &R, unfinished: &str) -> bool {
         if self.clear(rt, unfinished).is_err() || fs::create(rt, unfinished).is_err() {
             return false;
@@ -161,7 +163,8 @@ pub fn is_folder<R: Files<File = File>>(rt: &R, path: &str) -> bool {
     }
 }
 
-/// The numbers that are names in a folder, ascending: each is that of the first batch of a ledger of its archive.
+/// The numbers that are names in a folder, ascending: each is that of the first batch of a ledger
+/// of its archive.
 ///
 /// # Errors
 /// `Empty` if there is none; and if the folder can't be listed, or out of memory.

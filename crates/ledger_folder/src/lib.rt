@@ -1,10 +1,10 @@
-//! The engine of an archive: a folder of ledgers, each made whole and never written again, with the records of one
-//! ledger in order.
+//! The engine of an archive: a folder of ledgers, each made whole and never written again, with the
+//! records of one ledger in order.
 //!
-//! [`archive`] adds what the archive lacks of a ledger, and [`archive_journal`] of one that somebody has open;
-//! [`newest_of`] opens the ledger with which it ends, and [`check_no_gap`] finds a file that is missing between
-//! others. [`copy_to_folder`] makes a copy of a ledger in a folder for such copies.
-//! `checks/books.sh` has examples.
+//! [`archive`] adds what the archive lacks of a ledger, and [`archive_journal`] of one that
+//! somebody has open; [`newest_of`] opens the ledger with which it ends, and [`check_no_gap`] finds
+//! a file that is missing between others. [`copy_to_folder`] makes a copy of a ledger in a folder
+//! for such copies. `checks/books.sh` has examples.
 #![tactic(auto)]
 
 mod archiving;

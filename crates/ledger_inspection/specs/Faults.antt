@@ -9,13 +9,15 @@ use Rattle.ledger_folder.specs.declared.faults.Part.{Part}
 use Rattle.ledger_inspection.specs.declared.faults.InspectionFault.{InspectionFault}
 use Rattle.ledger_inspection.specs.declared.faults.InspectionFault.TheVariants as fault
 
--- where memory or the device fails nothing is known of the ledger, and every other refusal says that there is none
+-- where memory or the device fails nothing is known of the ledger, and every other refusal says
+-- that there is none
 abbrev pub denies_ledger : OpenRefusal → Bool
 denies_ledger opening.Memory = false
 denies_ledger opening.Device = false
 denies_ledger _ = true
 
--- a rule refuses a folder without an archive, a ledger that isn't sound, and what isn't one book, or isn't in it
+-- a rule refuses a folder without an archive, a ledger that isn't sound, and what isn't one book,
+-- or isn't in it
 abbrev pub is_refusal : InspectionFault → Bool
 is_refusal (fault.Archive (archive.Empty folder)) = true
 is_refusal (fault.Unsound part wrong) = denies_ledger wrong.refusal

@@ -7,7 +7,8 @@ use Rattle.ledger_reading.specs.Whole.{RecoversAs, LookRefuses}
 
 -- the image recovers to a ledger, by one of the layouts
 abbrev pub IsSound : Type 0 → Image → Type 0
-IsSound D image = (journal : AnyJournal D) × (ledger : LedgerState) × RecoversAs journal ledger image
+IsSound D image =
+    (journal : AnyJournal D) × (ledger : LedgerState) × RecoversAs journal ledger image
 
 -- the image is refused as no ledger
 abbrev pub IsRefused : Image → Type 0

@@ -20,9 +20,9 @@ pub(crate) trait Reader {
 
 /// Does nothing with them, so that they are found sound.
 #[derive(Drop)]
-pub(crate) struct Passing;
+pub(crate) struct RecordPasser;
 
-impl Reader for Passing {
+impl Reader for RecordPasser {
     fn begin(&mut self, _: &Listing<ReadOnlyFile>) -> Result<(), PrintFault> {
         Ok(())
     }
@@ -36,12 +36,12 @@ impl Reader for Passing {
 
 /// Prints their records.
 #[derive(Drop)]
-pub(crate) struct Printing<'a, 'b, W: Write + Drop, P: Progress> {
+pub(crate) struct RecordPrinter<'a, 'b, W: Write + Drop, P: Progress> {
     pub(crate) printed: JournalPrint<'a, W>,
     pub(crate) progress: &'b mut P,
 }
 
-impl<W: Write + Drop, P: Progress> Reader for Printing<'_, '_, W, P> {
+impl<W: Write + Drop, P: Progress> Reader for RecordPrinter<'_, '_, W, P> {
     fn begin(&mut self, listing: &Listing<ReadOnlyFile>) -> Result<(), PrintFault> {
         self.printed.begin(listing)
     }
@@ -55,13 +55,13 @@ impl<W: Write + Drop, P: Progress> Reader for Printing<'_, '_, W, P> {
 
 /// Keeps what the accounts held before the record with a sequence number, once that is found.
 #[derive(Drop)]
-pub(crate) struct Keeping {
+pub(crate) struct BalanceKeeper {
     pub(crate) at: u64,
     pub(crate) ledger: Ledger,
     pub(crate) is_found: bool,
 }
 
-impl Reader for Keeping {
+impl Reader for BalanceKeeper {
     fn begin(&mut self, _: &Listing<ReadOnlyFile>) -> Result<(), PrintFault> {
         Ok(())
     }

@@ -17,12 +17,13 @@ use sector_device::Device;
 use std::alloc::Global;
 use std::fs::{File, Files};
 use std::io::Write;
-use text_streams::Watched;
+use text_streams::WatchedWriter;
 
-/// Does what is asked for with a ledger, or with several as one book. A book is found sound, and each of its ledgers to
-/// go on where the one before ends, before anything is printed; the last one stays locked from then on. What is printed
-/// goes to the writer, and so does what `check` finds wrong, unless it is quiet. The progress of long work goes to
-/// `errors`, if it is to be shown. A writer whose reader went away has taken enough.
+/// Does what is asked for with a ledger, or with several as one book. A book is found sound, and
+/// each of its ledgers to go on where the one before ends, before anything is printed; the last one
+/// stays locked from then on. What is printed goes to the writer, and so does what `check` finds
+/// wrong, unless it is quiet. The progress of long work goes to `errors`, if it is to be shown. A
+/// writer whose reader went away has taken enough.
 ///
 /// # Errors
 /// [`InspectionFault`], the first that is met.
@@ -33,7 +34,7 @@ pub fn inspect<'a, R: Files<File = File> + AllocGlobal + Clone + Drop, W: Write,
     errors: &mut E,
     shows_progress: bool,
 ) -> Result<(), InspectionFault<'a>> {
-    let mut output = Watched::over(writer);
+    let mut output = WatchedWriter::over(writer);
     let mut meter = Meter::over(rt.alloc(), errors, shows_progress);
     let looked = match wish.paths.as_slice() {
         [path] if is_alone(rt, path, wish.task) => {
@@ -49,8 +50,8 @@ pub fn inspect<'a, R: Files<File = File> + AllocGlobal + Clone + Drop, W: Write,
     }
 }
 
-// Whether what is at the one path that is named is looked at alone. A folder is read as a book, and so is a ledger of
-// which earlier balances are asked for.
+// Whether what is at the one path that is named is looked at alone. A folder is read as a book, and
+// so is a ledger of which earlier balances are asked for.
 fn is_alone<R: Files<File = File>>(rt: &R, path: &str, task: Task) -> bool {
     match task {
         Task::Map => true,
@@ -78,11 +79,12 @@ fn inspect_file<'a, F: Files<File = File> + AllocGlobal, W: Write + Drop, E: Wri
     }
 }
 
-/// Does what is asked for with the ledger on a device, which is the file at the path. What is printed of a sound ledger
-/// goes to the writer, and so does the drawing of one that isn't sound.
+/// Does what is asked for with the ledger on a device, which is the file at the path. What is
+/// printed of a sound ledger goes to the writer, and so does the drawing of one that isn't sound.
 ///
 /// # Errors
-/// [`InspectionFault`] of this ledger: it isn't sound, can't be read again, or isn't printed to its end.
+/// [`InspectionFault`] of this ledger: it isn't sound, can't be read again, or isn't printed to its
+/// end.
 pub fn inspect_device<'a, D: Device + Drop, W: Write + Drop, P: Progress>(
     alloc: Global,
     path: &'a str,

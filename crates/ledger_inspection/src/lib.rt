@@ -1,8 +1,9 @@
-//! Looks at a ledger on a device or in a file, of any layout, and prints what is asked for. It never writes the file.
-//! What keeps it from that it answers as a fault, and leaves its telling to the caller.
+//! Looks at a ledger on a device or in a file, of any layout, and prints what is asked for. It
+//! never writes the file. What keeps it from that it answers as a fault, and leaves its telling to
+//! the caller.
 //!
-//! [`inspect`] looks at a file, or at several as one book, and [`inspect_device`] at a device that is handed in.
-//! [`check_archive`] finds an archive sound.
+//! [`inspect`] looks at a file, or at several as one book, and [`inspect_device`] at a device that
+//! is handed in. [`check_archive`] finds an archive sound.
 //!
 //! `checks/inspections.sh` has examples.
 #![tactic(auto)]
@@ -18,7 +19,7 @@ mod sound_ledger;
 mod unsound_ledger;
 mod wrong;
 
-pub use device_files::{FileFault, Locking};
+pub use device_files::{FileFault, LockMode};
 pub use faults::InspectionFault;
 pub use inspecting::{inspect, inspect_device};
 pub use inspection::{Inspection, Task};

@@ -1,5 +1,5 @@
 //! What is told beside the printing: on a terminal how far it is, and that a ledger isn't locked.
-use device_files::Locking;
+use device_files::LockMode;
 use ledger_printing::Progress;
 use std::alloc::Global;
 use std::io::Write;
@@ -8,8 +8,8 @@ use text_streams::write_all;
 /// After how many records the line is written again.
 const STEP: u64 = 65_536;
 
-/// Tells how far the printing of a journal is, on one line that is written over, and taken away at the end. A fault of
-/// its writer is ignored.
+/// Tells how far the printing of a journal is, on one line that is written over, and taken away at
+/// the end. A fault of its writer is ignored.
 #[derive(Drop)]
 pub(crate) struct Meter<'a, E: Write> {
     alloc: Global,
@@ -28,8 +28,8 @@ impl<'a, E: Write> Meter<'a, E> {
     }
 
     /// Tells that what is at the path isn't locked, if it isn't.
-    pub(crate) fn tell_locking(&mut self, path: &str, locking: Locking) {
-        if locking != Locking::Unlocked {
+    pub(crate) fn tell_locking(&mut self, path: &str, locking: LockMode) {
+        if locking != LockMode::Unlocked {
             return;
         }
         let _ = match format!(in self.alloc;

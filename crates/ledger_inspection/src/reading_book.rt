@@ -1,10 +1,10 @@
 //! Reads ledgers as one book.
-use crate::book_reader::{Keeping, Passing, Printing};
+use crate::book_reader::{BalanceKeeper, RecordPasser, RecordPrinter};
 use crate::faults::InspectionFault;
 use crate::inspection::{Inspection, Task};
 use crate::meter::Meter;
 use crate::shelf::{Extent, Shelf, parts_of};
-use device_files::Locking;
+use device_files::LockMode;
 use ledger_printing::{JournalPrint, JournalWish, Progress, print_balances};
 use std::alloc::Global;
 use std::fs::{File, Files};
@@ -12,8 +12,8 @@ use std::io::Write;
 use text_streams::{Output, StreamFault};
 use turn_ledger::Ledger;
 
-/// Finds the archive in a folder sound, as `check` does: each of its files, and that each goes on where the one before
-/// ends.
+/// Finds the archive in a folder sound, as `check` does: each of its files, and that each goes on
+/// where the one before ends.
 ///
 /// # Errors
 /// [`InspectionFault`], the first that is met.
@@ -25,13 +25,14 @@ pub fn check_archive<'a, R: Files<File = File> + AllocGlobal + Clone + Drop>(
     let shelf = Shelf {
         rt,
         parts: parts.as_slice(),
-        locking: Locking::Shared,
+        locking: LockMode::Shared,
     };
-    shelf.walk(&mut Passing)?;
+    shelf.walk(&mut RecordPasser)?;
     Ok(())
 }
 
-/// Finds all of a book sound, and then prints what is asked for. The last ledger stays open, so that nobody writes it.
+/// Finds all of a book sound, and then prints what is asked for. The last ledger stays open, so
+/// that nobody writes it.
 pub(crate) fn read_book<
     'a,
     R: Files<File = File> + AllocGlobal + Clone + Drop,
@@ -70,11 +71,11 @@ impl<'a, R: Files<File = File> + AllocGlobal> Shelf<'a, '_, R> {
     ) -> Result<(), InspectionFault<'a>> {
         match task {
             Task::Check { quiet: false } => {
-                let extent = self.walk(&mut Passing)?;
+                let extent = self.walk(&mut RecordPasser)?;
                 print_extent(self.rt.alloc(), &extent, writer)?;
             }
             Task::Check { quiet: true } | Task::Map => {
-                self.walk(&mut Passing)?;
+                self.walk(&mut RecordPasser)?;
             }
             Task::Balances { format, date, at } => {
                 let ledger = self.held(at)?;
@@ -92,13 +93,13 @@ impl<'a, R: Files<File = File> + AllocGlobal> Shelf<'a, '_, R> {
         writer: &mut W,
         progress: &mut P,
     ) -> Result<(), InspectionFault<'a>> {
-        let Extent { last, .. } = self.walk(&mut Passing)?;
+        let Extent { last, .. } = self.walk(&mut RecordPasser)?;
         let printed = JournalPrint::over(self.rt.alloc(), wish, writer).map_err(
             |fault| InspectionFault::of_printing(last, fault),
         )?;
-        let mut printing = Printing { printed, progress };
+        let mut printing = RecordPrinter { printed, progress };
         self.walk(&mut printing)?;
-        let Printing { printed, .. } = printing;
+        let RecordPrinter { printed, .. } = printing;
         printed
             .end()
             .map_err(|fault| InspectionFault::of_printing(last, fault))
@@ -108,11 +109,11 @@ impl<'a, R: Files<File = File> + AllocGlobal> Shelf<'a, '_, R> {
     fn held(&self, at: Option<u64>) -> Result<Ledger, InspectionFault<'a>> {
         let mut ledger = Ledger::new(self.rt.alloc())?;
         let Some(at) = at else {
-            let extent = self.walk(&mut Passing)?;
+            let extent = self.walk(&mut RecordPasser)?;
             ledger.copy_from(extent.seam.ledger());
             return Ok(ledger);
         };
-        let mut keeping = Keeping {
+        let mut keeping = BalanceKeeper {
             at,
             ledger,
             is_found: false,

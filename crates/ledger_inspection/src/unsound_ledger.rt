@@ -11,10 +11,10 @@ use ledger_folder::Part;
 use sector_device::Device;
 use std::alloc::Global;
 use std::io::Write;
-use text_streams::{StreamFault, Watched, write_all};
+use text_streams::{StreamFault, WatchedWriter, write_all};
 
-/// Draws a device that was refused so, if that is asked for, and tells what is wrong with it. A second look at it finds
-/// the place; if that look fails, the cause is told alone.
+/// Draws a device that was refused so, if that is asked for, and tells what is wrong with it. A
+/// second look at it finds the place; if that look fails, the cause is told alone.
 pub(crate) fn print_unsound<'a, D: Device + Drop, W: Write>(
     alloc: Global,
     path: &'a str,
@@ -38,13 +38,13 @@ pub(crate) fn print_unsound<'a, D: Device + Drop, W: Write>(
     }
 }
 
-/// Prints what is wrong, if that was asked for: a rule's refusal is an answer of `check`. A reader that went away
-/// leaves it as it is.
+/// Prints what is wrong, if that was asked for: a rule's refusal is an answer of `check`. A reader
+/// that went away leaves it as it is.
 pub(crate) fn answered<'a, W: Write>(
     alloc: Global,
     task: Task,
     fault: InspectionFault<'a>,
-    writer: &mut Watched<'_, W>,
+    writer: &mut WatchedWriter<'_, W>,
 ) -> InspectionFault<'a>
     ensures one { KeepsPart fault.entry result }
     ensures refused { is_refusal result ≡ true → result ≡ fault.entry }
@@ -74,7 +74,7 @@ fn draw_wrong<'a, D: Device, W: Write>(
     ensures one { IsOfOne part.entry result }
     ensures refused { is_refusal result ≡ true → denies_ledger wrong.refusal ≡ true }
 {
-    let mut output = Watched::over(writer);
+    let mut output = WatchedWriter::over(writer);
     match draw(alloc, device, wrong.place, &mut output) {
         Err(DrawFault::Device) => InspectionFault::Unseen { part, wrong },
         Err(DrawFault::Stream(StreamFault::Write)) if output.is_closed() => {

@@ -7,7 +7,7 @@ use crate::journal::JournalWish;
 use crate::json_lines::JsonJournal;
 use crate::printer::JournalPrinter;
 use crate::table::TableJournal;
-use ledger_reading::Listed;
+use ledger_reading::ListedRecord;
 use std::alloc::Global;
 use std::io::Write;
 use text_streams::StreamFault;
@@ -52,7 +52,7 @@ impl<W: Write + Drop> JournalPrinter for AnyPrinter<'_, W> {
         }
     }
 
-    fn record(&mut self, listed: &Listed, after: &Ledger) -> Result<(), StreamFault> {
+    fn record(&mut self, listed: &ListedRecord, after: &Ledger) -> Result<(), StreamFault> {
         match self {
             AnyPrinter::Table(printer) => printer.record(listed, after),
             AnyPrinter::Csv(printer) => printer.record(listed, after),

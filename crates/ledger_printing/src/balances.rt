@@ -10,8 +10,8 @@ use std::io::Write;
 use text_streams::StreamFault;
 use turn_ledger::Ledger;
 
-/// Prints the accounts that hold something or are sealed, ascending, and the total last. The date is that of the
-/// transaction in the format for `hledger`.
+/// Prints the accounts that hold something or are sealed, ascending, and the total last. The date
+/// is that of the transaction in the format for `hledger`.
 ///
 /// # Errors
 /// The output can't be written, or out of memory.

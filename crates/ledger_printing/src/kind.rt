@@ -3,7 +3,7 @@ use serde::{Described, Serialize, Serializer};
 
 /// What a row tells of, by its word.
 #[derive(Clone, Copy, Debug, PartialEq, Eq)]
-pub(crate) enum Kind {
+pub(crate) enum RowKind {
     Deposit,
     Withdraw,
     Transfer,
@@ -14,24 +14,24 @@ pub(crate) enum Kind {
     Sealed,
 }
 
-impl Kind {
+impl RowKind {
     /// The word.
     pub(crate) fn name(self) -> &'static str {
         match self {
-            Kind::Deposit => "deposit",
-            Kind::Withdraw => "withdraw",
-            Kind::Transfer => "transfer",
-            Kind::Seal => "seal",
-            Kind::Snapshot => "snapshot",
-            Kind::Sealed => "sealed",
+            RowKind::Deposit => "deposit",
+            RowKind::Withdraw => "withdraw",
+            RowKind::Transfer => "transfer",
+            RowKind::Seal => "seal",
+            RowKind::Snapshot => "snapshot",
+            RowKind::Sealed => "sealed",
         }
     }
 }
 
-impl Described for Kind {}
+impl Described for RowKind {}
 
 /// Its word.
-impl Serialize for Kind {
+impl Serialize for RowKind {
     fn serialize<S: Serializer>(&self, out: &mut S) -> Result<(), S::Error> {
         out.str(self.name())
     }

@@ -1,12 +1,12 @@
 //! The parts of an entry.
-use crate::kind::Kind;
+use crate::kind::RowKind;
 use std::alloc::{AllocError, Global};
 use turn_ledger::{Batch, Entry};
 
 /// The parts of an entry. Those that its kind does not have are `None`.
 #[derive(Clone, Copy, Debug, PartialEq, Eq)]
 pub(crate) struct Parts {
-    pub(crate) kind: Kind,
+    pub(crate) kind: RowKind,
     /// The account that it takes from or seals.
     pub(crate) from: Option<u32>,
     /// The account that it brings to.
@@ -18,9 +18,9 @@ pub(crate) struct Parts {
 impl From<&Entry> for Parts {
     fn from(entry: &Entry) -> Parts {
         let (kind, from, to, amount) = match *entry {
-            Entry::Deposit { to, amount, .. } => (Kind::Deposit, None, Some(to), Some(amount)),
+            Entry::Deposit { to, amount, .. } => (RowKind::Deposit, None, Some(to), Some(amount)),
             Entry::Withdraw { from, amount, .. } => (
-                Kind::Withdraw,
+                RowKind::Withdraw,
                 Some(from),
                 None,
                 Some(amount),
@@ -30,8 +30,8 @@ impl From<&Entry> for Parts {
                 to,
                 amount,
                 ..
-            } => (Kind::Transfer, Some(from), Some(to), Some(amount)),
-            Entry::Seal { account, .. } => (Kind::Seal, Some(account), None, None),
+            } => (RowKind::Transfer, Some(from), Some(to), Some(amount)),
+            Entry::Seal { account, .. } => (RowKind::Seal, Some(account), None, None),
         };
         Parts {
             kind,

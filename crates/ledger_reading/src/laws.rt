@@ -10,8 +10,9 @@ ghost use Rattle.ledger_reading.specs.declared.any_journal.AnyJournal.TheVariant
 use gate_journal::one_reading;
 use sector_device::Device;
 
-/// What is listed of a journal of layout 3 is what is in sight of it, from which a search picks: the same records, of
-/// which the first has the same number. A bank that leads up to the live one has to be listed too, if there is one.
+/// What is listed of a journal of layout 3 is what is in sight of it, from which a search picks:
+/// the same records, of which the first has the same number. A bank that leads up to the live one
+/// has to be listed too, if there is one.
 pub fn listed_is_in_sight<D: Device>()
     ensures { (journal : JournalState D) (listed seen : Option EarlierBank) (whole : Whole)
         (contents : BankContents) (sight : Sight) → Holds D.state (Present journal) listed whole

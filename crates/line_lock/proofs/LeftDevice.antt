@@ -6,9 +6,11 @@ use Rattle.turn_clerk.specs.Clerk.{ClerkState, KeepsHistory, LeavesAcknowledged,
 use Rattle.line_lock.specs.OpenedOn.{WasOpenedOn, WasLeftByClerk}
 
 -- a device that comes from its clerk
-pub left_by : {D : Type 0} (state : D → DeviceState) (device : DeviceState) (from : Configuration) (clerk : ClerkState D) (after : D)
+pub left_by : {D : Type 0} (state : D → DeviceState) (device : DeviceState) (from : Configuration)
+    (clerk : ClerkState D) (after : D)
     → after ≡ clerk.journal.device → WasOpenedOn state device from clerk → KeepsHistory clerk
-    → ((state clerk.journal.device).honest → LeavesAcknowledged state clerk) → ((state clerk.journal.device).honest → LeftPrefixEver state clerk)
+    → ((state clerk.journal.device).honest → LeavesAcknowledged state clerk)
+    → ((state clerk.journal.device).honest → LeftPrefixEver state clerk)
     → WasLeftByClerk state device from after
 left_by state device from clerk after has opened legal acknowledged ever = record {
   clerk = clerk;

@@ -1,5 +1,6 @@
 -- As many seats as stations, and one at least for each: then one for each.
-use Rattle.std.proofs.Common.{◌≡◌, ◌≢◌, ◌+◌, ◌<◌, ◌≤◌, ◌==◌, ◌∷◌, [], ℕ, zero, suc, Bool, true, false, cond, List, length, refl, sym, ◌∙◌, ap, subst, arith, inl, inr}
+use Rattle.std.proofs.Common.{◌≡◌, ◌≢◌, ◌+◌, ◌<◌, ◌≤◌, ◌==◌, ◌∷◌, [], ℕ, zero, suc, Bool, true}
+use Rattle.std.proofs.Common.{false, cond, List, length, refl, sym, ◌∙◌, ap, subst, arith, inl, inr}
 use Rattle.std.proofs.lemmas.Bool.{cases_eq}
 use Rattle.std.proofs.lemmas.List.Sums.{sum_by-cons}
 use Rattle.std.proofs.lemmas.Bool.Decides.{nat_tests}
@@ -48,25 +49,33 @@ below-at (suc n) s = elim (cases_eq s n) [
 most : (n : ℕ) (seats : List SeatState) → below n (λ k. seats_of k seats) ≤ length seats
 most n [] = omega (arith, below-none n)
 most n (seat ∷ seats) =
-    let each : (k : ℕ) → seats_of k (seat ∷ seats) ≡ at seat.station k + seats_of k seats = λ k. sum_by-cons (λ (s : SeatState). at s.station k) seat seats in
-    let sum : below n (λ k. seats_of k (seat ∷ seats)) ≡ below n (at seat.station) + below n (λ k. seats_of k seats) =
+    let each : (k : ℕ) → seats_of k (seat ∷ seats) ≡ at seat.station k + seats_of k seats =
+    λ k. sum_by-cons (λ (s : SeatState). at s.station k) seat seats in
+    let sum : below n (λ k. seats_of k (seat ∷ seats))
+    ≡ below n (at seat.station) + below n (λ k. seats_of k seats) =
     ap (below n) (λ i k. each k i) ∙ below-both n (at seat.station) (λ k. seats_of k seats) in
     omega (arith, sum, below-at n seat.station, most n seats)
 
 -- where each value is 1 at least, and they are as many at most as their sum
 least : (n : ℕ) (f : ℕ → ℕ) → ((k : ℕ) → k < n → f k ≢ 0) → n ≤ below n f
 least zero f each = omega arith
-least (suc n) f each = let there = each n (omega arith) in omega (arith, least n f (λ k lt. each k (omega (arith, lt))), there)
+least (suc n) f each = let there = each n (omega arith) in
+    omega (arith, least n f (λ k lt. each k (omega (arith, lt))), there)
 
-all_one : (n : ℕ) (f : ℕ → ℕ) → ((k : ℕ) → k < n → f k ≢ 0) → below n f ≤ n → (k : ℕ) → k < n → f k ≡ 1
+all_one : (n : ℕ) (f : ℕ → ℕ) → ((k : ℕ) → k < n → f k ≢ 0) → below n f ≤ n → (k : ℕ) → k < n
+    → f k ≡ 1
 all_one zero f each sum k lt = absurd (omega (arith, lt))
 all_one (suc n) f each sum k lt =
     let there = each n (omega arith) in
     let others = least n f (λ j l. each j (omega (arith, l))) in
     elim (cases_eq k n) [
       | inl here ↦ subst (λ (j : ℕ). f j ≡ 1) (sym here) (omega (arith, sum, others, there))
-      | inr differs ↦ all_one n f (λ j l. each j (omega (arith, l))) (omega (arith, sum, there)) k (omega (arith, lt, differs))
+      | inr differs ↦
+          all_one n f (λ j l. each j (omega (arith, l))) (omega (arith, sum, there)) k
+          (omega (arith, lt, differs))
     ]
 
-pub one_each : (n : ℕ) (seats : List SeatState) → length seats ≡ n → ((k : ℕ) → k < n → seats_of k seats ≢ 0) → (k : ℕ) → k < n → seats_of k seats ≡ 1
-one_each n seats size each = all_one n (λ k. seats_of k seats) each (omega (arith, most n seats, size))
+pub one_each : (n : ℕ) (seats : List SeatState) → length seats ≡ n
+    → ((k : ℕ) → k < n → seats_of k seats ≢ 0) → (k : ℕ) → k < n → seats_of k seats ≡ 1
+one_each n seats size each =
+    all_one n (λ k. seats_of k seats) each (omega (arith, most n seats, size))

@@ -7,10 +7,11 @@ use Rattle.turn_clerk.specs.Clerk.{ClerkState, opening_state}
 use Rattle.line_lock.specs.OpenedOn.{WasOpenedOn}
 use Rattle.line_lock.specs.Account.{failed_turns}
 
--- Its clerk was opened on that device with that line, from a state in which the office may begin. A book counts each
--- turn of the history, and the one in which the device failed; it has a part for each station, and all parts, with all
--- that they count, are the seats'.
-pub record HoldsUnlocked {D : Type 0} (state : D → DeviceState) (device : DeviceState) (line : Configuration) (begins : State → Type 0)
+-- Its clerk was opened on that device with that line, from a state in which the office may begin. A
+-- book counts each turn of the history, and the one in which the device failed; it has a part for
+-- each station, and all parts, with all that they count, are the seats'.
+pub record HoldsUnlocked {D : Type 0} (state : D → DeviceState) (device : DeviceState)
+    (line : Configuration) (begins : State → Type 0)
     (clerk : ClerkState D) (total parts rest_parts rest_amount : ℕ) : Type 0 where
   pub counted : length clerk.history + failed_turns clerk ≡ total
   pub for_each : stations clerk.line ≡ parts

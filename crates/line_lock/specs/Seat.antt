@@ -18,7 +18,8 @@ pub record SeatState : Type 0 where
   pub turns : List Turn
   -- how many turns the history held when the station was last told that it isn't its turn
   pub denied : Option ℕ
-  -- the greatest number of turns that it was told the history holds, where it asked for fewer; 0 where it never was
+  -- the greatest number of turns that it was told the history holds, where it asked for fewer; 0
+  -- where it never was
   pub reached : ℕ
   -- in how many of its turns the device failed
   pub failed : ℕ
@@ -33,12 +34,24 @@ pub record SeatState : Type 0 where
 
 -- a seat as an opening hands it out
 abbrev pub new_seat : ℕ → SeatState
-new_seat station = record { station = station; turns = []; denied = None; reached = 0; failed = 0; told = None; faulted = false; undecided = None; room = 0 }
+new_seat station =
+    record {
+      station = station;
+      turns = [];
+      denied = None;
+      reached = 0;
+      failed = 0;
+      told = None;
+      faulted = false;
+      undecided = None;
+      room = 0;
+    }
 
--- The turn was acknowledged: a clerk that was opened on that device with that line had it as the last of a legal
--- history, and each image that a crash then left recovers to the ledger of a prefix of the accepted batches with all
--- batches of this history, and so with its own.
-pub record WasAcknowledged {D : Type 0} (state : D → DeviceState) (device : DeviceState) (from : Configuration) (turn : Turn) : Type 0 where
+-- The turn was acknowledged: a clerk that was opened on that device with that line had it as the
+-- last of a legal history, and each image that a crash then left recovers to the ledger of a prefix
+-- of the accepted batches with all batches of this history, and so with its own.
+pub record WasAcknowledged {D : Type 0} (state : D → DeviceState) (device : DeviceState)
+    (from : Configuration) (turn : Turn) : Type 0 where
   pub clerk : ClerkState D
   pub opened : WasOpenedOn state device from clerk
   pub legal : KeepsHistory clerk
@@ -46,17 +59,19 @@ pub record WasAcknowledged {D : Type 0} (state : D → DeviceState) (device : De
   pub last : clerk.history ≡ before ++ turn ∷ []
   pub leaves : device.honest → LeavesAcknowledged state clerk
 
--- So many turns are a legal history from the opening on that device with that line, after which the station has no
--- privilege.
-pub record IsDeniedAfter (device : DeviceState) (from : Configuration) (station before : ℕ) : Type 0 where
+-- So many turns are a legal history from the opening on that device with that line, after which the
+-- station has no privilege.
+pub record IsDeniedAfter (device : DeviceState) (from : Configuration)
+    (station before : ℕ) : Type 0 where
   pub turns : List Turn
   pub history : IsHistoryOf device from turns
   pub many : length turns ≡ before
   pub no_privilege : ¬ HasPrivilege (line_after from turns) station
 
--- A clerk refused the station a turn with these entries for that reason, where it stood behind some turns: they are a
--- legal history from the opening on that device with that line.
-pub record WasRefused (device : DeviceState) (from : Configuration) (station : ℕ) (entries : List Entry) (refusal : TurnRefusal) : Type 0 where
+-- A clerk refused the station a turn with these entries for that reason, where it stood behind some
+-- turns: they are a legal history from the opening on that device with that line.
+pub record WasRefused (device : DeviceState) (from : Configuration) (station : ℕ)
+    (entries : List Entry) (refusal : TurnRefusal) : Type 0 where
   pub turns : List Turn
   pub history : IsHistoryOf device from turns
   pub standing : Standing

@@ -1,5 +1,6 @@
 //! What closing an office looks at, and what it answers.
-ghost use Rattle.std.specs.Prelude.{◌≡◌, ◌≢◌, ℕ, ◌+◌, ◌-◌, ◌<◌, ◌≤◌, ◌⊎◌, ◌↔◌, All, sum_by, length, take, true, false, IsTrue, OnOk, Err, Some, slice_get};
+ghost use Rattle.std.specs.Prelude.{◌≡◌, ◌≢◌, ℕ, ◌+◌, ◌-◌, ◌<◌, ◌≤◌, ◌⊎◌, ◌↔◌, All, sum_by, length};
+ghost use Rattle.std.specs.Prelude.{take, true, false, IsTrue, OnOk, Err, Some, slice_get};
 ghost use Rattle.four_state.specs.Configuration.{stations};
 ghost use Rattle.sweep_auditor.specs.Audited.{IsAuditOf};
 ghost use Rattle.turn_clerk.specs.History.{line_after, moves_of};
@@ -14,7 +15,8 @@ use sweep_auditor::{Audit, audit};
 use thiserror::Error;
 use turn_clerk::{Clerk, Turn};
 
-/// A closed office: the clerk that it had, and the audit of the clerk's opening line and all its moves.
+/// A closed office: the clerk that it had, and the audit of the clerk's opening line and all its
+/// moves.
 #[derive(Drop)]
 #[derive_where(Debug)]
 pub struct Closing<D: Device> {

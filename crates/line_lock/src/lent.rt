@@ -5,7 +5,8 @@ ghost use Rattle.four_state.specs.Configuration.{Configuration, stations};
 ghost use Rattle.journal_recovery.specs.State.{State};
 ghost use Rattle.line_lock.specs.OpenedOn.{Names, WasLeftByClerk};
 ghost use Rattle.line_lock.specs.Seat.{SeatState};
-ghost use Rattle.line_lock.specs.Lent.{new_seats, AccountFor, IsClosed, IsRefused, IfOpening, UnlessOpening};
+ghost use Rattle.line_lock.specs.Lent.{new_seats, AccountFor, IsClosed, IsRefused, IfOpening};
+ghost use Rattle.line_lock.specs.Lent.{UnlessOpening};
 
 use crate::closing::{CloseRefusal, Closing};
 use crate::office::Office;
@@ -31,9 +32,11 @@ pub trait OfficeWork<D: Device>: Drop {
     /// Whether it can be done in an office of so many stations.
     ghost ready: { Self → ℕ → Type 0 } = { λ _ _. Unit {0} };
 
-    /// What it makes, in an office that was opened on this device with this line, of the seats that it was lent: those
-    /// that it gives back, and its answer. A work that doesn't say promises nothing of them.
-    ghost makes: { Self → DeviceState → Configuration → List SeatState → List SeatState → Self.Answer → Type 0 } = { λ _ _ _ _ _ _. Unit {0} };
+    /// What it makes, in an office that was opened on this device with this line, of the seats that
+    /// it was lent: those that it gives back, and its answer. A work that doesn't say promises
+    /// nothing of them.
+    ghost makes: { Self → DeviceState → Configuration → List SeatState → List SeatState
+        → Self.Answer → Type 0 } = { λ _ _ _ _ _ _. Unit {0} };
 
     /// Works with the seats of an office, that of station 0 first, and gives all of them back.
     fn work<L: Count + OpenedOn + Send + Sync>(
@@ -61,12 +64,12 @@ pub enum OfficeRefusal<F: Display> {
     Closing(CloseRefusal),
 }
 
-/// Opens an office on the device, with this line, lends it with all its seats to the work, and closes it. Answers the
-/// closing, and what the work answered.
+/// Opens an office on the device, with this line, lends it with all its seats to the work, and
+/// closes it. Answers the closing, and what the work answered.
 ///
 /// # Errors
-/// The device comes back. [`OfficeRefusal::Opening`]: as it was left by the opening; else as a clerk that took turns on
-/// it left it.
+/// The device comes back. [`OfficeRefusal::Opening`]: as it was left by the opening; else as a
+/// clerk that took turns on it left it.
 pub fn with_office<D: Device, W: OfficeWork<D>>(
     alloc: Global,
     device: D,

@@ -1,6 +1,8 @@
-//! One office for several counters: a clerk behind one lock, and a seat for each station of the line.
+//! One office for several counters: a clerk behind one lock, and a seat for each station of the
+//! line.
 //!
-//! The test `turns_are_listed_and_refusals_noted` in `src/offices.rt` of the crate `test_examples` is an example.
+//! The test `turns_are_listed_and_refusals_noted` in `src/offices.rt` of the crate `test_examples`
+//! is an example.
 #![tactic(auto)]
 
 mod closing;
@@ -25,7 +27,7 @@ pub use std::sync::ledger::{Blank, Ledger as Count};
 pub use sweep_auditor::Audit;
 pub use told::{Room, ToldBalance};
 pub use turn_clerk::{
-    Clerk, FindRefusal, OpenRefusal, Posting, Reached, SEARCH_STEP, SearchStep, Sought, Taken,
-    Turn, TurnRefusal, later_posting,
+    Clerk, FindRefusal, OpenRefusal, Posting, Reached, SEARCH_STEP, SearchStep, SearchTarget,
+    Taken, Turn, TurnRefusal, later_posting,
 };
 pub use turn_ledger::{BATCH_LIMIT, Entry};

@@ -1,12 +1,15 @@
 //! The office.
-ghost use Rattle.std.specs.Prelude.{◌≡◌, ◌≢◌, ◌⊎◌, ℕ, ◌+◌, ◌-◌, ◌*◌, ◌<◌, ◌≤◌, ◌↔◌, [], length, map, All, sum_by, vec_capacity, false, IsTrue, IfOk, IfErr, OnOk, IsErrAnd, Err};
+ghost use Rattle.std.specs.Prelude.{◌≡◌, ◌≢◌, ◌⊎◌, ℕ, ◌+◌, ◌-◌, ◌*◌, ◌<◌, ◌≤◌, ◌↔◌, [], length};
+ghost use Rattle.std.specs.Prelude.{map, All, sum_by, vec_capacity, false, IsTrue, IfOk, IfErr};
+ghost use Rattle.std.specs.Prelude.{OnOk, IsErrAnd, Err};
 ghost use Rattle.std.specs.List.{range_with_len};
 ghost use Rattle.sector_device.specs.Device.{AreCalls};
 ghost use Rattle.sector_device.specs.Crash.{OnlyLooks, IsDurable};
 ghost use Rattle.four_state.specs.Configuration.{stations};
 ghost use Rattle.sweep_auditor.specs.Run.{IsRun};
 ghost use Rattle.sweep_auditor.specs.Audited.{IsAuditOf};
-ghost use Rattle.turn_clerk.specs.Clerk.{KeepsHistory, LeavesAcknowledged, LeftPrefixEver, opening_state, present_state};
+ghost use Rattle.turn_clerk.specs.Clerk.{KeepsHistory, LeavesAcknowledged, LeftPrefixEver};
+ghost use Rattle.turn_clerk.specs.Clerk.{opening_state, present_state};
 ghost use Rattle.turn_clerk.specs.FarBack.{LeftRecordsEver};
 ghost use Rattle.turn_clerk.specs.History.{moves_of};
 ghost use Rattle.turn_clerk.specs.Reply.{turn_of};
@@ -31,7 +34,7 @@ use sector_device::Device;
 use std::alloc::Global;
 use std::sync::ledger::{Blank, Ledger as Count};
 use std::sync::{Mutex, Wait};
-use turn_clerk::{Clerk, FindRefusal, SearchStep, Sought, Taken, Turn, TurnRefusal};
+use turn_clerk::{Clerk, FindRefusal, SearchStep, SearchTarget, Taken, Turn, TurnRefusal};
 use turn_ledger::Entry;
 
 /// One clerk that several stations share, one turn at a time.
@@ -41,13 +44,14 @@ pub struct Office<D: Device, L: Count + OpenedOn> {
 }
 
 impl<D: Device, L: Count + OpenedOn> Office<D, L> {
-    /// Opens the ledger of a device for a line of stations, and hands out a seat for each, station 0 first. All memory
-    /// is reserved before any device call. A refusal hands the device back and drops the blank. `L` names the device
-    /// and the line, so that closing the office can tell what it was opened on.
+    /// Opens the ledger of a device for a line of stations, and hands out a seat for each, station
+    /// 0 first. All memory is reserved before any device call. A refusal hands the device back and
+    /// drops the blank. `L` names the device and the line, so that closing the office can tell what
+    /// it was opened on.
     ///
     /// # Errors
-    /// The device comes back with an [`OpenRefusal`], the first that holds; `Memory` comes before any device call. The
-    /// blank is dropped.
+    /// The device comes back with an [`OpenRefusal`], the first that holds; `Memory` comes before
+    /// any device call. The blank is dropped.
     pub fn open(
         alloc: Global,
         device: D,
@@ -79,11 +83,12 @@ impl<D: Device, L: Count + OpenedOn> Office<D, L> {
         Ok(Office::seated(alloc, clerk, blank, seats))
     }
 
-    /// The same over a clerk, which begins anew with its ledger and its line: nothing is read of the device.
+    /// The same over a clerk, which begins anew with its ledger and its line: nothing is read of
+    /// the device.
     ///
     /// # Errors
-    /// The clerk comes back as it was. `Memory`: there is none for the seats. `Device`: the clerk has met a fault of
-    /// its device. The blank is dropped.
+    /// The clerk comes back as it was. `Memory`: there is none for the seats. `Device`: the clerk
+    /// has met a fault of its device. The blank is dropped.
     pub fn open_over(
         alloc: Global,
         clerk: Clerk<D>,
@@ -109,7 +114,8 @@ impl<D: Device, L: Count + OpenedOn> Office<D, L> {
         }
     }
 
-    // The office of a clerk that was just opened, and the seats of its stations, for which there are places.
+    // The office of a clerk that was just opened, and the seats of its stations, for which there
+    // are places.
     fn seated(
         alloc: Global,
         clerk: Clerk<D>,
@@ -132,12 +138,13 @@ impl<D: Device, L: Count + OpenedOn> Office<D, L> {
         (Office { locked }, seats)
     }
 
-    /// Takes a turn of the seat's station with these entries; it may wait for the lock. A place for the turn in the
-    /// seat's list is reserved first, so running out of memory there comes before every other refusal.
+    /// Takes a turn of the seat's station with these entries; it may wait for the lock. A place for
+    /// the turn in the seat's list is reserved first, so running out of memory there comes before
+    /// every other refusal.
     ///
     /// # Errors
-    /// [`TurnRefusal`]: `Memory` for the seat's list, and then the first that holds of the clerk. The seat's list is as
-    /// it was.
+    /// [`TurnRefusal`]: `Memory` for the seat's list, and then the first that holds of the clerk.
+    /// The seat's list is as it was.
     pub fn turn<R: Wait>(
         &self,
         rt: &R,
@@ -171,8 +178,8 @@ impl<D: Device, L: Count + OpenedOn> Office<D, L> {
         self.locked.lock(rt).turn(seat, entries)
     }
 
-    /// As `turn`, but for an office whose history is meant to hold so many turns and no more: under the lock it is
-    /// looked at first whether it holds them.
+    /// As `turn`, but for an office whose history is meant to hold so many turns and no more: under
+    /// the lock it is looked at first whether it holds them.
     ///
     /// # Errors
     /// `Memory` for the seat's list, `Reached` if so many turns were taken, and then as of `turn`.
@@ -198,8 +205,8 @@ impl<D: Device, L: Count + OpenedOn> Office<D, L> {
         }
     }
 
-    /// As [`turn_within`](Office::turn_within), but the turn isn't handed out: it stays where it is kept, the last of
-    /// the seat's list.
+    /// As [`turn_within`](Office::turn_within), but the turn isn't handed out: it stays where it is
+    /// kept, the last of the seat's list.
     ///
     /// # Errors
     /// The same.
@@ -225,16 +232,16 @@ impl<D: Device, L: Count + OpenedOn> Office<D, L> {
         self.locked.lock(rt).turn_within(seat, entries, limit)
     }
 
-    /// How far the ledger is, and how much room its live bank has; it may wait for the lock. Nothing is read of the
-    /// device.
+    /// How far the ledger is, and how much room its live bank has; it may wait for the lock.
+    /// Nothing is read of the device.
     pub fn room<R: Wait>(&self, rt: &R) -> Room
         ensures { WasToldRoom D.state L.device L.line result }
     {
         self.locked.lock(rt).room()
     }
 
-    /// What an account holds; it may wait for the lock. The history that the balance comes from has at least as many
-    /// turns as the seat lists. The seat notes the answer, for closing the office.
+    /// What an account holds; it may wait for the lock. The history that the balance comes from has
+    /// at least as many turns as the seat lists. The seat notes the answer, for closing the office.
     ///
     /// # Errors
     /// [`BalanceRefusal`], the first that holds.
@@ -251,9 +258,10 @@ impl<D: Device, L: Count + OpenedOn> Office<D, L> {
         self.locked.lock(rt).balance(seat, account)
     }
 
-    /// Looks for what is sought in the records in sight, as [`Clerk::search`] does; it may wait for the lock. A call
-    /// takes the lock for one step, of [`turn_clerk::SEARCH_STEP`] records at most: between the calls of a long search
-    /// others may take turns. The seat notes if it is told of a fault, for closing the office.
+    /// Looks for what is sought in the records in sight, as [`Clerk::search`] does; it may wait for
+    /// the lock. A call takes the lock for one step, of [`turn_clerk::SEARCH_STEP`] records at
+    /// most: between the calls of a long search others may take turns. The seat notes if it is told
+    /// of a fault, for closing the office.
     ///
     /// # Errors
     /// [`FindRefusal`], the first that holds.
@@ -261,7 +269,7 @@ impl<D: Device, L: Count + OpenedOn> Office<D, L> {
         &self,
         rt: &R,
         seat: &mut Seat<L>,
-        sought: Sought,
+        sought: SearchTarget,
         from: u64,
         end: u64,
     ) -> Result<SearchStep, FindRefusal>
@@ -271,10 +279,11 @@ impl<D: Device, L: Count + OpenedOn> Office<D, L> {
         self.locked.lock(rt).search(seat, sought, from, end)
     }
 
-    /// Closes the office, if the list has the seat of each station and the clerk bears out what each one holds: its
-    /// list is that of the station's turns, in order, each once; if it was told that it isn't its turn, it wasn't; the
-    /// last balance that it was told is what the account then held; and where it was told of a fault, there was one.
-    /// Seats may come in any order. It waits for nobody, and a faulted office is closed too.
+    /// Closes the office, if the list has the seat of each station and the clerk bears out what
+    /// each one holds: its list is that of the station's turns, in order, each once; if it was told
+    /// that it isn't its turn, it wasn't; the last balance that it was told is what the account
+    /// then held; and where it was told of a fault, there was one. Seats may come in any order. It
+    /// waits for nobody, and a faulted office is closed too.
     ///
     /// # Errors
     /// The office and the seats come back: a seat is missing, or is another office's.
@@ -331,7 +340,8 @@ impl<D: Device, L: Count + OpenedOn> Office<D, L> {
             mut book,
             rest,
         } = locked;
-        // for the contract alone: each turn is in some seat's list, a failed one is counted, and what every clerk keeps
+        // for the contract alone: each turn is in some seat's list, a failed one is counted, and
+        // what every clerk keeps
         book.audit(&mut gathered(rest, seats));
         clerk.legal_history();
         clerk.durable_prefix();
@@ -340,7 +350,8 @@ impl<D: Device, L: Count + OpenedOn> Office<D, L> {
         Ok(Closing { clerk, audit })
     }
 
-    /// The clerk of an office that nobody closes, without an account of the seats. It waits for nobody.
+    /// The clerk of an office that nobody closes, without an account of the seats. It waits for
+    /// nobody.
     pub fn into_clerk(self) -> Clerk<D>
         ensures stations { stations result.opening.line ≡ L.parts }
         ensures opened { WasOpenedOn D.state L.device L.line result }

@@ -5,10 +5,10 @@ ghost use Rattle.journal_recovery.specs.State.{State};
 
 use std::marker::Brand;
 
-/// What the type that names an office says besides its count: the device and the line that the office was opened with,
-/// and what is known of the ledger that its clerk began with. A lock forgets them; the type doesn't, so that closing
-/// the office can tell of them. Who opens an office by [`std::marker::Brand`] names them in a proof, as the count's
-/// name and parts.
+/// What the type that names an office says besides its count: the device and the line that the
+/// office was opened with, and what is known of the ledger that its clerk began with. A lock
+/// forgets them; the type doesn't, so that closing the office can tell of them. Who opens an office
+/// by [`std::marker::Brand`] names them in a proof, as the count's name and parts.
 pub trait OpenedOn {
     /// The device, as it was handed in.
     ghost device: { DeviceState };

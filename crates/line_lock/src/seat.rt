@@ -9,9 +9,10 @@ use std::sync::ledger::{Ledger as Count, Share};
 use turn_clerk::Turn;
 use turn_ledger::Batch;
 
-/// A station's right to take turns, and an account of those that it took. Each turn that its station takes, and each in
-/// which the device fails, is counted in the office's book by the seat's share, which no one else has. `L` names the
-/// book: a seat of another office has another type, and a list with it is refused by the compiler (`mismatched-types`).
+/// A station's right to take turns, and an account of those that it took. Each turn that its
+/// station takes, and each in which the device fails, is counted in the office's book by the seat's
+/// share, which no one else has. `L` names the book: a seat of another office has another type, and
+/// a list with it is refused by the compiler (`mismatched-types`).
 #[derive(Drop)]
 pub struct Seat<L: Count> {
     pub(crate) station: u8,
@@ -42,7 +43,8 @@ impl<L: Count> Model for Seat<L> {
       room = vec_capacity s.turns - vec_len s.turns;
     } };
 
-    ghost invariant = { λ s. (s.station < L.parts) × (s.share.parts ≡ 1) × (length s.turns.items ≤ s.share.amount) };
+    ghost invariant = { λ s. (s.station < L.parts) × (s.share.parts ≡ 1)
+        × (length s.turns.items ≤ s.share.amount) };
 }
 
 impl<L: Count> Seat<L> {
@@ -87,8 +89,8 @@ impl<L: Count> Seat<L> {
         self.denied
     }
 
-    /// The greatest limit that the seat was answered [`crate::WithinRefusal::Reached`] for: the office's history held
-    /// as many turns then; 0 if it never was.
+    /// The greatest limit that the seat was answered [`crate::WithinRefusal::Reached`] for: the
+    /// office's history held as many turns then; 0 if it never was.
     pub fn reached(&self) -> u64
         ensures { result ≡ self.now.reached }
     {

@@ -1,4 +1,5 @@
-//! How an office and its seats are shown to a programmer. Of what lies under the office's lock nothing is.
+//! How an office and its seats are shown to a programmer. Of what lies under the office's lock
+//! nothing is.
 use crate::office::Office;
 use crate::opened_on::OpenedOn;
 use crate::seat::Seat;

@@ -1,5 +1,6 @@
 //! What a seat was told of an account, and whether a clerk bears it out.
-ghost use Rattle.std.specs.Prelude.{◌≡◌, ◌==◌, ◌≤◌, ◌↔◌, if◌then◌else◌, length, IsTrue, Some, SomeIff};
+ghost use Rattle.std.specs.Prelude.{◌≡◌, ◌==◌, ◌≤◌, ◌↔◌, if◌then◌else◌, length, IsTrue, Some};
+ghost use Rattle.std.specs.Prelude.{SomeIff};
 ghost use Rattle.turn_ledger.specs.State.{LedgerState, IsLedger, IsAccount, balance_of};
 ghost use Rattle.turn_ledger.specs.Screen.{AreAccepted, accepted, posted_in_order};
 ghost use Rattle.turn_ledger.specs.Ledger.{into, out_of};
@@ -60,9 +61,11 @@ fn taken(account: u32, entry: &Entry) -> u64
     }
 }
 
-// What an account holds after entries that are accepted, in order. No sum is ever greater than twice a ledger's total.
+// What an account holds after entries that are accepted, in order. No sum is ever greater than
+// twice a ledger's total.
 fn after_entries(account: u32, before: u64, entries: &[Entry]) -> u64
-    ensures { (state : LedgerState) → IsLedger state → AreAccepted state entries.now → IsAccount account
+    ensures { (state : LedgerState) → IsLedger state → AreAccepted state entries.now
+        → IsAccount account
         → before ≡ balance_of state account
         → result ≡ balance_of (posted_in_order state entries.now) account }
 {
@@ -75,7 +78,8 @@ fn after_entries(account: u32, before: u64, entries: &[Entry]) -> u64
     balance
 }
 
-// What an account held after so many turns of the history, or None if there is no account of this number.
+// What an account held after so many turns of the history, or None if there is no account of this
+// number.
 fn held_after<D: Device>(clerk: &Clerk<D>, account: u32, turns: usize) -> Option<u64>
     requires { turns ≤ length clerk.now.history }
     ensures { SomeIff result (IsAccount account) (held_after clerk.now turns account) }

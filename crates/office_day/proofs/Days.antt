@@ -20,7 +20,7 @@ use Rattle.station_desk.specs.Rings.{FeedState, DeskState, AreTogether}
 use Rattle.station_desk.specs.Served.{entries_of_turns, outcomes_of_turns}
 use Rattle.station_desk.specs.Run.{HasRun}
 use Rattle.office_day.specs.declared.reconciled.StationDay.{StationDay}
-use Rattle.office_day.specs.declared.seated.Left.{Left}
+use Rattle.office_day.specs.declared.seated.StationRemains.{StationRemains}
 use Rattle.turn_clerk.specs.Clerk.{ClerkState}
 use Rattle.station_desk.specs.declared.end.End.{End}
 use Rattle.office_day.specs.Ended.{HasEnded}
@@ -35,17 +35,19 @@ pub record Parts : Type 0 where
   pub feeds : List FeedState
   pub desks : List DeskState
   pub after : List SeatState
-  pub left : List Left
+  pub left : List StationRemains
   pub days : List StationDay
 
--- How a day went in an office that was opened on that device with that line, and has this clerk: what each station
--- holds is handed in, it runs from a new seat and a fresh desk, nobody sends it home, the clerk bears out what its seat
--- then holds, and its requests are reconciled.
-pub record Went {D : Type 0} (state : D → DeviceState) (device : DeviceState) (from : Configuration) (clerk : ClerkState D) (moves : ℕ) (parts : Parts) : Type 0 where
+-- How a day went in an office that was opened on that device with that line, and has this clerk:
+-- what each station holds is handed in, it runs from a new seat and a fresh desk, nobody sends it
+-- home, the clerk bears out what its seat then holds, and its requests are reconciled.
+pub record Went {D : Type 0} (state : D → DeviceState) (device : DeviceState) (from : Configuration)
+    (clerk : ClerkState D) (moves : ℕ) (parts : Parts) : Type 0 where
   pub handed : AllZip HasHandedIn parts.held parts.feeds
   pub together : AllZip AreTogether parts.feeds parts.desks
   pub fresh : All IsFresh parts.desks
-  pub served : HaveServed state device from (new_seats (length parts.held)) parts.desks parts.after parts.left moves ⊥
+  pub served : HaveServed state device from (new_seats (length parts.held)) parts.desks parts.after
+      parts.left moves ⊥
   pub borne_out : All (IsBorneOut clerk) parts.after
   pub reconciled : AreReconciled parts.feeds parts.left parts.days
 
@@ -54,17 +56,19 @@ pub length-new_seats : (n : ℕ) → length (new_seats n) ≡ n
 length-new_seats n = length-map (range_with_len 0 n) new_seat ∙ length-range_with_len 0 n
 
 -- the seat at one place of them
-pub new_seat_at : (n i : ℕ) (seat : SeatState) → i < n → slice_index_or (new_seats n) i seat ≡ new_seat i
+pub new_seat_at : (n i : ℕ) (seat : SeatState) → i < n
+    → slice_index_or (new_seats n) i seat ≡ new_seat i
 new_seat_at n i seat low = get_or-map-range_with_len new_seat 0 n i i seat low (omega arith)
 
 -- the day of one station
-record One {D : Type 0} (state : D → DeviceState) (device : DeviceState) (from : Configuration) (clerk : ClerkState D) (moves i : ℕ) : Type 0 where
+record One {D : Type 0} (state : D → DeviceState) (device : DeviceState) (from : Configuration)
+    (clerk : ClerkState D) (moves i : ℕ) : Type 0 where
   entries : List Entry
   feed : FeedState
   before : DeskState
   seat : SeatState
   after : SeatState
-  left : Left
+  left : StationRemains
   day : StationDay
   sat : seat ≡ new_seat i
   handed : HasHandedIn entries feed
@@ -73,34 +77,44 @@ record One {D : Type 0} (state : D → DeviceState) (device : DeviceState) (from
   out : IsBorneOut clerk after
   done : IsReconciled feed left day
 
-had_day : {D : Type 0} {state : D → DeviceState} {device : DeviceState} {from : Configuration} {clerk : ClerkState D} {moves i : ℕ} (one : One state device from clerk moves i)
+had_day : {D : Type 0} {state : D → DeviceState} {device : DeviceState} {from : Configuration}
+    {clerk : ClerkState D} {moves i : ℕ} (one : One state device from clerk moves i)
     → HadDay clerk moves i one.entries one.day
 had_day {clerk = clerk} {moves = moves} {i = i} one =
     let history = clerk.history in
     let worked = one.ran.worked in
     let served = worked.served in
-    let station : one.after.station ≡ i = worked.station ∙ ap (λ (s : SeatState). s.station) one.sat in
+    let station : one.after.station ≡ i =
+    worked.station ∙ ap (λ (s : SeatState). s.station) one.sat in
     let none : one.seat.turns ≡ [] = ap (λ (s : SeatState). s.turns) one.sat in
     let turns : worked.turns ≡ turns_of i history =
-    sym (worked.listed ∙ ap (λ (l : List Turn). l ++ worked.turns) none) ∙ one.out.turns ∙ ap (λ s. turns_of s history) station in
+    sym (worked.listed ∙ ap (λ (l : List Turn). l ++ worked.turns) none) ∙ one.out.turns
+    ∙ ap (λ s. turns_of s history) station in
     let more : one.day.answers.items ≡ served.more =
-    sym (one.done.given ∙ ap (λ (l : List Answer). l ++ one.day.answers.items) one.handed.collected) ∙ served.given ∙ ap (λ (l : List Answer). l ++ served.more) one.fresh in
+    sym (one.done.given ∙ ap (λ (l : List Answer). l ++ one.day.answers.items) one.handed.collected)
+    ∙ served.given ∙ ap (λ (l : List Answer). l ++ served.more) one.fresh in
     let asked : one.feed.asked ≡ asks_of one.day.answers.items ++ one.day.unanswered.items =
-    one.done.asked ∙ ap (λ (l : List Answer). asks_of l ++ asks_of one.day.answers.items ++ one.day.unanswered.items) one.handed.collected in
+    one.done.asked ∙ ap
+    (λ (l : List Answer). asks_of l ++ asks_of one.day.answers.items
+    ++ one.day.unanswered.items) one.handed.collected in
     record {
       account = record {
         given_up = worked.given_up;
         in_order = ap entries_of (sym asked) ∙ one.handed.asked;
         tickets = subst (AreNumberedFrom 0) asked one.done.tickets;
-        answered = ap (λ (l : List Answer). entries_of (asks_of l)) more ∙ served.entries ∙ ap (λ (l : List Turn). entries_of_turns l ++ entries_of worked.given_up) turns;
-        outcomes = ap outcomes_in more ∙ served.outcomes ∙ ap (λ (l : List Turn). outcomes_of_turns l ++ undecided worked.given_up) turns;
+        answered = ap (λ (l : List Answer). entries_of (asks_of l)) more ∙ served.entries
+            ∙ ap (λ (l : List Turn). entries_of_turns l ++ entries_of worked.given_up) turns;
+        outcomes = ap outcomes_in more ∙ served.outcomes
+            ∙ ap (λ (l : List Turn). outcomes_of_turns l ++ undecided worked.given_up) turns;
       };
       within = subst (All (λ turn. turn.index < moves)) turns worked.within;
       ended = subst (λ (end : End). HasEnded clerk moves i ⊥ end worked.given_up) (sym one.done.end)
-          (has_ended clerk i one.seat one.after one.before one.left.desk one.left.end one.sat one.ran one.out);
+          (has_ended clerk i one.seat one.after one.before one.left.desk one.left.end one.sat
+          one.ran one.out);
     }
 
-pub had_their_day : {D : Type 0} {state : D → DeviceState} {device : DeviceState} {from : Configuration} {clerk : ClerkState D} {moves : ℕ} {parts : Parts}
+pub had_their_day : {D : Type 0} {state : D → DeviceState} {device : DeviceState}
+    {from : Configuration} {clerk : ClerkState D} {moves : ℕ} {parts : Parts}
     → Went state device from clerk moves parts → HadTheirDay clerk moves parts.held parts.days
 had_their_day {parts = parts} went =
     let count = length parts.held in
@@ -113,11 +127,12 @@ had_their_day {parts = parts} went =
           let in_feeds : i < length parts.feeds = omega (arith, low, as_many) in
           let in_desks : i < length parts.desks = omega (arith, in_feeds, at_desks) in
           let in_seats : i < length (new_seats count) = omega (arith, low, seats) in
-          let in_after : i < length parts.after = omega (arith, in_seats, went.served.seats_as_many) in
+          let in_after : i < length parts.after =
+          omega (arith, in_seats, went.served.seats_as_many) in
           let feed = first parts.feeds (omega (arith, in_feeds)) in
           let desk = first parts.desks (omega (arith, in_desks)) in
           let seat = new_seat 0 in
-          let part : Left = record { desk = desk; end = NotStarted } in
+          let part : StationRemains = record { desk = desk; end = NotStarted } in
           had_day (record {
             entries = slice_index_or parts.held i entries;
             feed = slice_index_or parts.feeds i feed;

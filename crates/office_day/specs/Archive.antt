@@ -33,23 +33,26 @@ next_of archive = archive.first + length archive.batches
 abbrev pub EndsWith : Archive → Image → Type 0
 EndsWith archive image = (found : State) → RecoversTo found image → found.next ≡ next_of archive
 
--- From that number on the image has these batches and no more: they are in sight, and each is spelled by the record of
--- its number.
+-- From that number on the image has these batches and no more: they are in sight, and each is
+-- spelled by the record of its number.
 pub record HasFrom (number : ℕ) (batches : List (List Entry)) (image : Image) : Type 0 where
   pub sight : Sight
   pub is : HasInSight image sight
   pub from : sight.base ≤ number
   pub ends : end_of sight ≡ number + length batches
-  pub spelled : (k : ℕ) → k < length batches → Spells (numbered sight (number + k)) (batch_at batches k)
+  pub spelled : (k : ℕ) → k < length batches
+      → Spells (numbered sight (number + k)) (batch_at batches k)
 
--- The archive has what it lacked of the ledger in the image, behind what it had, and ends where that does.
+-- The archive has what it lacked of the ledger in the image, behind what it had, and ends where
+-- that does.
 pub record HasCaughtUp (image : Image) (old new : Archive) : Type 0 where
   pub more : List (List Entry)
   pub longer : new.batches ≡ old.batches ++ more
   pub lacked : HasFrom (next_of old) more image
   pub ends : EndsWith new image
 
--- An archive was kept: nothing in it is lost, and it begins where it did. Once it failed it has failed.
+-- An archive was kept: nothing in it is lost, and it begins where it did. Once it failed it has
+-- failed.
 pub record IsKept (old new : Archive) : Type 0 where
   pub first : new.first ≡ old.first
   pub honest : new.honest ≡ old.honest
@@ -60,7 +63,8 @@ pub record IsKept (old new : Archive) : Type 0 where
 abbrev pub CatchesUp : Image → Archive → Archive → Type 0
 CatchesUp image old new = old.honest ≡ true → new.failed ≡ false → HasCaughtUp image old new
 
--- An archive was kept of the ledger on that device. If the device is honest, it has caught up with that.
+-- An archive was kept of the ledger on that device. If the device is honest, it has caught up with
+-- that.
 pub record WasKept (device : DeviceState) (old new : Archive) : Type 0 where
   pub is : IsKept old new
   pub caught_up : device.honest → CatchesUp device.reads old new

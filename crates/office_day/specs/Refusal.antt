@@ -16,8 +16,8 @@ abbrev pub UnlessOpening : DayRefusal → Type 0 → Type 0
 UnlessOpening (day.Opening refusal) P = Unit {0}
 UnlessOpening _ P = P
 
--- why there was no day, where its office wasn't opened, worked in and closed: out of memory is reported as such
--- wherever it was met
+-- why there was no day, where its office wasn't opened, worked in and closed: out of memory is
+-- reported as such wherever it was met
 abbrev pub day_refusal : {F : Type 0} → OfficeRefusal F → DayRefusal
 day_refusal (office.Opening opening.Memory) = day.Memory
 day_refusal (office.Opening refusal) = day.Opening refusal

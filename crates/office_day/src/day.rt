@@ -30,8 +30,8 @@ use std::thread::Threads;
 use sweep_auditor::Audit;
 use turn_clerk::Clerk;
 
-/// A day that is over: the clerk of the closed office, the audit of its opening line and all its moves, and what became
-/// of each station's requests, station 0 first.
+/// A day that is over: the clerk of the closed office, the audit of its opening line and all its
+/// moves, and what became of each station's requests, station 0 first.
 #[derive(Drop)]
 #[derive_where(Debug)]
 pub struct Day<D: Device> {
@@ -54,14 +54,16 @@ impl Gate for NobodyLooks {
     fn answered(&self, _station: u8) {}
 }
 
-/// Opens an office on the device, with this line, and hands each station what it holds, the lowest station first. The
-/// stations take turns, each in a thread of its own, until `moves` turns are taken; one that isn't privileged tries
-/// again, at most `tries` times in a row. Then the office is closed. The call may wait.
+/// Opens an office on the device, with this line, and hands each station what it holds, the lowest
+/// station first. The stations take turns, each in a thread of its own, until `moves` turns are
+/// taken; one that isn't privileged tries again, at most `tries` times in a row. Then the office is
+/// closed. The call may wait.
 ///
 /// # Errors
-/// The device comes back. [`DayRefusal::Opening`]: it can't be opened, for another reason than out of memory; nobody
-/// took a turn. [`DayRefusal::Memory`]: turns may have been taken; the device is as a clerk that took turns on it left
-/// it, with their batches. [`DayRefusal::Closing`]: the same; an office whose seats are its own never answers it.
+/// The device comes back. [`DayRefusal::Opening`]: it can't be opened, for another reason than out
+/// of memory; nobody took a turn. [`DayRefusal::Memory`]: turns may have been taken; the device is
+/// as a clerk that took turns on it left it, with their batches. [`DayRefusal::Closing`]: the same;
+/// an office whose seats are its own never answers it.
 pub fn run_day<D: Device + Send, R: Threads + Wait + Sync>(
     rt: &R,
     alloc: Global,

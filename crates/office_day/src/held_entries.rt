@@ -1,5 +1,6 @@
 //! Entries that are held for stations until their turns.
-ghost use Rattle.std.specs.Prelude.{◌≡◌, ◌≢◌, ◌≤◌, ◌↔◌, [], ◌∷◌, ◌++◌, length, IfOk, IfSome, IsNone};
+ghost use Rattle.std.specs.Prelude.{◌≡◌, ◌≢◌, ◌≤◌, ◌↔◌, [], ◌∷◌, ◌++◌, length, IfOk, IfSome};
+ghost use Rattle.std.specs.Prelude.{IsNone};
 ghost use Rattle.station_desk.specs.Messages.{entries_of};
 
 use station_desk::Ask;
@@ -10,8 +11,8 @@ use turn_ledger::Entry;
 /// The most entries that one station may hold.
 pub const HELD_LIMIT: usize = 16;
 
-/// What one station holds, seen as the list of its entries. Its places are reserved when it is made, so that keeping an
-/// entry takes no memory.
+/// What one station holds, seen as the list of its entries. Its places are reserved when it is
+/// made, so that keeping an entry takes no memory.
 #[derive(Debug, Drop)]
 pub struct HeldEntries {
     entries: Vec<Entry>,
@@ -64,7 +65,8 @@ impl HeldEntries {
         Some(count + 1)
     }
 
-    /// Keeps the entries of these requests, and no others; of more than [`HELD_LIMIT`] the first ones.
+    /// Keeps the entries of these requests, and no others; of more than [`HELD_LIMIT`] the first
+    /// ones.
     pub fn keep_all(&mut self, asks: &[Ask])
         ensures { length asks.now ≤ 16 → self.new ≡ entries_of asks.now }
     {

@@ -5,10 +5,11 @@ ghost use Rattle.journal_recovery.specs.State.{State};
 ghost use Rattle.turn_clerk.specs.Clerk.{opening_state, present_state};
 ghost use Rattle.line_lock.specs.OpenedOn.{Names, WasLeftByClerk};
 ghost use Rattle.line_lock.specs.Seat.{SeatState};
-ghost use Rattle.line_lock.specs.Lent.{new_seats, AccountFor, IsClosed, IsRefused, IfOpening, UnlessOpening};
+ghost use Rattle.line_lock.specs.Lent.{new_seats, AccountFor, IsClosed, IsRefused, IfOpening};
+ghost use Rattle.line_lock.specs.Lent.{UnlessOpening};
 ghost use Rattle.office_day.specs.Day.{HaveServed};
 
-use crate::seated::{Left, risen, seated};
+use crate::seated::{StationRemains, risen, seated};
 use four_state::Line;
 use line_lock::{Blank, Closing, Count, Office, OfficeRefusal, OpenedOn, Seat};
 use sector_device::Device;
@@ -20,15 +21,16 @@ use std::thread::Threads;
 use turn_clerk::Clerk;
 
 /// What an office run leaves: its closing, and what each station left, that of station 0 first.
-pub type OfficeRun<D> = (Closing<D>, Vec<Left>);
+pub type OfficeRun<D> = (Closing<D>, Vec<StationRemains>);
 
-/// Opens an office on the device, with this line, seats its stations at these desks, that of station 0 first, and lets
-/// them take turns, each in a thread of its own, until `moves` turns are taken; one that isn't privileged tries again,
-/// at most `tries` times in a row. Then the office is closed. The gate is told what the stations do. The call may wait.
+/// Opens an office on the device, with this line, seats its stations at these desks, that of
+/// station 0 first, and lets them take turns, each in a thread of its own, until `moves` turns are
+/// taken; one that isn't privileged tries again, at most `tries` times in a row. Then the office is
+/// closed. The gate is told what the stations do. The call may wait.
 ///
 /// # Errors
-/// The device comes back. [`OfficeRefusal::Opening`]: as it was left by the opening; else as a clerk that took turns on
-/// it left it. The desks are lost.
+/// The device comes back. [`OfficeRefusal::Opening`]: as it was left by the opening; else as a
+/// clerk that took turns on it left it. The desks are lost.
 pub fn run_office<D: Device + Send, G: Gate + Sync, R: Threads + Wait + Sync>(
     rt: &R,
     alloc: Global,
@@ -41,7 +43,8 @@ pub fn run_office<D: Device + Send, G: Gate + Sync, R: Threads + Wait + Sync>(
 ) -> Result<OfficeRun<D>, (D, OfficeRefusal<AllocError>)>
     requires as_many { length desks.items ≡ stations line }
 
-    // What the stations made of their desks and of their seats, which account for the whole history.
+    // What the stations made of their desks and of their seats, which account for the whole
+    // history.
     ensures ran { IfOk result (λ run. (seats : List SeatState)
         × HaveServed D.state (D.state device) line (new_seats (stations line)) desks.items
         seats run.1.items moves (G.closes gate.now)
@@ -64,8 +67,8 @@ pub fn run_office<D: Device + Send, G: Gate + Sync, R: Threads + Wait + Sync>(
 /// The same over a clerk, which begins anew with its ledger and its line, so that nothing is read.
 ///
 /// # Errors
-/// The device comes back. [`OfficeRefusal::Opening`]: nothing was done; else as a clerk that took turns on it left it.
-/// The desks are lost.
+/// The device comes back. [`OfficeRefusal::Opening`]: nothing was done; else as a clerk that took
+/// turns on it left it. The desks are lost.
 pub(crate) fn run_over<D: Device + Send, G: Gate + Sync, R: Threads + Wait + Sync>(
     rt: &R,
     alloc: Global,
@@ -77,7 +80,8 @@ pub(crate) fn run_over<D: Device + Send, G: Gate + Sync, R: Threads + Wait + Syn
 ) -> Result<OfficeRun<D>, (D, OfficeRefusal<AllocError>)>
     requires as_many { length desks.items ≡ stations clerk.line }
     ensures ran { IfOk result (λ run. (seats : List SeatState)
-        × HaveServed D.state (D.state clerk.journal.device) clerk.line (new_seats (stations clerk.line))
+        × HaveServed D.state (D.state clerk.journal.device) clerk.line
+        (new_seats (stations clerk.line))
         desks.items seats run.1.items moves (G.closes gate.now)
         × AccountFor (stations clerk.line) seats run.0.clerk) }
     ensures closed { IfOk result (λ run.
@@ -216,7 +220,7 @@ fn served<
     gate: &G,
     moves: u64,
     tries: u64,
-) -> Result<(Vec<Seat<L>>, Vec<Left>), AllocError>
+) -> Result<(Vec<Seat<L>>, Vec<StationRemains>), AllocError>
     requires as_many { length desks.items ≡ length seats.items }
     ensures { IfOk result (λ both.
         HaveServed D.state L.device L.line seats.items desks.items

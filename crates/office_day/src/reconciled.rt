@@ -4,7 +4,7 @@ ghost use Rattle.std.specs.List.{AllZip};
 ghost use Rattle.station_desk.specs.Rings.{AreTogether};
 ghost use Rattle.office_day.specs.Day.{IsReconciled, AreReconciled};
 
-use crate::seated::Left;
+use crate::seated::StationRemains;
 use station_desk::{Answer, Ask, End, Feed, reconcile};
 use std::alloc::{AllocError, Global};
 
@@ -20,11 +20,11 @@ pub struct StationDay {
 }
 
 // What became of the requests of a feed, with the desk that its station left.
-fn reconciled(alloc: Global, feed: Feed, left: Left) -> Result<StationDay, AllocError>
+fn reconciled(alloc: Global, feed: Feed, left: StationRemains) -> Result<StationDay, AllocError>
     requires { AreTogether feed left.desk }
     ensures { IfOk result (λ day. IsReconciled feed left day) }
 {
-    let Left { desk, end } = left;
+    let StationRemains { desk, end } = left;
     match reconcile(alloc, feed, desk) {
         Ok(all) => Ok(StationDay {
             end,
@@ -35,15 +35,15 @@ fn reconciled(alloc: Global, feed: Feed, left: Left) -> Result<StationDay, Alloc
     }
 }
 
-/// What became of the requests of each feed, with what the station at the same place left: of those whose answers were
-/// not collected.
+/// What became of the requests of each feed, with what the station at the same place left: of those
+/// whose answers were not collected.
 ///
 /// # Errors
 /// Out of memory.
 pub fn all_reconciled(
     alloc: Global,
     feeds: Vec<Feed>,
-    left: Vec<Left>,
+    left: Vec<StationRemains>,
 ) -> Result<Vec<StationDay>, AllocError>
     requires { AllZip (λ feed part. AreTogether feed part.desk) feeds.items left.items }
     ensures { IfOk result (λ days. AreReconciled feeds.items left.items days.items) }

@@ -8,7 +8,7 @@ use std::alloc::{AllocError, Global};
 
 /// What a station leaves of a run besides its seat.
 #[derive(Drop)]
-pub struct Left {
+pub struct StationRemains {
     /// Where its clients' requests came in and the answers went out.
     pub desk: Desk,
     /// How it ended.
@@ -42,7 +42,7 @@ pub(crate) fn seated<L: Count>(
 pub(crate) fn risen<L: Count>(
     alloc: Global,
     stations: Vec<Station<L>>,
-) -> Result<(Vec<Seat<L>>, Vec<Left>), AllocError>
+) -> Result<(Vec<Seat<L>>, Vec<StationRemains>), AllocError>
     ensures seats { IfOk result (λ both.
         both.0.items ≡ map (λ station. station.seat) stations.items) }
     ensures left { IfOk result (λ both. both.1.items ≡ map left_of stations.items) }
@@ -52,7 +52,7 @@ pub(crate) fn risen<L: Count>(
     for station in stations {
         let Station { seat, desk, end } = station;
         seats.push(seat)?;
-        left.push(Left { desk, end })?;
+        left.push(StationRemains { desk, end })?;
     }
     Ok((seats, left))
 }

@@ -1,4 +1,5 @@
-//! An office that stays open: it is closed and opened again, on one device and one line, as often as it takes.
+//! An office that stays open: it is closed and opened again, on one device and one line, as often
+//! as it takes.
 ghost use Rattle.std.specs.Prelude.{◌≡◌, ◌↔◌, [], length, map, All, IsTrue, IfOk, IfErr, OnOk};
 ghost use Rattle.four_state.specs.Configuration.{stations};
 ghost use Rattle.sector_device.specs.Device.{IsSound};
@@ -8,11 +9,12 @@ ghost use Rattle.line_lock.specs.OpenedOn.{WasLeftByClerk};
 ghost use Rattle.line_lock.specs.Lent.{IfOpening, UnlessOpening};
 ghost use Rattle.station_desk.specs.declared.end.End.TheVariants.{Reached};
 ghost use Rattle.office_day.specs.Archive.{WasKept};
-ghost use Rattle.office_day.specs.Spans.{adjourned_to, rest_of, span_of, IsSpan, HaveLeft, HasLived, WasBrokenOff, IsGoodEnd};
+ghost use Rattle.office_day.specs.Spans.{adjourned_to, rest_of, span_of, IsSpan, HaveLeft};
+ghost use Rattle.office_day.specs.Spans.{HasLived, WasBrokenOff, IsGoodEnd};
 
 use crate::office_run::run_over;
 use crate::recess::Recess;
-use crate::seated::Left;
+use crate::seated::StationRemains;
 use line_lock::{Closing, OfficeRefusal};
 use sector_device::Device;
 use station_desk::{Desk, End, Gate};
@@ -22,9 +24,9 @@ use std::thread::Threads;
 use sweep_auditor::Audit;
 use turn_clerk::Clerk;
 
-/// An office that is closed, and is to be opened.
+/// What an office is opened over.
 #[derive(Drop)]
-pub struct Adjourned<D: Device> {
+pub struct OfficeParts<D: Device> {
     /// The clerk, with its ledger, its line and its device.
     pub clerk: Clerk<D>,
     /// The desks of its stations, that of station 0 first.
@@ -39,23 +41,25 @@ pub struct Life<D: Device> {
     /// The audit of the last span's opening line and all its moves.
     pub audit: Audit,
     /// What each station left, that of station 0 first.
-    pub left: Vec<Left>,
+    pub left: Vec<StationRemains>,
 }
 
-/// Opens an office over the clerk, with its line and these desks, lets its stations take turns, each in a thread of its
-/// own, and closes it. Where all `moves` turns were taken, the clerk begins anew and the office is opened again, and so
-/// on, until a station ends otherwise: it was sent home, though no recess was called, or refused. Between two spans the
-/// journal is lent to the recess; else nothing is read of it. So the office's history takes the memory of one span,
-/// however long it is open. The gate tells the stations what to do. An archive that the recess keeps then has all
-/// batches of the spans before the last one, in order and each once, behind those that it had. The call may wait.
+/// Opens an office over the clerk, with its line and these desks, lets its stations take turns,
+/// each in a thread of its own, and closes it. Where all `moves` turns were taken, the clerk begins
+/// anew and the office is opened again, and so on, until a station ends otherwise: it was sent
+/// home, though no recess was called, or refused. Between two spans the journal is lent to the
+/// recess; else nothing is read of it. So the office's history takes the memory of one span,
+/// however long it is open. The gate tells the stations what to do. An archive that the recess
+/// keeps then has all batches of the spans before the last one, in order and each once, behind
+/// those that it had. The call may wait.
 ///
 /// # Errors
-/// The device comes back, and the desks are lost. [`OfficeRefusal::Opening`]: a span can't be opened, and the device is
-/// as it was left; else it is as a clerk that took turns on it left it.
+/// The device comes back, and the desks are lost. [`OfficeRefusal::Opening`]: a span can't be
+/// opened, and the device is as it was left; else it is as a clerk that took turns on it left it.
 pub fn run_spans<D: Device + Send, G: Gate + Sync, P: Recess, R: Threads + Wait + Sync>(
     rt: &R,
     alloc: Global,
-    office: Adjourned<D>,
+    office: OfficeParts<D>,
     gate: &G,
     recess: &mut P,
     moves: u64,
@@ -90,7 +94,7 @@ pub fn run_spans<D: Device + Send, G: Gate + Sync, P: Recess, R: Threads + Wait 
 fn run_span<D: Device + Send, G: Gate + Sync, R: Threads + Wait + Sync>(
     rt: &R,
     alloc: Global,
-    office: Adjourned<D>,
+    office: OfficeParts<D>,
     gate: &G,
     moves: u64,
 ) -> Result<Life<D>, (D, OfficeRefusal<AllocError>)>
@@ -104,7 +108,7 @@ fn run_span<D: Device + Send, G: Gate + Sync, R: Threads + Wait + Sync>(
         (WasLeftByClerk D.state (D.state office.clerk.journal.device) office.clerk.line e.0)) }
     ensures opening { IfErr result (λ e. IfOpening e.1 (λ _. e.0 ≡ office.clerk.journal.device)) }
 {
-    let Adjourned { clerk, desks } = office;
+    let OfficeParts { clerk, desks } = office;
     let run = run_over(rt, alloc, clerk, desks, gate, moves, u64::MAX)?;
     let (Closing { clerk, audit }, left) = run;
     // for the contract alone: where the records in sight of an image end
@@ -112,8 +116,9 @@ fn run_span<D: Device + Send, G: Gate + Sync, R: Threads + Wait + Sync>(
     Ok(Life { clerk, audit, left })
 }
 
-// Whether the office is opened again: all turns were taken, or its stations were sent home for a recess.
-fn goes_on<P: Recess>(left: &[Left], recess: &P) -> bool
+// Whether the office is opened again: all turns were taken, or its stations were sent home for a
+// recess.
+fn goes_on<P: Recess>(left: &[StationRemains], recess: &P) -> bool
     ensures well { IsTrue result → All (λ part. IsGoodEnd part.end) left.now }
     ensures reached { All (λ part. part.end ≡ Reached) left.now → IsTrue result }
 {
@@ -121,14 +126,14 @@ fn goes_on<P: Recess>(left: &[Left], recess: &P) -> bool
 }
 
 // Whether each station ended since all turns were taken.
-fn all_reached(left: &[Left]) -> bool
+fn all_reached(left: &[StationRemains]) -> bool
     ensures { IsTrue result ↔ All (λ part. part.end ≡ Reached) left.now }
 {
     left.iter().all(|part| part.end == End::Reached)
 }
 
 // Whether each station ended since all turns were taken, or was sent home.
-fn all_ended_well(left: &[Left]) -> bool
+fn all_ended_well(left: &[StationRemains]) -> bool
     ensures { IsTrue result ↔ All (λ part. IsGoodEnd part.end) left.now }
 {
     left.iter()
@@ -140,7 +145,7 @@ fn between_spans<D: Device, P: Recess>(
     alloc: Global,
     life: Life<D>,
     recess: &mut P,
-) -> Result<Adjourned<D>, (D, AllocError)>
+) -> Result<OfficeParts<D>, (D, AllocError)>
     ensures clerk { IfOk result (λ office.
         office.clerk ≡ after_looks life.clerk office.clerk.journal.device) }
     ensures looked { IfOk result (λ office.
@@ -154,7 +159,7 @@ fn between_spans<D: Device, P: Recess>(
 {
     let Life { clerk, left, .. } = life;
     match left.into_iter().map(|part| part.desk).collect(alloc) {
-        Ok(desks) => Ok(Adjourned {
+        Ok(desks) => Ok(OfficeParts {
             clerk: lent(clerk, recess),
             desks,
         }),

@@ -2,9 +2,12 @@
 use Rattle.ledger_folder.specs.declared.copying.FolderCopyRefusal.{FolderCopyRefusal}
 use Rattle.ledger_folder.specs.declared.copying.FolderCopyRefusal.TheVariants as fault
 use Rattle.office_sessions.specs.declared.recess.CounterCopyRefusal.{CounterCopyRefusal}
-use Rattle.office_sessions.specs.declared.recess.CounterCopyRefusal.TheVariants.{Memory, Device, Occupied, Unwritten}
+use Rattle.office_sessions.specs.declared.recess.CounterCopyRefusal.TheVariants.{Memory, Device}
+use Rattle.office_sessions.specs.declared.recess.CounterCopyRefusal.TheVariants.{Occupied}
+use Rattle.office_sessions.specs.declared.recess.CounterCopyRefusal.TheVariants.{Unwritten}
 
--- that there is no memory, that the ledger isn't read, that something is there already, and that the file isn't written
+-- that there is no memory, that the ledger isn't read, that something is there already, and that
+-- the file isn't written
 abbrev pub told_as : FolderCopyRefusal → CounterCopyRefusal
 told_as fault.Memory = Memory
 told_as (fault.Ledger refusal) = Device

@@ -3,7 +3,8 @@ use Rattle.std.specs.Prelude.{◌≡◌, ◌≢◌, List, Option, None, Some, Al
 use Rattle.turn_clerk.specs.declared.refusals.TurnRefusal.{TurnRefusal}
 use Rattle.turn_clerk.specs.declared.refusals.TurnRefusal.TheVariants.{Device}
 use Rattle.station_desk.specs.declared.end.End.{End}
-use Rattle.station_desk.specs.declared.end.End.TheVariants.{NotStarted, Reached, Stopped, Tries, Closed, Refused}
+use Rattle.station_desk.specs.declared.end.End.TheVariants.{NotStarted, Reached, Stopped, Tries}
+use Rattle.station_desk.specs.declared.end.End.TheVariants.{Closed, Refused}
 use Rattle.office_day.specs.declared.reconciled.StationDay.{StationDay}
 use Rattle.office_service.specs.declared.faults.OfficeFault.{OfficeFault}
 use Rattle.office_service.specs.declared.faults.OfficeFault.TheVariants as fault

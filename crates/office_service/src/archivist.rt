@@ -45,8 +45,8 @@ pub(crate) struct Archivist<'a, 'r, R> {
 }
 
 impl<'a, 'r, R: Files<File = File> + AllocGlobal + Clone + Drop> Archivist<'a, 'r, R> {
-    /// Opens the archive, if the office has one, in which no file may be missing between others, and the folder of the
-    /// copies, if it makes any.
+    /// Opens the archive, if the office has one, in which no file may be missing between others,
+    /// and the folder of the copies, if it makes any.
     pub(crate) fn open(
         rt: &'r R,
         serving: &ServeOptions<'a>,
@@ -89,8 +89,8 @@ impl<'a, 'r, R: Files<File = File> + AllocGlobal + Clone + Drop> Archivist<'a, '
         }
     }
 
-    /// Learns which stations the counters have, and keeps that in the archive, if there is one. From now on the names
-    /// of ledger and archive have to stay those of what is open.
+    /// Learns which stations the counters have, and keeps that in the archive, if there is one.
+    /// From now on the names of ledger and archive have to stay those of what is open.
     pub(crate) fn learn(&mut self, seating: &Seating<'a>) -> Result<(), OfficeFault<'a>> {
         self.since = seating.since();
         self.place = seating.place;

@@ -48,11 +48,12 @@ pub enum OfficeFault<'a> {
     /// The system refused a station its thread.
     #[error("the system refused a thread")]
     Threads,
-    /// The archive, or the folder of the copies, can't be had, or what the archive lacks can't be added to it. What was
-    /// answered stands in the ledger.
+    /// The archive, or the folder of the copies, can't be had, or what the archive lacks can't be
+    /// added to it. What was answered stands in the ledger.
     #[error("{0}")]
     Archive(ArchiveFault<'a>),
-    /// The ledger or the archive isn't at its path any more. What was answered stands in what was open.
+    /// The ledger or the archive isn't at its path any more. What was answered stands in what was
+    /// open.
     #[error("{path}: it isn't there any more, or another one is; what was answered stands in the one that was open")]
     Lost {
         path: &'a str,

@@ -1,5 +1,6 @@
 //! An office that is kept open, from its pipes and its device to what is told of its end.
-ghost use Rattle.std.specs.Prelude.{◌≡◌, ◌≢◌, ◌≤◌, ◌↔◌, if◌then◌else◌, min, false, Err, IsTrue, IfErr, OnOk};
+ghost use Rattle.std.specs.Prelude.{◌≡◌, ◌≢◌, ◌≤◌, ◌↔◌, if◌then◌else◌, min, false, Err, IsTrue};
+ghost use Rattle.std.specs.Prelude.{IfErr, OnOk};
 ghost use Rattle.turn_clerk.specs.declared.refusals.TurnRefusal.{TurnRefusal};
 ghost use Rattle.office_service.specs.Ends.{NoneFailed, NoneWasRefused, TellsRefusal, reason_of};
 
@@ -10,7 +11,7 @@ use crate::locks::{Locks, SeatedClients};
 use crate::pipes::open_pipe;
 use crate::runtime::Runtime;
 use crate::seating::Seating;
-use crate::serving::{CounterFolder, Plan, ServeOptions};
+use crate::serving::{CounterFolder, OfficePlan, ServeOptions};
 use crate::source::{Source, Target};
 use device_files::{FileDevice, FileNumber};
 use four_state::{FEWEST_STATIONS, Line, MOST_STATIONS};
@@ -18,8 +19,8 @@ use journal_recovery::OpenRefusal;
 use ledger_file::{FormatOptions, format_ledger, open_ledger};
 use office_day::StationDay;
 use office_sessions::{
-    ArchiveState, ClosedOffice, Conversation, Counter, Identity, Keeper, Kind, are_threads_granted,
-    keep_open,
+    ArchiveState, ClosedOffice, Conversation, Counter, CounterKind, Identity, Keeper,
+    are_threads_granted, keep_open,
 };
 use sector_device::Device;
 use station_desk::End;
@@ -30,8 +31,8 @@ use text_streams::{Output, StreamFault};
 use turn_clerk::{Clerk, TurnRefusal};
 use turn_ledger::Entry;
 
-/// After how many turns an office is closed and opened again, if its banks have as many slots: so many its history
-/// holds at most.
+/// After how many turns an office is closed and opened again, if its banks have as many slots: so
+/// many its history holds at most.
 pub const SPAN: u64 = 5_000;
 
 /// This number, as a statement; the body does nothing.
@@ -39,8 +40,8 @@ pub fn span_in_numbers()
     ensures { SPAN ≡ 5000 }
 {}
 
-// How many turns a span has. If the office has an archive, they are no more than a bank has slots, so that what isn't
-// archived is in the two banks.
+// How many turns a span has. If the office has an archive, they are no more than a bank has slots,
+// so that what isn't archived is in the two banks.
 fn turns_of_span(slots: u64, has_archive: bool) -> u64
     ensures fits { IsTrue has_archive → result ≤ slots }
     ensures value { result ≡ if has_archive then min slots 5000 else 5000 }
@@ -48,7 +49,8 @@ fn turns_of_span(slots: u64, has_archive: bool) -> u64
     if has_archive { slots.min(SPAN) } else { SPAN }
 }
 
-/// What an office meets beside its files: the streams of the terminal, and who sees the locks of counters' folders.
+/// What an office meets beside its files: the streams of the terminal, and who sees the locks of
+/// counters' folders.
 #[derive(Drop)]
 pub struct Surroundings<I: Read, O: Write, L: Locks + Copy> {
     pub input: I,
@@ -59,9 +61,9 @@ pub struct Surroundings<I: Read, O: Write, L: Locks + Copy> {
 // A counter, by pipes or by the terminal.
 type AnyCounter<I, O> = Counter<Source<File, I>, Target<File, O>>;
 
-/// Keeps an office open as it is asked for and planned. If it keeps an archive, what that lacks is added before the
-/// first turn, whenever the office is closed for a while, and at its end. What is told of it goes to the writer. The
-/// call waits until the office is closed.
+/// Keeps an office open as it is asked for and planned. If it keeps an archive, what that lacks is
+/// added before the first turn, whenever the office is closed for a while, and at its end. What is
+/// told of it goes to the writer. The call waits until the office is closed.
 ///
 /// # Errors
 /// [`OfficeFault`].
@@ -75,7 +77,7 @@ pub fn serve<
 >(
     rt: &R,
     serving: &ServeOptions<'a>,
-    plan: Plan,
+    plan: OfficePlan,
     surroundings: Surroundings<I, O, L>,
     writer: &mut W,
 ) -> Result<(), OfficeFault<'a>> {
@@ -100,11 +102,12 @@ struct Ready<'a, 'r, R> {
     moves: u64,
 }
 
-// Opens the archive and the ledger, brings the archive up to that, and gives each counter its station.
+// Opens the archive and the ledger, brings the archive up to that, and gives each counter its
+// station.
 fn ready_office<'a, 'r, R: Runtime, W: Write>(
     rt: &'r R,
     serving: &ServeOptions<'a>,
-    plan: Plan,
+    plan: OfficePlan,
     output: &mut Output<'_, W>,
 ) -> Result<Ready<'a, 'r, R>, OfficeFault<'a>> {
     let mut archivist = Archivist::open(rt, serving)?;
@@ -121,12 +124,13 @@ fn ready_office<'a, 'r, R: Runtime, W: Write>(
     })
 }
 
-// Gives each counter its station, if the system grants the threads, and keeps that in the archive too.
+// Gives each counter its station, if the system grants the threads, and keeps that in the archive
+// too.
 fn seat<'a, R: Runtime>(
     rt: &R,
     serving: &ServeOptions<'a>,
     next: u64,
-    plan: Plan,
+    plan: OfficePlan,
     archivist: &mut Archivist<'a, '_, R>,
 ) -> Result<Seating<'a>, OfficeFault<'a>> {
     let seating = Seating::begin(rt, serving, next)?;
@@ -202,7 +206,8 @@ fn seated<I: Read + Drop, O: Write + Drop>(
     Ok(counters)
 }
 
-// Tells how the office ended, and adds to its archive what that lacks. The clerk comes back of one that ended well.
+// Tells how the office ended, and adds to its archive what that lacks. The clerk comes back of one
+// that ended well.
 fn end<'a, R: Runtime, W: Write>(
     closed: ClosedOffice<FileDevice>,
     mut archivist: Archivist<'a, '_, R>,
@@ -235,7 +240,7 @@ fn open_counters<'a, R: Files<File = File> + AllocGlobal, I: Read + Drop, O: Wri
     }
     if serving.terminal {
         let (input, output) = (Source::Terminal(input), Target::Terminal(output));
-        let counter = unseated(rt.alloc(), input, output, Kind::Terminal, false);
+        let counter = unseated(rt.alloc(), input, output, CounterKind::Terminal, false);
         counters.push(counter).or(Err(OfficeFault::Memory))?;
     }
     Ok(counters)
@@ -251,7 +256,7 @@ fn open_counter<'a, R: Files<File = File> + AllocGlobal, I: Read, O: Write>(
     let input = open_pipe(rt, folder, CounterFile::In, opened)?;
     let output = open_pipe(rt, folder, CounterFile::Out, opened)?;
     let (input, output) = (Source::Pipe(input), Target::Pipe(output));
-    Ok(unseated(rt.alloc(), input, output, Kind::Pipes, awaits_hello))
+    Ok(unseated(rt.alloc(), input, output, CounterKind::Pipes, awaits_hello))
 }
 
 // A counter that has no station yet.
@@ -259,7 +264,7 @@ fn unseated<I: Read, O: Write>(
     alloc: Global,
     input: Source<File, I>,
     output: Target<File, O>,
-    kind: Kind,
+    kind: CounterKind,
     awaits_hello: bool,
 ) -> AnyCounter<I, O> {
     Counter {
@@ -317,8 +322,8 @@ fn on_line_of<'a, D: Device + Drop>(
     begun.or(Err(OfficeFault::NoLedger { path, refusal }))
 }
 
-// The line that an office begins with: any would do, since it heals. On this one the bottom station alone is
-// privileged.
+// The line that an office begins with: any would do, since it heals. On this one the bottom station
+// alone is privileged.
 fn first_line<'a>(stations: u64) -> Result<Line, OfficeFault<'a>> {
     let bits = [false; MOST_STATIONS as usize];
     let count = stations.min(MOST_STATIONS) as usize;
@@ -328,8 +333,8 @@ fn first_line<'a>(stations: u64) -> Result<Line, OfficeFault<'a>> {
     }
 }
 
-// Tells how the office ended: its turns, the line, and what was asked and not answered. The clerk comes back of one
-// that ended well.
+// Tells how the office ended: its turns, the line, and what was asked and not answered. The clerk
+// comes back of one that ended well.
 fn tell_closed<'a, D: Device + Drop, W: Write>(
     closed: ClosedOffice<D>,
     output: &mut Output<'_, W>,
@@ -419,8 +424,9 @@ fn none_failed(stations: &[StationDay]) -> bool
         .all(|day| day.end != End::Refused(TurnRefusal::Device))
 }
 
-// Why the first station was refused its turn that was. No other end needs to be told: a station ends as `Stopped` only
-// after another one ended, and as `Tries` only after 2^64 - 1 refusals in a row.
+// Why the first station was refused its turn that was. No other end needs to be told: a station
+// ends as `Stopped` only after another one ended, and as `Tries` only after 2^64 - 1 refusals in a
+// row.
 fn refusal_of<'a>(stations: &[StationDay]) -> Result<(), OfficeFault<'a>>
     ensures none { OnOk result (NoneWasRefused stations.now) }
     ensures refused { IfErr result (TellsRefusal stations.now) }

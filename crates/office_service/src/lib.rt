@@ -1,7 +1,8 @@
-//! The engine of an office that is kept open: on a file or a disk, for counters by named pipes and for the terminal.
+//! The engine of an office that is kept open: on a file or a disk, for counters by named pipes and
+//! for the terminal.
 //!
-//! [`serve`] opens the pipes, the device and the archive, keeps the office open, and tells how it ended.
-//! [`close_office`] asks it from outside to close, and [`ask_status`] how it stands.
+//! [`serve`] opens the pipes, the device and the archive, keeps the office open, and tells how it
+//! ended. [`close_office`] asks it from outside to close, and [`ask_status`] how it stands.
 #![tactic(auto)]
 
 mod archivist;
@@ -28,6 +29,6 @@ pub use locks::{FileLocks, Locks};
 pub use office_sessions::REQUESTS;
 pub use runtime::Runtime;
 pub use seating::TERMINAL;
-pub use serving::{CounterFolder, Plan, ServeOptions};
+pub use serving::{CounterFolder, OfficePlan, ServeOptions};
 pub use source::{Source, Target};
 pub use status::{StatusLine, ask_status};

@@ -10,11 +10,12 @@ use std::time::{Clock, Duration};
 /// How many milliseconds lie between the two times that a lock is tried.
 const PAUSE: u64 = 100;
 
-/// The lock of a counter's folder, for as long as the file is open. It is made where it isn't there. It is tried twice,
-/// since an office that tells how it stands has it for a moment.
+/// The lock of a counter's folder, for as long as the file is open. It is made where it isn't
+/// there. It is tried twice, since an office that tells how it stands has it for a moment.
 ///
 /// # Errors
-/// `HasClient` if another client has it. `NoLock` if it can't be opened, made or locked, or if there is no memory.
+/// `HasClient` if another client has it. `NoLock` if it can't be opened, made or locked, or if
+/// there is no memory.
 pub(crate) fn lock_folder<'a, R: Files<File = File> + AllocGlobal + Clock>(
     rt: &R,
     folder: &'a str,

@@ -1,14 +1,15 @@
 //! A station's postings in an archive.
-use device_files::{Locking, ReadOnlyFile};
+use device_files::{LockMode, ReadOnlyFile};
 use journal_recovery::{Recovered, recover};
 use ledger_folder::{Volume, end_of, numbers_in};
 use office_sessions::{LookAnswer, last_posting};
 use std::fs::{File, Files};
 use turn_clerk::Posting;
 
-/// The posting of a station with the greatest reference in the newest ledger of an archive that has one of it, and the
-/// number of the first batch that was looked at: that of the archive's first one, or `first` if that is greater. None
-/// if it has no ledger, or one can't be read, or doesn't have the batches that its name tells.
+/// The posting of a station with the greatest reference in the newest ledger of an archive that has
+/// one of it, and the number of the first batch that was looked at: that of the archive's first
+/// one, or `first` if that is greater. None if it has no ledger, or one can't be read, or doesn't
+/// have the batches that its name tells.
 pub(crate) fn last_in_archive<R: Files<File = File> + AllocGlobal + Clone + Drop>(
     rt: &R,
     folder: &str,
@@ -32,8 +33,8 @@ pub(crate) fn last_in_archive<R: Files<File = File> + AllocGlobal + Clone + Drop
     })
 }
 
-// The posting of a station with the greatest reference in one ledger of an archive; None if that can't be read, or
-// doesn't have just the batches that it should.
+// The posting of a station with the greatest reference in one ledger of an archive; None if that
+// can't be read, or doesn't have just the batches that it should.
 fn last_in_ledger<R: Files<File = File> + AllocGlobal + Clone + Drop>(
     rt: &R,
     folder: &str,
@@ -43,7 +44,7 @@ fn last_in_ledger<R: Files<File = File> + AllocGlobal + Clone + Drop>(
 ) -> Option<Option<Posting>> {
     let end = end_of(rt, folder, base).ok()?;
     let path = format!(in rt.alloc(); "{}", Volume { folder, base }).ok()?;
-    let device = ReadOnlyFile::open(rt, rt.alloc(), path.as_str(), Locking::Shared).ok()?;
+    let device = ReadOnlyFile::open(rt, rt.alloc(), path.as_str(), LockMode::Shared).ok()?;
     let Recovered { journal, ledger } = recover(rt.alloc(), device).ok()?;
     let (mut journal, mut ledger) = (journal, ledger);
     let seen = last_posting(&mut journal, &mut ledger, station, first)?;

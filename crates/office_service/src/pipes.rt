@@ -9,9 +9,9 @@ use std::io;
 use std::io::ErrorKind;
 use std::os::unix::fs::FileTypeExt;
 
-/// Opens a pipe in a counter's folder, for reading and writing: so it never ends, whoever hangs up. It is none of those
-/// that were opened before, and becomes one. It is locked for as long as it is open, since each of two offices would
-/// read a part of what its counter says.
+/// Opens a pipe in a counter's folder, for reading and writing: so it never ends, whoever hangs up.
+/// It is none of those that were opened before, and becomes one. It is locked for as long as it is
+/// open, since each of two offices would read a part of what its counter says.
 ///
 /// # Errors
 /// [`CounterFault`].
@@ -85,7 +85,8 @@ fn unopened(error: &io::Error) -> CounterRefusal {
     }
 }
 
-/// What a counter is told, open for reading alone: a read ends as nothing once no office has the pipe.
+/// What a counter is told, open for reading alone: a read ends as nothing once no office has the
+/// pipe.
 pub(crate) fn listen<'a, R: Files<File = File> + AllocGlobal>(
     rt: &R,
     folder: &'a str,

@@ -4,7 +4,7 @@ use crate::locks::SeatedFolder;
 use crate::serving::ServeOptions;
 use crate::status::own_number;
 use ledger_counters::{
-    CountersFault, Left, Roster, RosterFault, RosterPath, is_disk, read_roster, write_roster,
+    CountersFault, LastUse, Roster, RosterFault, RosterPath, is_disk, read_roster, write_roster,
 };
 use office_sessions::Identity;
 use std::alloc::{AllocError, Global};
@@ -27,8 +27,8 @@ pub(crate) struct Seating<'a> {
 }
 
 impl<'a> Seating<'a> {
-    /// Gives each counter its station, on a ledger whose next batch has this number. That, and that an office is open,
-    /// is written down durably.
+    /// Gives each counter its station, on a ledger whose next batch has this number. That, and that
+    /// an office is open, is written down durably.
     pub(crate) fn begin<R: Files<File = File> + AllocGlobal + Clock>(
         rt: &R,
         serving: &ServeOptions<'a>,
@@ -96,7 +96,7 @@ impl<'a> Seating<'a> {
         rt: &R,
         next: u64,
     ) -> Result<(), OfficeFault<'a>> {
-        self.roster.leave(Left::Closed(next));
+        self.roster.leave(LastUse::Closed(next));
         self.write(rt)
     }
 
@@ -105,7 +105,8 @@ impl<'a> Seating<'a> {
     }
 }
 
-// Where the counters are kept: beside the ledger, unless it is said where, which has to be said of a disk.
+// Where the counters are kept: beside the ledger, unless it is said where, which has to be said of
+// a disk.
 fn place_of<'a, R: Files<File = File>>(
     rt: &R,
     serving: &ServeOptions<'a>,
@@ -120,7 +121,8 @@ fn place_of<'a, R: Files<File = File>>(
     Ok(RosterPath::Beside(serving.path))
 }
 
-// The roster that is kept there; a new one of an empty ledger that has none, and where that is asked for.
+// The roster that is kept there; a new one of an empty ledger that has none, and where that is
+// asked for.
 fn roster_of<'a, R: Files<File = File> + AllocGlobal + Clock>(
     rt: &R,
     serving: &ServeOptions<'a>,

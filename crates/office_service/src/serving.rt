@@ -20,7 +20,8 @@ pub struct ServeOptions<'a> {
     pub sectors: Option<u64>,
     /// The counters, whose names differ.
     pub counters: Vec<CounterFolder<'a>>,
-    /// The file that keeps which station each counter has, unless that is the one beside the ledger.
+    /// The file that keeps which station each counter has, unless that is the one beside the
+    /// ledger.
     pub counters_file: Option<&'a str>,
     /// Whether that file is written anew: what was posted before is no counter's then.
     pub counters_anew: bool,
@@ -42,7 +43,7 @@ pub struct ServeOptions<'a> {
 
 /// What is worked out of what is asked for.
 #[derive(Clone, Copy, Debug)]
-pub struct Plan {
+pub struct OfficePlan {
     /// How many stations the office has.
     pub stations: u64,
     /// How the ledger is made first, if that is asked for.

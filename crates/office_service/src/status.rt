@@ -36,8 +36,9 @@ impl fmt::Display for StatusLine {
     }
 }
 
-/// Asks the office that has a counter how it stands, and waits until that is told, or the office has ended. The folder
-/// is the counter's. What stands in its pipes from before is answered, or dropped, first.
+/// Asks the office that has a counter how it stands, and waits until that is told, or the office
+/// has ended. The folder is the counter's. What stands in its pipes from before is answered, or
+/// dropped, first.
 ///
 /// # Errors
 /// [`CounterFault`].

@@ -11,7 +11,7 @@ use Rattle.station_desk.specs.declared.messages.Answer.{Answer}
 use Rattle.station_desk.specs.declared.end.End.TheVariants.{NotStarted}
 use Rattle.station_desk.specs.Messages.{entries_of}
 use Rattle.station_desk.specs.Rings.{FeedState, DeskState}
-use Rattle.office_day.specs.declared.seated.Left.{Left}
+use Rattle.office_day.specs.declared.seated.StationRemains.{StationRemains}
 use Rattle.office_day.specs.declared.reconciled.StationDay.{StationDay}
 use Rattle.office_day.specs.Day.{IsReconciled, AreReconciled}
 use Rattle.office_day.specs.Archive.{Archive}
@@ -22,36 +22,56 @@ use Rattle.office_sessions.specs.Kept.{WasKeptFor, WasLeftOpen}
 use Rattle.office_sessions.proofs.Rising.{posts-rising}
 
 -- one conversation that is over, whose feed is reconciled
-heard : (feed : FeedState) (conversation : ConversationState) (part : Left) (day : StationDay) → IsOver feed conversation → IsReconciled feed part day → IsHeard conversation feed.collected day
+heard : (feed : FeedState) (conversation : ConversationState) (part : StationRemains)
+    (day : StationDay)
+    → IsOver feed conversation → IsReconciled feed part day
+    → IsHeard conversation feed.collected day
 heard feed conversation part day over done = record {
   told = over.told;
-  said = subst (λ (asked : List Ask). ∥ WereTakenUp conversation.said conversation.told (entries_of asked) conversation.unheard ∥₁) done.asked over.said;
-  rising = posts-rising feed.asked feed.collected day.answers.items day.unanswered.items done.asked over.above;
+  said = subst (λ (asked : List Ask).
+      ∥ WereTakenUp conversation.said conversation.told (entries_of asked) conversation.unheard ∥₁)
+      done.asked over.said;
+  rising = posts-rising feed.asked feed.collected day.answers.items day.unanswered.items done.asked
+      over.above;
 }
 
 -- all of them
-pub kept_for : {D : Type 0} (state : D → DeviceState) (moves : ℕ) (from : Rest D) (last : Span D) (desks : List DeskState) (left : List Left) (feeds : List FeedState)
+pub kept_for : {D : Type 0} (state : D → DeviceState) (moves : ℕ) (from : Rest D) (last : Span D)
+    (desks : List DeskState) (left : List StationRemains) (feeds : List FeedState)
     (days : List StationDay) (conversations : List ConversationState) (old new : Archive)
-    → WasKeptOpen state moves from last (map (λ (feed : FeedState). feed.collected) feeds) days old new → length desks ≡ stations from.line → length feeds ≡ stations from.line
-    → AllZip IsOver feeds conversations → AreReconciled feeds left days → WasKeptFor state moves from last days conversations old new
-kept_for state moves from last desks left feeds days conversations old new kept many fed over done = record {
-  collected = map (λ (feed : FeedState). feed.collected) feeds;
-  kept = kept;
-  as_many = AllZip-long IsOver feeds conversations over ∙ fed;
-  heard = λ i conversation answers day low.
-      let in_desks : i < length desks = subst (λ n. i < n) (sym many) low in
-      let in_feeds : i < length feeds = subst (λ n. i < n) (sym fed) low in
-      let feed = first feeds (omega (arith, in_feeds)) in
-      let part : Left = record { desk = first desks (omega (arith, in_desks)); end = NotStarted } in
-      subst (λ (collected : List Answer). IsHeard (slice_index_or conversations i conversation) collected (slice_index_or days i day))
-      (sym (get_or-map (λ (feed : FeedState). feed.collected) feeds i feed answers in_feeds))
-      (heard (slice_index_or feeds i feed) (slice_index_or conversations i conversation) (slice_index_or left i part) (slice_index_or days i day)
-      (AllZip-at IsOver feeds conversations i feed conversation over in_feeds) (done.each i feed part day in_feeds));
-}
+    → WasKeptOpen state moves from last (map (λ (feed : FeedState). feed.collected) feeds) days old
+    new → length desks ≡ stations from.line → length feeds ≡ stations from.line
+    → AllZip IsOver feeds conversations → AreReconciled feeds left days
+    → WasKeptFor state moves from last days conversations old new
+kept_for state moves from last desks left feeds days conversations old new kept many fed over done =
+    record {
+      collected = map (λ (feed : FeedState). feed.collected) feeds;
+      kept = kept;
+      as_many = AllZip-long IsOver feeds conversations over ∙ fed;
+      heard = λ i conversation answers day low.
+          let in_desks : i < length desks = subst (λ n. i < n) (sym many) low in
+          let in_feeds : i < length feeds = subst (λ n. i < n) (sym fed) low in
+          let feed = first feeds (omega (arith, in_feeds)) in
+          let part : StationRemains = record {
+            desk = first desks (omega (arith, in_desks));
+            end = NotStarted;
+          } in
+          subst (λ (collected : List Answer).
+          IsHeard (slice_index_or conversations i conversation) collected
+          (slice_index_or days i day))
+          (sym (get_or-map (λ (feed : FeedState). feed.collected) feeds i feed answers in_feeds))
+          (heard (slice_index_or feeds i feed) (slice_index_or conversations i conversation)
+          (slice_index_or left i part) (slice_index_or days i day)
+          (AllZip-at IsOver feeds conversations i feed conversation over in_feeds)
+          (done.each i feed part day in_feeds));
+    }
 
 -- an office that has lived, and isn't told of
-pub left_open : {D : Type 0} (state : D → DeviceState) (moves : ℕ) (closes : Type 0) (from : Rest D) (desks : List DeskState) (last : Span D) (left : List Left) (after : D)
-    (old new : Archive) → HasLived state moves closes (record { rest = from; desks = desks }) last left old new → last.clerk.journal.device ≡ after → WasLeftOpen state moves from after
+pub left_open : {D : Type 0} (state : D → DeviceState) (moves : ℕ) (closes : Type 0) (from : Rest D)
+    (desks : List DeskState) (last : Span D) (left : List StationRemains) (after : D)
+    (old new : Archive)
+    → HasLived state moves closes (record { rest = from; desks = desks }) last left old new
+    → last.clerk.journal.device ≡ after → WasLeftOpen state moves from after
 left_open state moves closes from desks last left after old new lived has = record {
   earlier = lived.earlier.spans;
   between = lived.before.rest;
@@ -61,7 +81,10 @@ left_open state moves closes from desks last left after old new lived has = reco
     has = has;
     opened = lived.closed.closed.opened;
     legal = lived.closed.closed.legal;
-    acknowledged = λ honest. lived.closed.closed.acknowledged (lived.closed.closed.opened.stays_honest honest);
-    at_any_moment = λ honest. lived.closed.closed.at_any_moment (lived.closed.closed.opened.stays_honest honest);
+    acknowledged = λ honest.
+        lived.closed.closed.acknowledged (lived.closed.closed.opened.stays_honest honest);
+    at_any_moment =
+        λ honest. lived.closed.closed.at_any_moment
+        (lived.closed.closed.opened.stays_honest honest);
   };
 }

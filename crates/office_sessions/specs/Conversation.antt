@@ -1,5 +1,7 @@
 -- What a counter says and is told, message by message and response by response.
-use Rattle.std.specs.Prelude.{◌≡◌, ◌⊎◌, ◌+◌, ◌-◌, ◌^◌, ◌<◌, ℕ, Bool, true, false, not, min, List, [], ◌∷◌, ◌++◌, map, filter, length, Option, Some, None, IfSome, Result, Ok, Err}
+use Rattle.std.specs.Prelude.{◌≡◌, ◌⊎◌, ◌+◌, ◌-◌, ◌^◌, ◌<◌, ℕ, Bool, true, false, not, min, List}
+use Rattle.std.specs.Prelude.{[], ◌∷◌, ◌++◌, map, filter, length, Option, Some, None, IfSome}
+use Rattle.std.specs.Prelude.{Result, Ok, Err}
 use Rattle.std.specs.List.{flat_map}
 use Rattle.turn_ledger.specs.declared.entry.Entry.{Entry}
 use Rattle.turn_ledger.specs.Entry.{reference_of}
@@ -7,8 +9,8 @@ use Rattle.text_grammar.specs.declared.requests.Request.TheVariants as request
 use Rattle.turn_clerk.specs.declared.searching.Reached.{Reached}
 use Rattle.turn_clerk.specs.declared.searching.Reached.TheVariants as reached
 use Rattle.turn_clerk.specs.declared.searching.SearchStep.{SearchStep}
-use Rattle.turn_clerk.specs.declared.sought.Posting.{Posting}
-use Rattle.turn_clerk.specs.declared.sought.Sought.TheVariants as sought
+use Rattle.turn_clerk.specs.declared.search_target.Posting.{Posting}
+use Rattle.turn_clerk.specs.declared.search_target.SearchTarget.TheVariants as sought
 use Rattle.turn_clerk.specs.declared.refusals.FindRefusal.{FindRefusal}
 use Rattle.line_lock.specs.declared.refusals.BalanceRefusal.{BalanceRefusal}
 use Rattle.station_desk.specs.Messages.{entries_of, asks_of}
@@ -163,7 +165,8 @@ told_of_posting reference (Some posting) = Some (response.Found posting.number r
 
 -- what it is told of a step of its search, which found that many records before
 abbrev pub told_by : ℕ → ℕ → Option Posting → Reached → Option Response
-told_by before reference posting (reached.Further began number end) = told_of_posting reference posting
+told_by before reference posting (reached.Further began number end) =
+    told_of_posting reference posting
 told_by before reference posting (reached.All began since) = Some (response.FoundInAll before since)
 told_by before reference posting reached.LookingBack = None
 
@@ -185,37 +188,48 @@ abbrev pub found_with : ℕ → Result SearchStep FindRefusal → ℕ
 found_with before (Ok step) = counted_by before step.posting step.reached
 found_with before (Err refusal) = before
 
--- what is asked for the own postings of a station up to a reference, where the look at them has come to that record
+-- what is asked for the own postings of a station up to a reference, where the look at them has
+-- come to that record
 abbrev pub own_question : ℕ → ℕ → ℕ → Question
 own_question station limit own = question.Search (sought.OfStation station limit) own (2 ^ 64 - 1)
 
--- The question is the one that the message asks at that station, whose search has come so far, or whose look at the
--- counter's own postings has come to that record. An entry asks for its own reference, or for any.
+-- The question is the one that the message asks at that station, whose search has come so far, or
+-- whose look at the counter's own postings has come to that record. An entry asks for its own
+-- reference, or for any.
 abbrev pub IsQuestionOf : Message → Search → ℕ → ℕ → Question → Type 0
-IsQuestionOf (Asked (request.Balance account)) search station own (question.Balance named) = named ≡ account
-IsQuestionOf (Asked (request.Find reference)) search station own asked = asked ≡ question.Search (sought.Reference reference) search.from search.end
-IsQuestionOf (Asked (request.Post entry)) search station own asked = (asked ≡ own_question station (reference_of entry) own) ⊎ (asked ≡ own_question station (2 ^ 64 - 1) own)
-IsQuestionOf (Asked request.Last) search station own asked = asked ≡ own_question station (2 ^ 64 - 1) own
-IsQuestionOf (Asked (request.First reference)) search station own asked = asked ≡ own_question station (2 ^ 64 - 1) own
+IsQuestionOf (Asked (request.Balance account)) search station own (question.Balance named) =
+    named ≡ account
+IsQuestionOf (Asked (request.Find reference)) search station own asked =
+    asked ≡ question.Search (sought.Reference reference) search.from search.end
+IsQuestionOf (Asked (request.Post entry)) search station own asked =
+    (asked ≡ own_question station (reference_of entry) own)
+    ⊎ (asked ≡ own_question station (2 ^ 64 - 1) own)
+IsQuestionOf (Asked request.Last) search station own asked =
+    asked ≡ own_question station (2 ^ 64 - 1) own
+IsQuestionOf (Asked (request.First reference)) search station own asked =
+    asked ≡ own_question station (2 ^ 64 - 1) own
 IsQuestionOf (Asked request.Status) search station own question.Room = Unit {0}
 IsQuestionOf _ search station own _ = ⊥
 
 -- the same of the message that is handled next, if there is one
 abbrev pub IsAskedBy : Option Message → Search → ℕ → ℕ → Question → Type 0
-IsAskedBy next search station own asked = IfSome next (λ message. IsQuestionOf message search station own asked)
+IsAskedBy next search station own asked =
+    IfSome next (λ message. IsQuestionOf message search station own asked)
 
 -- Its response may depend on the own postings of its station up to that reference.
 abbrev pub MayLook : Option Message → ℕ → ℕ → Type 0
-MayLook next station limit = (search : Search) (own : ℕ) → IsAskedBy next search station own (own_question station limit own)
+MayLook next station limit =
+    (search : Search) (own : ℕ) → IsAskedBy next search station own (own_question station limit own)
 
--- Where the next step of a search begins: where this step ended, or where it began if it looked at no record.
+-- Where the next step of a search begins: where this step ended, or where it began if it looked at
+-- no record.
 abbrev pub MeetsAt : ℕ → Reached → ℕ → Type 0
 MeetsAt from (reached.Further began number end) next = next ≡ number
 MeetsAt from (reached.All began since) next = Unit {0}
 MeetsAt from reached.LookingBack next = next ≡ from
 
--- Where a search ends: before the record of the number that this step told, or where it ended before if the step looked
--- at no records.
+-- Where a search ends: before the record of the number that this step told, or where it ended
+-- before if the step looked at no records.
 abbrev pub EndsAt : ℕ → Reached → ℕ → Type 0
 EndsAt before (reached.Further began number told) end = end ≡ told
 EndsAt before (reached.All began since) end = Unit {0}
@@ -232,25 +246,28 @@ abbrev pub IsLast : Result SearchStep FindRefusal → Type 0
 IsLast (Ok step) = IsAll step.reached
 IsLast (Err refusal) = Unit {0}
 
--- A conversation at one moment: every message that was taken from the counter's reader, every response that was handed
--- to its writer, each in order, the entries that it asked to post and that nobody submitted, and whether no question is
--- answered any more.
+-- A conversation at one moment: every message that was taken from the counter's reader, every
+-- response that was handed to its writer, each in order, the entries that it asked to post and that
+-- nobody submitted, and whether no question is answered any more.
 pub record ConversationState : Type 0 where
   pub said : List Message
   pub told : List Response
   pub unheard : List Entry
   pub is_silent : Bool
 
--- What became of the entries that a counter asked to post, in the order in which it said them: each was submitted, or
--- it was answered otherwise, for the sake of its reference; but for the last ones, which nobody took up.
-pub record WereTakenUp (said : List Message) (told : List Response) (asked rest : List Entry) : Type 0 where
+-- What became of the entries that a counter asked to post, in the order in which it said them: each
+-- was submitted, or it was answered otherwise, for the sake of its reference; but for the last
+-- ones, which nobody took up.
+pub record WereTakenUp (said : List Message) (told : List Response)
+    (asked rest : List Entry) : Type 0 where
   -- the entries that were taken up, each with whether it was submitted
   pub dealt : List (Entry × Bool)
   pub all : postings_among said ≡ map (λ one. one.0) dealt ++ rest
   pub submitted : asked ≡ map (λ one. one.0) (filter (λ one. one.1) dealt)
   pub judged : judged_among told ≡ map (λ one. one.0) (filter (λ one. not one.1) dealt)
 
--- Something that was asked before isn't answered: a request that was submitted, or an entry that nobody submitted.
+-- Something that was asked before isn't answered: a request that was submitted, or an entry that
+-- nobody submitted.
 abbrev pub IsBehindUnanswered : Bool → List Entry → Type 0
 IsBehindUnanswered is_answered unheard = (is_answered ≡ false) ⊎ (0 < length unheard)
 
@@ -258,21 +275,26 @@ IsBehindUnanswered is_answered unheard = (is_answered ≡ false) ⊎ (0 < length
 abbrev pub IsToldNoMore : List Response → List Response → Type 0
 IsToldNoMore before told = (told ≡ before) ⊎ (told ≡ before ++ response.Closing ∷ [])
 
--- The conversation with a counter is over, whose requests went by this feed: of the responses those that tell of
--- entries are the responses to the answers that were collected, in order, each once; each entry that it asked to post
--- was submitted, or answered otherwise, or nobody took it up; and the references of those that were submitted are above.
+-- The conversation with a counter is over, whose requests went by this feed: of the responses those
+-- that tell of entries are the responses to the answers that were collected, in order, each once;
+-- each entry that it asked to post was submitted, or answered otherwise, or nobody took it up; and
+-- the references of those that were submitted are above.
 pub record IsOver (feed : FeedState) (conversation : ConversationState) : Type 0 where
   pub told : answers_among conversation.told ≡ map response_of feed.collected
-  pub said : ∥ WereTakenUp conversation.said conversation.told (entries_of feed.asked) conversation.unheard ∥₁
+  pub said : ∥ WereTakenUp conversation.said conversation.told (entries_of feed.asked)
+      conversation.unheard ∥₁
   pub above : AreAbove feed.asked feed.collected
 
 -- a conversation that is over stays so, whatever its feed
 abbrev pub StaysOver : ConversationState → ConversationState → Type 0
 StaysOver old new = (feed : FeedState) → IsOver feed old → IsOver feed new
 
--- The same of what became of its requests: those whose answers were collected, those whose answers weren't, and those
--- without an answer. The references above 0 of those that were posted rise.
-pub record IsHeard (conversation : ConversationState) (collected : List Answer) (day : StationDay) : Type 0 where
+-- The same of what became of its requests: those whose answers were collected, those whose answers
+-- weren't, and those without an answer. The references above 0 of those that were posted rise.
+pub record IsHeard (conversation : ConversationState) (collected : List Answer)
+    (day : StationDay) : Type 0 where
   pub told : answers_among conversation.told ≡ map response_of collected
-  pub said : ∥ WereTakenUp conversation.said conversation.told (entries_of (asks_of collected ++ asks_of day.answers.items ++ day.unanswered.items)) conversation.unheard ∥₁
+  pub said : ∥ WereTakenUp conversation.said conversation.told
+      (entries_of (asks_of collected ++ asks_of day.answers.items ++ day.unanswered.items))
+      conversation.unheard ∥₁
   pub rising : PostsRising (collected ++ day.answers.items)

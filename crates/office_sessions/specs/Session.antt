@@ -7,8 +7,8 @@ use Rattle.office_sessions.specs.declared.session.Session.{Session}
 abbrev pub HasPlace : Session → Type 0
 HasPlace session = session.postings.unanswered < known_free session.responses
 
--- The counter was told at most something else than an answer: nothing was submitted or collected, and what is handled
--- next stays.
+-- The counter was told at most something else than an answer: nothing was submitted or collected,
+-- and what is handled next stays.
 pub record OnlyTells (old new : Session) : Type 0 where
   pub feed : new.postings.feed ≡ old.postings.feed
   pub next : new.next ≡ old.next

@@ -1,6 +1,8 @@
 //! What was said at a counter, and what it was told.
-ghost use Rattle.std.specs.Prelude.{◌≡◌, ◌⊎◌, ◌<◌, ◌≤◌, [], ◌∷◌, ◌++◌, false, length, true, IfOk, IsTrue, OnOk};
-ghost use Rattle.office_sessions.specs.Conversation.{pending, posting_of, IsOther, IsBehindUnanswered, StaysOver, IsToldNoMore};
+ghost use Rattle.std.specs.Prelude.{◌≡◌, ◌⊎◌, ◌<◌, ◌≤◌, [], ◌∷◌, ◌++◌, false, length, true, IfOk};
+ghost use Rattle.std.specs.Prelude.{IsTrue, OnOk};
+ghost use Rattle.office_sessions.specs.Conversation.{pending, posting_of, IsOther};
+ghost use Rattle.office_sessions.specs.Conversation.{IsBehindUnanswered, StaysOver, IsToldNoMore};
 
 use crate::messages::Message;
 use crate::recent::Recent;
@@ -18,15 +20,15 @@ use std::time::{Clock, Duration};
 use text_grammar::Request;
 use turn_ledger::Entry;
 
-/// How often it is looked whether a counter's reader has handed on all that it has read, and how many milliseconds lie
-/// between two looks.
+/// How often it is looked whether a counter's reader has handed on all that it has read, and how
+/// many milliseconds lie between two looks.
 const LOOKS: u64 = 400;
 
 const PAUSE: u64 = 5;
 
-/// What was said at a counter of an office that closes, and what it was told. Contracts see both, by the ends of the
-/// rings whose other ends the counter's threads have; a program sees what came too late, and what the counter wasn't
-/// told.
+/// What was said at a counter of an office that closes, and what it was told. Contracts see both,
+/// by the ends of the rings whose other ends the counter's threads have; a program sees what came
+/// too late, and what the counter wasn't told.
 #[derive(Drop)]
 pub struct Conversation {
     messages: Consumer<Message>,
@@ -34,7 +36,8 @@ pub struct Conversation {
     unheard: Vec<Entry>,
     recent: Recent,
     wakers: Arc<Wakers>,
-    // Whether no question is answered any more: one was left without an answer, for which the next would be taken.
+    // Whether no question is answered any more: one was left without an answer, for which the next
+    // would be taken.
     is_silent: bool,
     // Whether the counter was told that the office closes, behind which it is told nothing.
     is_told_closing: bool,
@@ -84,8 +87,8 @@ impl Conversation {
         }
     }
 
-    /// Takes what the counter's reader still hands on, until that is all that it has read; but not for ever. Unless
-    /// all before it is answered, nothing of it is.
+    /// Takes what the counter's reader still hands on, until that is all that it has read; but not
+    /// for ever. Unless all before it is answered, nothing of it is.
     pub(crate) fn take_late<C: Clock>(
         &mut self,
         clock: &C,
@@ -182,7 +185,8 @@ impl Conversation {
         self.is_told_closing = true;
     }
 
-    // Tells the counter something else than an answer. Where there is no place for it, it is told no more of that kind.
+    // Tells the counter something else than an answer. Where there is no place for it, it is told
+    // no more of that kind.
     fn tell(&mut self, response: Response)
         requires other { IsOther response }
         ensures over { StaysOver self.old self.new }
@@ -218,14 +222,16 @@ impl Conversation {
         }
     }
 
-    /// The entries that the counter asked to post, and that came too late to be submitted, in order.
+    /// The entries that the counter asked to post, and that came too late to be submitted, in
+    /// order.
     pub fn unheard(&self) -> &[Entry]
         ensures { result.now ≡ self.now.unheard }
     {
         self.unheard.as_slice()
     }
 
-    /// The last of its responses, in order, that its writer isn't done with by now, since the stream takes no more.
+    /// The last of its responses, in order, that its writer isn't done with by now, since the
+    /// stream takes no more.
     pub fn untold(&self) -> Skip<vec_deque::Iter<'_, Response>> {
         self.recent.last(self.wakers.unwritten())
     }

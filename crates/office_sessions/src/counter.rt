@@ -22,7 +22,7 @@ const PROMPT: &str = "office> ";
 
 /// What kind of client stands at a counter.
 #[derive(Clone, Copy, Debug, PartialEq, Eq)]
-pub enum Kind {
+pub enum CounterKind {
     /// A program, by two pipes: nothing ends where it hangs up.
     Pipes,
     /// A terminal: it is prompted, and the office closes where its input ends.
@@ -42,8 +42,9 @@ pub struct Counter<I: Read, O: Write> {
     pub input: I,
     /// What it is told.
     pub output: O,
-    pub kind: Kind,
-    /// Whether its requests are dropped until it says `hello`: what an earlier client left unread isn't run.
+    pub kind: CounterKind,
+    /// Whether its requests are dropped until it says `hello`: what an earlier client left unread
+    /// isn't run.
     pub awaits_hello: bool,
 }
 
@@ -90,8 +91,8 @@ pub(crate) fn begin_session<
         awaits_hello,
     } = counter;
     let prompt = match kind {
-        Kind::Pipes => "",
-        Kind::Terminal => PROMPT,
+        CounterKind::Pipes => "",
+        CounterKind::Terminal => PROMPT,
     };
     let (said, messages) = RingBuffer::new(alloc, CAPACITY)?;
     let (responses, told) = RingBuffer::new(alloc, CAPACITY)?;
@@ -100,7 +101,7 @@ pub(crate) fn begin_session<
     start_reader(rt, reader, &wakers, scheduler)?;
     let writer = Writer::new(alloc, output, prompt, identity, told)?;
     start_writer(rt, writer, &wakers, scheduler)?;
-    let (recent, closes_at_end) = (Recent::new(alloc)?, kind == Kind::Terminal);
+    let (recent, closes_at_end) = (Recent::new(alloc)?, kind == CounterKind::Terminal);
     Ok(Session::new(
         station,
         since,
@@ -118,8 +119,8 @@ fn new_wakers(alloc: Global) -> Result<Arc<Wakers>, AllocError> {
     Ok(Arc::new(alloc, Wakers::new())?)
 }
 
-/// A session at a station that has no counter. Its rings have no places: what is told to nobody would count as
-/// unwritten, and the office would wait for that before it ends.
+/// A session at a station that has no counter. Its rings have no places: what is told to nobody
+/// would count as unwritten, and the office would wait for that before it ends.
 pub(crate) fn empty_session(alloc: Global, station: u8, feed: Feed) -> Result<Session, AllocError>
     requires nothing_asked { feed.asked ≡ [] }
     requires nothing_collected { feed.collected ≡ [] }

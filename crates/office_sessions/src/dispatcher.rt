@@ -17,7 +17,9 @@ impl Promise<Vec<Session>> for SameFeeds {
     ghost use Rattle.std.specs.Prelude.{map};
     ghost use Rattle.station_desk.specs.Rings.{AllStandAt};
 
-    ghost kept_by = { λ promise sessions. AllStandAt (map (λ session. session.postings.feed) promise.0.value.items) (map (λ session. session.postings.feed) sessions.items) };
+    ghost kept_by = { λ promise sessions.
+        AllStandAt (map (λ session. session.postings.feed) promise.0.value.items)
+        (map (λ session. session.postings.feed) sessions.items) };
 }
 
 /// Attends to the counters until the office's life is over.

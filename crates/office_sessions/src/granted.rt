@@ -31,8 +31,8 @@ impl IdleThread {
     }
 }
 
-/// Whether the system grants all threads of an office for so many stations and counters at once. They are started, and
-/// end again.
+/// Whether the system grants all threads of an office for so many stations and counters at once.
+/// They are started, and end again.
 ///
 /// # Errors
 /// Out of memory.

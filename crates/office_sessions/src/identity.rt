@@ -2,8 +2,8 @@
 use std::alloc::Global;
 use std::fmt;
 
-/// By what a counter is known: its name in its office, and the number of its office's ledger. Two offices may have
-/// counters of one name.
+/// By what a counter is known: its name in its office, and the number of its office's ledger. Two
+/// offices may have counters of one name.
 #[derive(Debug, Drop)]
 pub struct Identity {
     pub name: String,

@@ -1,14 +1,15 @@
 //! An office that stays open for counters that come and go.
 //!
-//! A counter is a client of one station. It says a request a line, and each is answered by a line, in order, as soon as
-//! it is durable. [`keep_open`] runs an office for counters over any streams.
+//! A counter is a client of one station. It says a request a line, and each is answered by a line,
+//! in order, as soon as it is durable. [`keep_open`] runs an office for counters over any streams.
 //!
-//! Each counter has two threads, one that reads what it says and one that writes what it is told. They own ends of
-//! rings alone, and may wait for the counter forever. One thread more, the dispatcher, holds every feed, and never
-//! reads nor writes. Each station has a thread of its own. The scheduler is what they share: it wakes whom there is
-//! work for.
+//! Each counter has two threads, one that reads what it says and one that writes what it is told.
+//! They own ends of rings alone, and may wait for the counter forever. One thread more, the
+//! dispatcher, holds every feed, and never reads nor writes. Each station has a thread of its own.
+//! The scheduler is what they share: it wakes whom there is work for.
 //!
-//! The test `a_counter_is_answered_in_order` in `src/counters.rt` of the crate `test_examples` is an example.
+//! The test `a_counter_is_answered_in_order` in `src/counters.rt` of the crate `test_examples` is
+//! an example.
 #![tactic(auto)]
 
 mod conversation;
@@ -33,7 +34,7 @@ mod wakers;
 mod writer;
 
 pub use conversation::Conversation;
-pub use counter::{Counter, Kind};
+pub use counter::{Counter, CounterKind};
 pub use granted::are_threads_granted;
 pub use identity::Identity;
 pub use line_lock::Posting;

@@ -1,12 +1,14 @@
 //! A look at what was posted at a counter, step by step.
-ghost use Rattle.std.specs.Prelude.{◌≡◌, ◌≢◌, ◌⊎◌, ◌↔◌, ◌<◌, ◌≤◌, ℕ, false, IfOk, IfErr, IfSome, Some, None};
+ghost use Rattle.std.specs.Prelude.{◌≡◌, ◌≢◌, ◌⊎◌, ◌↔◌, ◌<◌, ◌≤◌, ℕ, false, IfOk, IfErr, IfSome};
+ghost use Rattle.std.specs.Prelude.{Some, None};
 ghost use Rattle.sector_device.specs.Crash.{LooksOnly};
 ghost use Rattle.gate_journal.specs.Journal.{after_reads};
 ghost use Rattle.journal_recovery.specs.LookBack.{FitsSlots};
 ghost use Rattle.turn_clerk.specs.declared.refusals.FindRefusal.{FindRefusal};
 ghost use Rattle.turn_ledger.specs.Entry.{reference_of};
 ghost use Rattle.office_sessions.specs.Conversation.{own_question};
-ghost use Rattle.office_sessions.specs.Looked.{seen_with, seen_farther, GoesOnBy, Meets, BeginsAnew, HasSeen, IsAbove, IsUnder};
+ghost use Rattle.office_sessions.specs.Looked.{seen_with, seen_farther, GoesOnBy, Meets};
+ghost use Rattle.office_sessions.specs.Looked.{BeginsAnew, HasSeen, IsAbove, IsUnder};
 
 use crate::responses::Judgement;
 use gate_journal::Journal;
@@ -14,14 +16,15 @@ use journal_recovery::LookBack;
 use sector_device::Device;
 use station_desk::Question;
 use std::fmt;
-use turn_clerk::{FindRefusal, Posting, Reached, SearchStep, Sought, later_posting, search};
+use turn_clerk::{FindRefusal, Posting, Reached, SearchStep, SearchTarget, later_posting, search};
 use turn_ledger::{Entry, Ledger};
 
-/// More steps than any ledger needs: of 2,000,000 records, and as many slots of a bank that is looked back to.
+/// More steps than any ledger needs: of 2,000,000 records, and as many slots of a bank that is
+/// looked back to.
 const MOST_STEPS: u64 = 20_000;
 
-/// How far a look is that is under way. Between two of its steps records may go out of sight that it didn't look at:
-/// what it saw before such a gap doesn't count any more.
+/// How far a look is that is under way. Between two of its steps records may go out of sight that
+/// it didn't look at: what it saw before such a gap doesn't count any more.
 #[derive(Clone, Copy, Debug)]
 pub struct Look {
     // The number of the record that is looked at next.
@@ -35,14 +38,15 @@ pub struct Look {
 /// What a look tells.
 #[derive(Clone, Copy, Debug, PartialEq, Eq)]
 pub struct LookAnswer {
-    /// The counter's posting with the greatest reference, of those that were looked at; of several the last.
+    /// The counter's posting with the greatest reference, of those that were looked at; of several
+    /// the last.
     pub posting: Option<Posting>,
     /// The number of the record from which on all were looked at.
     pub since: u64,
 }
 
-/// The reference and the number of its batch; or that there is none; or from which batch on there is none, if earlier
-/// ones aren't in sight.
+/// The reference and the number of its batch; or that there is none; or from which batch on there
+/// is none, if earlier ones aren't in sight.
 impl fmt::Display for LookAnswer {
     fn fmt<W: fmt::Write>(&self, f: &mut fmt::Formatter<W>) -> fmt::Result {
         match (self.posting, self.since) {
@@ -54,7 +58,8 @@ impl fmt::Display for LookAnswer {
 }
 
 impl Look {
-    /// A look that begins with the record of that number: what stands before it is neither found nor known.
+    /// A look that begins with the record of that number: what stands before it is neither found
+    /// nor known.
     pub fn starting_at(batch: u64) -> Look
         ensures begins { result ≡ record { from = batch; since = batch; posting = None } }
         ensures whole { HasSeen result.since result.from result.posting }
@@ -71,7 +76,7 @@ impl Look {
         ensures { result ≡ own_question station limit self.now.from }
     {
         Question::Search {
-            sought: Sought::OfStation { station, limit },
+            sought: SearchTarget::OfStation { station, limit },
             from: self.from,
             end: u64::MAX,
         }
@@ -111,8 +116,8 @@ impl Look {
         }
     }
 
-    // Takes in what a step found that began with the record of that number. If it passed over records, nothing that was
-    // seen before them counts.
+    // Takes in what a step found that began with the record of that number. If it passed over
+    // records, nothing that was seen before them counts.
     fn take_in(&mut self, began: u64, posting: Option<Posting>)
         ensures same { self.new.from ≡ self.old.from }
         ensures meets { began ≤ self.old.from → Meets self.old posting self.new }
@@ -146,14 +151,15 @@ impl Look {
         ensures told { IfSome result (λ seen. IfOk seen (λ all. all.posting ≡ self.new.posting)) }
     {
         let limit = u64::MAX;
-        let sought = Sought::OfStation { station, limit };
+        let sought = SearchTarget::OfStation { station, limit };
         let step = search(journal, back, ledger, sought, self.from, u64::MAX);
         self.go_on(step.map_err(FindRefusal::from))
     }
 }
 
-/// The posting of a station with the greatest reference in the records in sight of a journal, from the one of that
-/// number on; None if they can't be read. Whatever the ledger holds, it is used to find out how far back one sees.
+/// The posting of a station with the greatest reference in the records in sight of a journal, from
+/// the one of that number on; None if they can't be read. Whatever the ledger holds, it is used to
+/// find out how far back one sees.
 pub fn last_posting<D: Device>(
     journal: &mut Journal<D>,
     ledger: &mut Ledger,
@@ -162,7 +168,8 @@ pub fn last_posting<D: Device>(
 ) -> Option<LookAnswer>
     ensures kept { journal.new ≡ after_reads journal.old journal.new.device }
     ensures looks { LooksOnly (D.state journal.old.device) (D.state journal.new.device) }
-    ensures above { IfSome result (λ seen. IfSome seen.posting (λ last. 0 < reference_of last.entry)) }
+    ensures above { IfSome result
+        (λ seen. IfSome seen.posting (λ last. 0 < reference_of last.entry)) }
 {
     if journal.is_faulted() {
         return None;
@@ -193,9 +200,9 @@ pub(crate) fn farther(since: u64, in_archive: Option<LookAnswer>) -> LookAnswer
     }
 }
 
-/// What becomes of an entry whose reference isn't above those that were posted, by the look at the postings up to it.
-/// It is answered as it was then, if it stands. If nothing in sight has its reference, and there are batches out of
-/// sight, nobody knows.
+/// What becomes of an entry whose reference isn't above those that were posted, by the look at the
+/// postings up to it. It is answered as it was then, if it stands. If nothing in sight has its
+/// reference, and there are batches out of sight, nobody knows.
 pub(crate) fn judge(entry: &Entry, seen: &LookAnswer) -> Judgement
     ensures stands { (number : ℕ) → (result ≡ Judgement.Posted number)
         ↔ (seen.now.posting ≡ Some (record { number = number; entry = entry.now })) }

@@ -8,14 +8,14 @@ ghost use Rattle.office_sessions.specs.Kept.{WasKeptFor, HandsBack, stands_with}
 
 use crate::conversation::Conversation;
 use crate::counter::{Counter, Unserved};
-use crate::opening::{Begun, begin};
-use crate::recess::{Granting, Keeper};
+use crate::opening::{AttendedCounters, begin};
+use crate::recess::{Keeper, WishGranter};
 use crate::scheduler::Scheduler;
 use crate::session::Session;
 use crate::status::Clients;
 use crate::wakers::Wakers;
 use line_lock::OfficeRefusal;
-use office_day::{Adjourned, Audit, Left, Life, StationDay, all_reconciled, run_spans};
+use office_day::{Audit, Life, OfficeParts, StationDay, StationRemains, all_reconciled, run_spans};
 use sector_device::Device;
 use station_desk::Feed;
 use std::alloc::{AllocError, Global};
@@ -26,8 +26,8 @@ use std::time::{Clock, Duration};
 use thiserror::Error;
 use turn_clerk::Clerk;
 
-/// How often it is looked whether the counters were told all, before the office is left; and how many milliseconds lie
-/// between two looks.
+/// How often it is looked whether the counters were told all, before the office is left; and how
+/// many milliseconds lie between two looks.
 const LOOKS: u64 = 400;
 
 const PAUSE: u64 = 5;
@@ -79,14 +79,16 @@ impl From<Unserved> for LiveRefusal {
     }
 }
 
-/// Keeps an office open over the clerk, with its line, for these counters, each at its station: each may come and go,
-/// say its requests, and is told the answers. Stations without a counter take turns that are empty. After `moves` turns
-/// the office is closed, the clerk begins anew, and it is opened again, which no counter notices. It ends once a
-/// counter asks for that, and all that was submitted is answered; where the input of a terminal ends; and where a
-/// station is refused its turns, as by a failed device. Then it is closed. Whenever it is closed for a while, the
-/// keeper adds to the archive and makes the copies that were asked for; counters can have it closed for that. If the
-/// archive can't be kept, the office ends. The keeper comes back with an office that is closed: its archive has all
-/// batches of the spans before the last one. The call waits for all of that; the counters' threads are left behind.
+/// Keeps an office open over the clerk, with its line, for these counters, each at its station:
+/// each may come and go, say its requests, and is told the answers. Stations without a counter take
+/// turns that are empty. After `moves` turns the office is closed, the clerk begins anew, and it is
+/// opened again, which no counter notices. It ends once a counter asks for that, and all that was
+/// submitted is answered; where the input of a terminal ends; and where a station is refused its
+/// turns, as by a failed device. Then it is closed. Whenever it is closed for a while, the keeper
+/// adds to the archive and makes the copies that were asked for; counters can have it closed for
+/// that. If the archive can't be kept, the office ends. The keeper comes back with an office that
+/// is closed: its archive has all batches of the spans before the last one. The call waits for all
+/// of that; the counters' threads are left behind.
 ///
 /// # Errors
 /// The device comes back with a [`LiveRefusal`].
@@ -116,18 +118,18 @@ pub fn keep_open<
         Ok(begun) => begun,
         Err(unserved) => return Err((clerk.into_device(), LiveRefusal::from(unserved))),
     };
-    let Begun {
+    let AttendedCounters {
         scheduler,
         dispatcher,
         desks,
         wakers,
     } = begun;
-    let mut recess = Granting {
+    let mut recess = WishGranter {
         rt,
         scheduler: &*scheduler,
         keeper,
     };
-    let office = Adjourned { clerk, desks };
+    let office = OfficeParts { clerk, desks };
     let life = run_spans(rt, alloc, office, &*scheduler, &mut recess, moves);
     scheduler.note_over();
     let ended = all_ended(rt, alloc, dispatcher.join(rt));

@@ -20,7 +20,7 @@ use std::thread::{PromisedHandle, Threads, spawn_with};
 
 /// An office's counters, attended to, before its stations take turns.
 #[derive(Drop)]
-pub(crate) struct Begun {
+pub(crate) struct AttendedCounters {
     /// What the stations are woken by.
     pub scheduler: Arc<Scheduler>,
     /// The thread that attends to the counters.
@@ -77,9 +77,10 @@ pub(crate) fn begin<
     kept: ArchiveState,
     counters: Vec<Counter<I, O>>,
     clients: C,
-) -> Result<Begun, Unserved>
+) -> Result<AttendedCounters, Unserved>
     ensures together { IfOk result (λ begun. AllZip AreTogether
-        (map (λ session. session.postings.feed) begun.dispatcher.promise.0.value.items) begun.desks.items) }
+        (map (λ session. session.postings.feed) begun.dispatcher.promise.0.value.items)
+        begun.desks.items) }
     ensures fresh { IfOk result (λ begun. All IsFresh begun.desks.items) }
     ensures as_many { IfOk result (λ begun. length begun.desks.items ≡ stations) }
 {
@@ -96,7 +97,7 @@ pub(crate) fn begin<
         promise,
         move || dispatch(&own, &theirs, sessions, clients),
     ) {
-        Ok(dispatcher) => Ok(Begun {
+        Ok(dispatcher) => Ok(AttendedCounters {
             scheduler,
             dispatcher,
             desks,

@@ -1,8 +1,10 @@
 //! What a counter posts, and which references it may still use.
 //!
-//! The references of a counter rise: an entry with a reference above 0 is submitted only if that is above each one that
-//! was posted there, and above each one that is under way. So an entry that a client repeats is never posted twice.
-ghost use Rattle.std.specs.Prelude.{◌≡◌, ◌≢◌, ◌⊎◌, ◌↔◌, ◌+◌, ◌^◌, ◌<◌, ◌≤◌, [], ◌∷◌, ◌++◌, length, max, false, IsTrue, IfSome, IsSome, None};
+//! The references of a counter rise: an entry with a reference above 0 is submitted only if that is
+//! above each one that was posted there, and above each one that is under way. So an entry that a
+//! client repeats is never posted twice.
+ghost use Rattle.std.specs.Prelude.{◌≡◌, ◌≢◌, ◌⊎◌, ◌↔◌, ◌+◌, ◌^◌, ◌<◌, ◌≤◌, [], ◌∷◌, ◌++◌, length};
+ghost use Rattle.std.specs.Prelude.{max, false, IsTrue, IfSome, IsSome, None};
 ghost use Rattle.turn_ledger.specs.Entry.{reference_of};
 ghost use Rattle.station_desk.specs.Messages.{entries_of};
 ghost use Rattle.station_desk.specs.Rings.{StandsAt};
@@ -11,8 +13,8 @@ ghost use Rattle.office_sessions.specs.Rising.{AreAbove, AreWithin, AreUnderWay}
 use station_desk::{Answer, Feed, Outcome};
 use turn_ledger::Entry;
 
-/// How far a reference may be above the last one that is known. One that is farther is taken for a mistake, which would
-/// leave the counter no references.
+/// How far a reference may be above the last one that is known. One that is farther is taken for a
+/// mistake, which would leave the counter no references.
 const FARTHEST: u64 = 4_294_967_296;
 
 /// A counter's feed, and what is known of the references in it.
@@ -21,7 +23,8 @@ pub(crate) struct Postings {
     pub(crate) feed: Feed,
     // How many requests are submitted, and not answered.
     pub(crate) unanswered: usize,
-    // No posting that was answered, or that was found in the ledger, has a reference above this one.
+    // No posting that was answered, or that was found in the ledger, has a reference above this
+    // one.
     pub(crate) posted: u64,
     // No request that isn't answered has one above this.
     under_way: u64,

@@ -20,10 +20,11 @@ pub enum CounterCopyRefusal {
     Memory,
     /// The ledger can't be read.
     Device,
-    /// There is a file of that name, which stays as it is: nothing was posted since the last copy, or it is another's.
+    /// There is a file of that name, which stays as it is: nothing was posted since the last copy,
+    /// or it is another's.
     Occupied,
-    /// The copy, or the file of its counters, can't be made, written, or given its name. What was made of it is
-    /// removed, unless the system fails to take it away.
+    /// The copy, or the file of its counters, can't be made, written, or given its name. What was
+    /// made of it is removed, unless the system fails to take it away.
     Unwritten,
 }
 
@@ -61,13 +62,15 @@ pub trait Keeper {
     /// How far it was when it was kept last.
     ghost so_far: { Self → ArchiveState };
 
-    /// Adds to the archive what it lacks of the ledger, whose device is only looked at and handed back.
+    /// Adds to the archive what it lacks of the ledger, whose device is only looked at and handed
+    /// back.
     fn keep<D: Device>(&mut self, journal: Journal<D>) -> (D, ArchiveState)
         ensures looked { WasLookedAt (D.state journal.device) (D.state result.0) }
         ensures kept { WasKept (D.state journal.device) (archive self.old) (archive self.new) }
         ensures so_far { so_far self.new ≡ result.1 }
         ensures none { result.1 ≡ ArchiveState.NoArchive → (archive self.old).honest ≡ false }
-        ensures up_to { (next : ℕ) → result.1 ≡ ArchiveState.UpTo next → (archive self.old).honest ≡ true
+        ensures up_to { (next : ℕ) → result.1 ≡ ArchiveState.UpTo next
+            → (archive self.old).honest ≡ true
             → next ≡ next_of (archive self.new) }
         ensures failed { ((archive self.new).failed ≡ true)
             ↔ (((archive self.old).failed ≡ true) ⊎ (result.1 ≡ ArchiveState.Failed)) };
@@ -76,8 +79,8 @@ pub trait Keeper {
     fn kept(&self) -> ArchiveState
         ensures { result ≡ so_far self.now };
 
-    /// Makes a copy of the ledger on the device. All batches below the number are in it. The device is only looked at
-    /// and handed back.
+    /// Makes a copy of the ledger on the device. All batches below the number are in it. The device
+    /// is only looked at and handed back.
     ///
     /// # Errors
     /// [`CounterCopyRefusal`].
@@ -86,8 +89,8 @@ pub trait Keeper {
         ensures archive { archive self.new ≡ archive self.old }
         ensures so_far { so_far self.new ≡ so_far self.old };
 
-    /// The posting of a station with the greatest reference in the archive, and the number of the first batch that is
-    /// in it. None without an archive, or if it can't be read.
+    /// The posting of a station with the greatest reference in the archive, and the number of the
+    /// first batch that is in it. None without an archive, or if it can't be read.
     fn last(&mut self, station: u8) -> Option<LookAnswer>
         ensures archive { archive self.new ≡ archive self.old }
         ensures so_far { so_far self.new ≡ so_far self.old };
@@ -102,24 +105,24 @@ pub(crate) enum Wish {
     Last,
 }
 
-/// What came of it.
+/// What came of a wish.
 #[derive(Clone, Copy)]
-pub(crate) enum Came {
+pub(crate) enum WishOutcome {
     Archive(ArchiveState),
     Copy(Result<u64, CounterCopyRefusal>),
     Last(Option<LookAnswer>),
 }
 
-/// A live office between two spans: its archive is kept, and copies are made that were asked for. If the archive can't
-/// be kept, no station takes a turn any more.
+/// A live office between two spans: its archive is kept, and copies are made that were asked for.
+/// If the archive can't be kept, no station takes a turn any more.
 #[derive(Drop)]
-pub(crate) struct Granting<'a, R, K> {
+pub(crate) struct WishGranter<'a, R, K> {
     pub rt: &'a R,
     pub scheduler: &'a Scheduler,
     pub keeper: K,
 }
 
-impl<R: Wait, K: Keeper> Granting<'_, R, K> {
+impl<R: Wait, K: Keeper> WishGranter<'_, R, K> {
     // Keeps the archive; if it can't be kept, no station takes a turn any more.
     fn keep_archive<D: Device>(&mut self, journal: Journal<D>) -> (D, ArchiveState)
         ensures looked { WasLookedAt (D.state journal.device) (D.state result.0) }
@@ -143,22 +146,23 @@ impl<R: Wait, K: Keeper> Granting<'_, R, K> {
             return device;
         };
         let (device, came) = match wish {
-            Wish::Archive => (device, Came::Archive(kept)),
+            Wish::Archive => (device, WishOutcome::Archive(kept)),
             Wish::Copy => {
                 let (device, copied) = self.keeper.copy(device);
-                (device, Came::Copy(copied))
+                (device, WishOutcome::Copy(copied))
             }
-            Wish::Last => (device, Came::Last(self.keeper.last(station))),
+            Wish::Last => (device, WishOutcome::Last(self.keeper.last(station))),
         };
         self.scheduler.tell(self.rt, station, came);
         device
     }
 }
 
-impl<R: Wait, K: Keeper> Borrower for Granting<'_, R, K> {
+impl<R: Wait, K: Keeper> Borrower for WishGranter<'_, R, K> {
     ghost changes = { λ old new. IsKept (K.archive old.keeper) (K.archive new.keeper) };
 
-    ghost learns = { λ image old new. CatchesUp image (K.archive old.keeper) (K.archive new.keeper) };
+    ghost learns = { λ image old new.
+        CatchesUp image (K.archive old.keeper) (K.archive new.keeper) };
 
     fn look<D: Device>(&mut self, journal: Journal<D>) -> D {
         let (mut device, kept) = self.keep_archive(journal);
@@ -171,7 +175,7 @@ impl<R: Wait, K: Keeper> Borrower for Granting<'_, R, K> {
     }
 }
 
-impl<R: Wait, K: Keeper> Recess for Granting<'_, R, K> {
+impl<R: Wait, K: Keeper> Recess for WishGranter<'_, R, K> {
     ghost archive = { λ granting. K.archive granting.keeper };
 
     ghost keeps = { λ old new kept. kept };

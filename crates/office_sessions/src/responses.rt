@@ -2,7 +2,8 @@
 ghost use Rattle.std.specs.Prelude.{◌≡◌};
 ghost use Rattle.text_grammar.specs.declared.requests.Request.TheVariants.{Balance};
 ghost use Rattle.office_sessions.specs.declared.messages.Message.TheVariants.{Asked};
-ghost use Rattle.office_sessions.specs.Conversation.{is_answer, told_of_balance, IsOther, IsResponseTo};
+ghost use Rattle.office_sessions.specs.Conversation.{is_answer, told_of_balance, IsOther};
+ghost use Rattle.office_sessions.specs.Conversation.{IsResponseTo};
 
 use crate::look::LookAnswer;
 use crate::messages::WrongLine;
@@ -63,7 +64,8 @@ pub enum Response {
     },
     /// Why a balance isn't told.
     NoBalance(BalanceRefusal),
-    /// How many batches with an entry of the looked-for reference were found; all from this number on were looked at.
+    /// How many batches with an entry of the looked-for reference were found; all from this number
+    /// on were looked at.
     FoundInAll {
         count: u64,
         since: u64,
@@ -115,15 +117,16 @@ pub enum Response {
     Closing,
 }
 
-/// What becomes of an entry that isn't submitted, since its reference isn't known to be above all that were posted at
-/// its counter.
+/// What becomes of an entry that isn't submitted, since its reference isn't known to be above all
+/// that were posted at its counter.
 #[derive(Clone, Copy, Debug, PartialEq, Eq)]
 pub enum Judgement {
     /// The same entry stands under this reference, in the batch of this number.
     Posted(u64),
     /// Under its reference another entry stands, or none, and one above it was posted.
     Reference,
-    /// What stands under its reference isn't in sight, from the batch of this number on: the entry may stand before it.
+    /// What stands under its reference isn't in sight, from the batch of this number on: the entry
+    /// may stand before it.
     Unknown(u64),
     /// The ledger wasn't looked at to its end.
     NotSeen(FindRefusal),

@@ -1,9 +1,9 @@
 //! Who wakes the stations and the dispatcher of a live office.
 //!
-//! Nobody asks for a turn while no request waits. While the line may still be healing each station may ask after each
-//! turn; from then on one station alone is privileged, and which one follows from the last move, so that it alone is
-//! woken.
-use crate::recess::{ArchiveState, Came, Wish};
+//! Nobody asks for a turn while no request waits. While the line may still be healing each station
+//! may ask after each turn; from then on one station alone is privileged, and which one follows
+//! from the last move, so that it alone is woken.
+use crate::recess::{ArchiveState, Wish, WishOutcome};
 use four_state::Rule;
 use station_desk::{Errand, Gate, Question, Report};
 use std::alloc::{AllocError, Global};
@@ -13,8 +13,8 @@ use std::thread::Parker;
 use std::time::Duration;
 use turn_clerk::Turn;
 
-/// How often a station looks whether all others have begun, before all are sent home and begin anew. Behind each span
-/// that ended so it looks four times as often, up to an hour.
+/// How often a station looks whether all others have begun, before all are sent home and begin
+/// anew. Behind each span that ended so it looks four times as often, up to an hour.
 const PATIENCE: u64 = 1_000;
 
 const MOST_PATIENCE: u64 = 720_000;
@@ -22,7 +22,8 @@ const MOST_PATIENCE: u64 = 720_000;
 /// How many milliseconds it waits between two looks.
 const PAUSE: u64 = 5;
 
-/// How many spans in a row may end so, before one in which all began: then the system is taken to refuse a thread.
+/// How many spans in a row may end so, before one in which all began: then the system is taken to
+/// refuse a thread.
 const TRIES: u64 = 2;
 
 /// What is asked at a station, and what was reported.
@@ -32,7 +33,7 @@ struct Exchange {
     report: Option<Report>,
     // What is wanted there of the next recess, and what came of that.
     wish: Option<Wish>,
-    came: Option<Came>,
+    came: Option<WishOutcome>,
 }
 
 /// What wakes one station.
@@ -86,7 +87,8 @@ pub(crate) struct Scheduler {
     stopping: AtomicBool,
     // A recess was called, for which the stations are sent home.
     recess: AtomicBool,
-    // How many spans in a row ended since a station waited for the others to begin, and whether all ever began.
+    // How many spans in a row ended since a station waited for the others to begin, and whether all
+    // ever began.
     late: AtomicU64,
     has_worked: AtomicBool,
     // The stations gave up waiting for each other.
@@ -134,8 +136,8 @@ impl Scheduler {
         })
     }
 
-    /// A request is submitted: stations that may be privileged ask for their turns. One may have taken it by now, so
-    /// that the count was below zero, and wrapped, for a moment.
+    /// A request is submitted: stations that may be privileged ask for their turns. One may have
+    /// taken it by now, so that the count was below zero, and wrapped, for a moment.
     pub(crate) fn note_submitted(&self) {
         if self.waiting.fetch_add(1, Ordering::SeqCst) == 0 {
             self.wake_those_who_may_ask();
@@ -182,14 +184,14 @@ impl Scheduler {
     }
 
     /// Tells a station what came of its wish.
-    pub(crate) fn tell<R: Wait>(&self, rt: &R, station: u8, came: Came) {
+    pub(crate) fn tell<R: Wait>(&self, rt: &R, station: u8, came: WishOutcome) {
         if let Some(waker) = self.wakers.get(station as usize) {
             waker.exchange.lock(rt).came = Some(came);
         }
     }
 
     /// What came of the wish of a station, once.
-    pub(crate) fn take_what_came<R: Wait>(&self, rt: &R, station: u8) -> Option<Came> {
+    pub(crate) fn take_what_came<R: Wait>(&self, rt: &R, station: u8) -> Option<WishOutcome> {
         let waker = self.wakers.get(station as usize)?;
         waker.exchange.lock(rt).came.take()
     }
@@ -282,8 +284,8 @@ impl Scheduler {
         }
     }
 
-    // Waits, at a station's first errand, until each has begun, or all are sent home. Where that takes too long, all
-    // are: a thread is late, or the system refuses it.
+    // Waits, at a station's first errand, until each has begun, or all are sent home. Where that
+    // takes too long, all are: a thread is late, or the system refuses it.
     fn await_others<R: Wait>(&self, rt: &R, waker: &Waker) {
         if waker.has_begun.swap(true, Ordering::SeqCst) {
             return;
@@ -313,8 +315,8 @@ impl Scheduler {
         patience
     }
 
-    // Not all have begun: they are sent home, and the next span is another try. An office in which all began once tries
-    // as often as it takes. One that never came so far is abandoned.
+    // Not all have begun: they are sent home, and the next span is another try. An office in which
+    // all began once tries as often as it takes. One that never came so far is abandoned.
     fn begin_again(&self) {
         if self.recess.swap(true, Ordering::SeqCst) {
             return;
@@ -326,8 +328,8 @@ impl Scheduler {
         self.wake_all();
     }
 
-    // Whether a station is to end here: nothing waits in an office that closes, a recess is called, or nobody waits any
-    // more.
+    // Whether a station is to end here: nothing waits in an office that closes, a recess is called,
+    // or nobody waits any more.
     fn goes_home(&self) -> bool {
         let is_done = self.is_closing() && self.waiting.load(Ordering::SeqCst) == 0;
         is_done || self.recess.load(Ordering::SeqCst) || self.is_given_up()

@@ -2,19 +2,21 @@
 ghost use Rattle.std.specs.Prelude.{◌≡◌, ◌↔◌, true, false, IsTrue, IfOk, IfSome, Some};
 ghost use Rattle.text_grammar.specs.declared.requests.Request.TheVariants.{Find};
 ghost use Rattle.office_sessions.specs.declared.messages.Message.TheVariants.{Asked};
-ghost use Rattle.office_sessions.specs.Conversation.{IsOther, told_of_posting, told_of_step, counted_with, found_with, IsResponseTo, MeetsAt, EndsAt, IsLast};
+ghost use Rattle.office_sessions.specs.Conversation.{IsOther, told_of_posting, told_of_step};
+ghost use Rattle.office_sessions.specs.Conversation.{counted_with, found_with, IsResponseTo};
+ghost use Rattle.office_sessions.specs.Conversation.{MeetsAt, EndsAt, IsLast};
 
 use crate::responses::Response;
 use station_desk::Question;
-use turn_clerk::{FindRefusal, Posting, Reached, SearchStep, Sought};
+use turn_clerk::{FindRefusal, Posting, Reached, SearchStep, SearchTarget};
 
 /// How far the search is that a counter asked for last.
 #[derive(Clone, Copy, Debug)]
 pub(crate) struct Search {
     // The number of the record that is looked at next.
     from: u64,
-    // The number behind the last record that is looked at, which the first step that looks at records tells: what is
-    // posted while the search goes on is none of its records.
+    // The number behind the last record that is looked at, which the first step that looks at
+    // records tells: what is posted while the search goes on is none of its records.
     end: u64,
     // How many records with the reference were found.
     count: u64,
@@ -48,7 +50,8 @@ impl Step {
 }
 
 impl Search {
-    /// A search that begins with the first record, and goes up to the last that there is at its first step.
+    /// A search that begins with the first record, and goes up to the last that there is at its
+    /// first step.
     pub(crate) const BEGINNING: Search = Search {
         from: 0,
         end: u64::MAX,
@@ -57,10 +60,11 @@ impl Search {
 
     /// What is asked next.
     pub(crate) fn question(&self, reference: u64) -> Question
-        ensures { result ≡ Question.Search (Sought.Reference reference) self.now.from self.now.end }
+        ensures { result
+            ≡ Question.Search (SearchTarget.Reference reference) self.now.from self.now.end }
     {
         Question::Search {
-            sought: Sought::Reference(reference),
+            sought: SearchTarget::Reference(reference),
             from: self.from,
             end: self.end,
         }

@@ -2,7 +2,8 @@
 ghost use Rattle.std.specs.Prelude.{◌≡◌, ◌≤◌, [], map};
 ghost use Rattle.rtrb.specs.Ring.{known_free, sent, received};
 ghost use Rattle.station_desk.specs.Messages.{entries_of};
-ghost use Rattle.office_sessions.specs.Conversation.{response_of, answers_among, pending, WereTakenUp};
+ghost use Rattle.office_sessions.specs.Conversation.{response_of, answers_among, pending};
+ghost use Rattle.office_sessions.specs.Conversation.{WereTakenUp};
 
 use crate::look::Look;
 use crate::messages::Message;
@@ -35,10 +36,11 @@ enum Earlier {
     Known,
 }
 
-/// A counter as the dispatcher sees it. What was submitted is what the counter's messages asked to post, in order, but
-/// for what was answered otherwise for the sake of its reference, and for the message that is handled next; and what
-/// its writer was handed of that are the answers that were collected, in order, each once. For each request that is
-/// submitted a place is kept for the response to it, so that a counter that reads nothing holds up nobody but itself.
+/// A counter as the dispatcher sees it. What was submitted is what the counter's messages asked to
+/// post, in order, but for what was answered otherwise for the sake of its reference, and for the
+/// message that is handled next; and what its writer was handed of that are the answers that were
+/// collected, in order, each once. For each request that is submitted a place is kept for the
+/// response to it, so that a counter that reads nothing holds up nobody but itself.
 #[derive(Drop)]
 pub(crate) struct Session {
     station: u8,
@@ -57,13 +59,15 @@ pub(crate) struct Session {
     is_asked: bool,
     search: Search,
     look: Look,
-    // Where the records in sight begin, in which a look saw nothing, and which goes on in the archive.
+    // Where the records in sight begin, in which a look saw nothing, and which goes on in the
+    // archive.
     out_of_sight: Option<u64>,
     recent: Recent,
     // Whether the counter was told that the office closes.
     is_told_closing: bool,
     ghost kept_places: { postings.unanswered ≤ known_free responses },
-    ghost said: { ∥ WereTakenUp (received messages) (sent responses) (entries_of postings.feed.asked) (pending next) ∥₁ },
+    ghost said: { ∥ WereTakenUp (received messages) (sent responses)
+        (entries_of postings.feed.asked) (pending next) ∥₁ },
     ghost told: { answers_among (sent responses) ≡ map response_of postings.feed.collected },
 }
 

@@ -22,7 +22,8 @@ pub struct OfficeStatus {
 }
 
 impl OfficeStatus {
-    /// Of an office whose ledger has this room, whose archive is so far, with so many turns taken and other clients.
+    /// Of an office whose ledger has this room, whose archive is so far, with so many turns taken
+    /// and other clients.
     pub(crate) fn new(room: Room, kept: ArchiveState, turns: u64, clients: u64) -> OfficeStatus
         ensures next { result.next ≡ room.next }
         ensures free { result.free ≡ room.free }

@@ -23,14 +23,16 @@ pub record IsSound (state : DeviceState) : Type 0 where
   -- losing nothing is one of the outcomes
   pub nothing_lost : state.may_leave state.reads
   -- a crash leaves as many sectors, each of 512 bytes
-  pub images : (image : Image) → state.may_leave image → IsImage image × (length image ≡ length state.reads)
+  pub images : (image : Image) → state.may_leave image
+      → IsImage image × (length image ≡ length state.reads)
   -- this moment is one of those since any earlier one
-  pub counts_now : (since : ℕ) (image : Image) → since ≤ state.moment → state.may_leave image → state.left_since since image
+  pub counts_now : (since : ℕ) (image : Image) → since ≤ state.moment → state.may_leave image
+      → state.left_since since image
   -- since this moment there is no other
   pub only_now : (image : Image) → state.left_since state.moment image → state.may_leave image
 
--- The count of failures tells of a fault, both ways: where fault holds the count rose, or stands at its greatest
--- value; where it doesn't, the count is as it was.
+-- The count of failures tells of a fault, both ways: where fault holds the count rose, or stands at
+-- its greatest value; where it doesn't, the count is as it was.
 pub record HasCause (before after : ℕ) (fault : Type 0) : Type 0 where
   pub rose : fault → (before < after) ⊎ (2 ^ 64 - 1 ≤ after)
   pub stayed : (fault → ⊥) → after ≡ before
@@ -53,16 +55,19 @@ not_called state fault none = record {
   cause = record { rose = λ fault. absurd (none fault); stayed = λ _. refl };
 }
 
-later_cause : (before mid after : ℕ) → mid ≤ after → (before < mid) ⊎ (2 ^ 64 - 1 ≤ mid) → (before < after) ⊎ (2 ^ 64 - 1 ≤ after)
+later_cause : (before mid after : ℕ) → mid ≤ after → (before < mid) ⊎ (2 ^ 64 - 1 ≤ mid)
+    → (before < after) ⊎ (2 ^ 64 - 1 ≤ after)
 later_cause before mid after le (inl rose) = inl (omega arith)
 later_cause before mid after le (inr last) = inr (omega arith)
 
-earlier_cause : (before mid after : ℕ) → before ≤ mid → (mid < after) ⊎ (2 ^ 64 - 1 ≤ after) → (before < after) ⊎ (2 ^ 64 - 1 ≤ after)
+earlier_cause : (before mid after : ℕ) → before ≤ mid → (mid < after) ⊎ (2 ^ 64 - 1 ≤ after)
+    → (before < after) ⊎ (2 ^ 64 - 1 ≤ after)
 earlier_cause before mid after le (inl rose) = inl (omega arith)
 earlier_cause before mid after le (inr last) = inr last
 
 -- Two runs of calls, one after the other: either of them tells of a fault.
-pub calls_joined : (old mid new : DeviceState) (first second either : Type 0) → (either → first ⊎ second) → (first ⊎ second → either)
+pub calls_joined : (old mid new : DeviceState) (first second either : Type 0)
+    → (either → first ⊎ second) → (first ⊎ second → either)
     → AreCalls old mid first → AreCalls mid new second → AreCalls old new either
 calls_joined old mid new first second either which told before after = record {
   sectors = after.sectors ∙ before.sectors;
@@ -74,7 +79,8 @@ calls_joined old mid new first second either which told before after = record {
         (λ one. later_cause old.faults mid.faults new.faults after.faults (before.cause.rose one))
         (λ two. earlier_cause old.faults mid.faults new.faults before.faults (after.cause.rose two))
         (which fault);
-    stayed = λ none. after.cause.stayed (λ two. none (told (inr two))) ∙ before.cause.stayed (λ one. none (told (inl one)));
+    stayed = λ none. after.cause.stayed (λ two. none (told (inr two)))
+        ∙ before.cause.stayed (λ one. none (told (inl one)));
   };
 }
 

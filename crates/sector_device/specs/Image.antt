@@ -24,12 +24,15 @@ pub record IsImage (image : Image) : Type 0 where
 abbrev pub with_sector : Image → ℕ → List ℕ → Image
 with_sector image at bytes = slice_set image at bytes
 
--- the two images have as many sectors, and differ at most in that one, where the new one has some 512 bytes
+-- the two images have as many sectors, and differ at most in that one, where the new one has some
+-- 512 bytes
 pub record DiffersAt (at : ℕ) (old new : Image) : Type 0 where
   pub bytes : List ℕ
   pub sector : IsSector bytes
   pub is : new ≡ with_sector old at bytes
 
 -- an image differs nowhere from itself
-pub differs_nowhere : (at : ℕ) (image : Image) → IsImage image → at < length image → DiffersAt at image image
-differs_nowhere at image is lt = record { bytes = sector_at image at; sector = is.each at lt; is = sym (set-get_or image at []) }
+pub differs_nowhere : (at : ℕ) (image : Image) → IsImage image → at < length image
+    → DiffersAt at image image
+differs_nowhere at image is lt =
+    record { bytes = sector_at image at; sector = is.each at lt; is = sym (set-get_or image at []) }

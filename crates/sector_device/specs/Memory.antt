@@ -1,5 +1,5 @@
--- What a crash may leave of a device in memory, told from what reads give now and from its record of writes and
--- syncs, the newest first. Each write in it has the bytes that stood there before.
+-- What a crash may leave of a device in memory, told from what reads give now and from its record
+-- of writes and syncs, the newest first. Each write in it has the bytes that stood there before.
 use Rattle.std.specs.Prelude.{◌≡◌, ◌⊎◌, ◌≤◌, ℕ, List, [], ◌∷◌, length}
 use Rattle.sector_device.specs.Image.{Image, IsImage, sector_at, with_sector}
 use Rattle.sector_device.specs.declared.memory.Call.{Call}
@@ -25,4 +25,6 @@ undone (Wrote place before) reads = with_sector reads place before.value
 -- What a crash might have left at some moment when at least so many of the calls had been made.
 abbrev pub LeftSince : Image → List Call → ℕ → Image → Type 0
 LeftSince reads [] since image = MayLeave reads [] image
-LeftSince reads (call ∷ calls) since image = MayLeave reads (call ∷ calls) image ⊎ ((since ≤ length calls) × LeftSince (undone call reads) calls since image)
+LeftSince reads (call ∷ calls) since image =
+    MayLeave reads (call ∷ calls) image
+    ⊎ ((since ≤ length calls) × LeftSince (undone call reads) calls since image)

@@ -23,7 +23,8 @@ memory_state reads calls moment faults = record {
 }
 
 abbrev pub memory_device_state : MemoryDevice → DeviceState
-memory_device_state device = memory_state device.sectors.items (calls_of device) (length device.calls.items) device.faults
+memory_device_state device =
+    memory_state device.sectors.items (calls_of device) (length device.calls.items) device.faults
 
 -- A write to the sector answered Ok since the last sync that answered Ok.
 abbrev pub IsPendingIn : MemoryDevice → ℕ → Type 0
@@ -35,4 +36,5 @@ KeepsPending old new = (sector : ℕ) → IsPendingIn new sector ↔ IsPendingIn
 
 -- after a power loss with these picks reads give this image
 abbrev pub HasPicks : MemoryDevice → List (ℕ × List ℕ) → Image → Type 0
-HasPicks device picks image = TakesPicks (memory_device_state device).reads picks (IsPendingIn device) image
+HasPicks device picks image =
+    TakesPicks (memory_device_state device).reads picks (IsPendingIn device) image

@@ -18,7 +18,8 @@ with_failures state failures = record {
 }
 
 -- failures are nothing that a crash depends on
-pub sound_with_failures : (state : DeviceState) (failures : ℕ) → IsSound state → IsSound (with_failures state failures)
+pub sound_with_failures : (state : DeviceState) (failures : ℕ) → IsSound state
+    → IsSound (with_failures state failures)
 sound_with_failures state failures sound = record {
   nothing_lost = sound.nothing_lost;
   images = sound.images;

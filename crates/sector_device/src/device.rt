@@ -21,12 +21,14 @@ pub type Sector = [u8; SECTOR];
 #[error("the device failed")]
 pub struct DeviceFault;
 
-/// A row of sectors of 512 bytes, numbered from 0, which are read, written and synced by whole sectors.
+/// A row of sectors of 512 bytes, numbered from 0, which are read, written and synced by whole
+/// sectors.
 ///
-/// A sector is pending from the start of a write to it until the next sync that succeeds. A crash leaves in each
-/// pending sector any 512 bytes, independently, and in every other sector what a read gives. These are upper
-/// bounds: a device that loses less keeps them. All of it is promised of an honest device; that calls keep
-/// honesty both ways, the number of sectors and the cause of a fault are promised of every device.
+/// A sector is pending from the start of a write to it until the next sync that succeeds. A crash
+/// leaves in each pending sector any 512 bytes, independently, and in every other sector what a
+/// read gives. These are upper bounds: a device that loses less keeps them. All of it is promised
+/// of an honest device; that calls keep honesty both ways, the number of sectors and the cause of a
+/// fault are promised of every device.
 pub trait Device {
     ghost state: { Self → DeviceState };
 
@@ -42,7 +44,8 @@ pub trait Device {
         ensures bytes { (state self.old).honest
             → OnOk result (into.new ≡ sector_at (state self.old).reads at) };
 
-    /// Writes a sector. After a fault it reads as some 512 bytes, the same ones until it is written again.
+    /// Writes a sector. After a fault it reads as some 512 bytes, the same ones until it is written
+    /// again.
     fn write(&mut self, at: u64, from: &Sector) -> Result<(), DeviceFault>
         requires { at < length (state self.old).reads }
         ensures call { AreCalls (state self.old) (state self.new) (IsErr result) }

@@ -1,4 +1,5 @@
-ghost use Rattle.std.specs.Prelude.{◌≡◌, ◌⊎◌, ◌<◌, ◌≤◌, ◌↔◌, [], ◌∷◌, ℕ, replicate, reverse, length, IsTrue, IsOk, IsErr, IfOk, OnOk, OnErr};
+ghost use Rattle.std.specs.Prelude.{◌≡◌, ◌⊎◌, ◌<◌, ◌≤◌, ◌↔◌, [], ◌∷◌, ℕ, replicate, reverse};
+ghost use Rattle.std.specs.Prelude.{length, IsTrue, IsOk, IsErr, IfOk, OnOk, OnErr};
 ghost use Rattle.sector_device.specs.Image.{IsImage, sector_at, with_sector};
 ghost use Rattle.sector_device.specs.Device.{HasCause, AreCalls};
 ghost use Rattle.sector_device.specs.Crash.{IsLook, IsWrite, IsDurable};
@@ -26,8 +27,8 @@ impl fmt::Debug for Call {
     }
 }
 
-/// What a power loss is to leave in sectors that are pending: sector numbers with their bytes. The last pick for a
-/// sector counts, and picks for sectors that aren't pending are ignored.
+/// What a power loss is to leave in sectors that are pending: sector numbers with their bytes. The
+/// last pick for a sector counts, and picks for sectors that aren't pending are ignored.
 #[derive(Debug, Drop)]
 pub struct Picks {
     /// The number of a sector, counted from 0, and the bytes that it is to have.
@@ -36,9 +37,9 @@ pub struct Picks {
 
 /// A device in memory, which is honest: it keeps every fact of `Device`.
 ///
-/// It remembers each write and sync that answered `Ok`, in a few bytes each, as the loss model has to see what a crash
-/// at an earlier moment might have left. Its reads never fail. A write or a sync fails only if that record can't
-/// grow, and then changes no byte and no pending sector.
+/// It remembers each write and sync that answered `Ok`, in a few bytes each, as the loss model has
+/// to see what a crash at an earlier moment might have left. Its reads never fail. A write or a
+/// sync fails only if that record can't grow, and then changes no byte and no pending sector.
 #[derive(Debug, Drop)]
 pub struct MemoryDevice {
     sectors: Vec<Sector>,
@@ -48,7 +49,8 @@ pub struct MemoryDevice {
 }
 
 impl MemoryDevice {
-    ghost use Rattle.sector_device.specs.MemoryDevice.{memory_device_state, calls_of, IsPendingIn, HasPicks};
+    ghost use Rattle.sector_device.specs.MemoryDevice.{memory_device_state, calls_of, IsPendingIn};
+    ghost use Rattle.sector_device.specs.MemoryDevice.{HasPicks};
 
     /// A device of so many sectors, all zero, with nothing pending.
     ///
@@ -100,8 +102,8 @@ impl MemoryDevice {
         Ok(())
     }
 
-    /// Loses power. A pending sector takes the bytes of its last pick, or without one keeps what reads give. Afterwards
-    /// nothing is pending.
+    /// Loses power. A pending sector takes the bytes of its last pick, or without one keeps what
+    /// reads give. Afterwards nothing is pending.
     pub fn crash(mut self, picks: &Picks) -> MemoryDevice
         ensures picked { HasPicks self picks.now.list.items (memory_device_state result).reads }
         ensures lawful { (memory_device_state self).may_leave (memory_device_state result).reads }
@@ -140,7 +142,8 @@ impl MemoryDevice {
 }
 
 impl Device for MemoryDevice {
-    ghost use Rattle.sector_device.specs.MemoryDevice.{memory_device_state, IsPendingIn, KeepsPending};
+    ghost use Rattle.sector_device.specs.MemoryDevice.{memory_device_state, IsPendingIn};
+    ghost use Rattle.sector_device.specs.MemoryDevice.{KeepsPending};
     ghost use Rattle.sector_device.specs.MemoryLaws.{memory_sound};
 
     ghost state = { memory_device_state };

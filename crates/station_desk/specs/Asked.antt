@@ -9,10 +9,14 @@ use Rattle.station_desk.specs.declared.errand.Question.TheVariants as question
 use Rattle.station_desk.specs.declared.errand.Report.{Report}
 use Rattle.station_desk.specs.declared.errand.Report.TheVariants as report
 
--- An office that was opened on that device with that line was asked this by a seat, and what is reported is its answer,
--- as the seat notes it.
-abbrev pub IsReportOn : {D : Type 0} → (D → DeviceState) → DeviceState → Configuration → SeatState → SeatState → Question → Report → Type 0
-IsReportOn state device from old new (question.Balance account) (report.Balance answer) = WasToldBalance state device from old new account answer
-IsReportOn state device from old new (question.Search sought first end) (report.Searched answer) = WasSearched state device from old new sought first end answer
-IsReportOn state device from old new question.Room (report.Room room) = WasToldRoom state device from room × (new ≡ old)
+-- An office that was opened on that device with that line was asked this by a seat, and what is
+-- reported is its answer, as the seat notes it.
+abbrev pub IsReportOn : {D : Type 0} → (D → DeviceState) → DeviceState → Configuration → SeatState
+    → SeatState → Question → Report → Type 0
+IsReportOn state device from old new (question.Balance account) (report.Balance answer) =
+    WasToldBalance state device from old new account answer
+IsReportOn state device from old new (question.Search sought first end) (report.Searched answer) =
+    WasSearched state device from old new sought first end answer
+IsReportOn state device from old new question.Room (report.Room room) =
+    WasToldRoom state device from room × (new ≡ old)
 IsReportOn state device from old new _ _ = ⊥

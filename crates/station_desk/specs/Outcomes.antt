@@ -6,8 +6,9 @@ use Rattle.station_desk.specs.declared.messages.Ask.{Ask}
 use Rattle.station_desk.specs.declared.messages.Outcome.{Outcome}
 use Rattle.station_desk.specs.declared.messages.Outcome.TheVariants.{Posted, Refused, Undecided}
 
--- What became of an entry with this verdict in a turn that posted under this number: a refused one is told its refusal,
--- an accepted one the number. A turn that accepts an entry has a number, by its type; so the last case never comes.
+-- What became of an entry with this verdict in a turn that posted under this number: a refused one
+-- is told its refusal, an accepted one the number. A turn that accepts an entry has a number, by
+-- its type; so the last case never comes.
 abbrev pub outcome_of : Option ℕ → Verdict → Outcome
 outcome_of posted (Err refusal) = Refused refusal
 outcome_of (Some number) (Ok unit) = Posted number

@@ -22,10 +22,12 @@ pub record Ring : Type 0 where
 module _ {T : Type 0} where
   -- the ring of an end that pushes, and of one that pops
   abbrev pub ring_pushed : Producer T Global AnyItems → Ring
-  ring_pushed p = record { words = p.end.words; slots = p.end.slots; names = p.end.names; heap = p.end.heap }
+  ring_pushed p =
+      record { words = p.end.words; slots = p.end.slots; names = p.end.names; heap = p.end.heap }
 
   abbrev pub ring_popped : Consumer T Global AnyItems → Ring
-  ring_popped c = record { words = c.end.words; slots = c.end.slots; names = c.end.names; heap = c.end.heap }
+  ring_popped c =
+      record { words = c.end.words; slots = c.end.slots; names = c.end.names; heap = c.end.heap }
 
 -- What a client's side is.
 pub record FeedState : Type 0 where
@@ -61,27 +63,30 @@ pub record DeskState : Type 0 where
 
 -- The feed stands at the same rings as before.
 abbrev pub StandsAt : FeedState → FeedState → Type 0
-StandsAt old new = (new.asks ≡ old.asks) × (new.answers ≡ old.answers) × (new.capacity ≡ old.capacity)
+StandsAt old new =
+    (new.asks ≡ old.asks) × (new.answers ≡ old.answers) × (new.capacity ≡ old.capacity)
 
 -- A feed and a desk at the two ends of the same two rings.
 pub record AreTogether (feed : FeedState) (desk : DeskState) : Type 0 where
   pub asks : feed.asks ≡ desk.asks
   pub answers : feed.answers ≡ desk.answers
 
--- What every feed keeps: its tickets count from 0, and the places of a ring that were never used are free.
+-- What every feed keeps: its tickets count from 0, and the places of a ring that were never used
+-- are free.
 pub record IsFeed (feed : FeedState) : Type 0 where
   pub numbered : AreNumberedFrom 0 feed.asked
   pub free : feed.capacity ≤ feed.free + length feed.asked
 
--- What every desk keeps: each request that it took has its answer, in order, or is held; it holds no more than a turn
--- takes, and no more than it can answer.
+-- What every desk keeps: each request that it took has its answer, in order, or is held; it holds
+-- no more than a turn takes, and no more than it can answer.
 pub record IsDesk (desk : DeskState) : Type 0 where
   pub taken : desk.taken ≡ asks_of desk.given ++ desk.held
   pub few : length desk.held ≤ BATCH_LIMIT
   pub answerable : length desk.held ≤ desk.free
 
--- What a gathering makes of a desk: requests were taken and are held behind those that were held before, and it
--- stopped where a turn takes no more, where no more could be answered, or where no other request was seen.
+-- What a gathering makes of a desk: requests were taken and are held behind those that were held
+-- before, and it stopped where a turn takes no more, where no more could be answered, or where no
+-- other request was seen.
 pub record HasGathered (old new : DeskState) : Type 0 where
   -- the requests that were taken
   pub more : List Ask
@@ -92,9 +97,11 @@ pub record HasGathered (old new : DeskState) : Type 0 where
   pub no_fewer_free : old.free ≤ new.free
   pub took_all : (length new.held ≡ BATCH_LIMIT) ⊎ (length new.held ≡ new.free) ⊎ (new.waiting ≡ [])
   -- all else stays
-  pub same : new ≡ record old { taken = new.taken; held = new.held; free = new.free; waiting = new.waiting }
+  pub same : new ≡ record old
+      { taken = new.taken; held = new.held; free = new.free; waiting = new.waiting }
 
 -- There are as many feeds as before, in the same order, and each stands at the same rings.
 pub record AllStandAt (old new : List FeedState) : Type 0 where
   pub as_many : length new ≡ length old
-  pub each : (i : ℕ) (f : FeedState) → i < length old → StandsAt (slice_index_or old i f) (slice_index_or new i f)
+  pub each : (i : ℕ) (f : FeedState) → i < length old
+      → StandsAt (slice_index_or old i f) (slice_index_or new i f)

@@ -17,8 +17,9 @@ entries_of_turns turns = flat_map (λ (turn : Turn). turn.entries) turns
 abbrev pub outcomes_of_turns : List Turn → List Outcome
 outcomes_of_turns turns = flat_map outcomes_of turns
 
--- Behind its earlier answers the desk gave, in order, what became of the entries of these turns, and then of each of
--- the requests that were given up that it is undecided. It stands at the same rings.
+-- Behind its earlier answers the desk gave, in order, what became of the entries of these turns,
+-- and then of each of the requests that were given up that it is undecided. It stands at the same
+-- rings.
 pub record HasServed (old new : DeskState) (turns : List Turn) (given_up : List Ask) : Type 0 where
   -- the answers that it gave
   pub more : List Answer

@@ -6,8 +6,10 @@ use Rattle.rtrb.specs.declared.consumer.Consumer.{Consumer}
 use Rattle.rtrb.specs.declared.AnyItems.{AnyItems}
 use Rattle.station_desk.specs.declared.messages.Ask.{Ask}
 
--- What a taking of requests, until `room` of them are held, makes of their ring and of what is held.
-pub record HasTaken (old new : Consumer Ask Global AnyItems) (held_before held_after : List Ask) (room : ℕ) : Type 0 where
+-- What a taking of requests, until `room` of them are held, makes of their ring and of what is
+-- held.
+pub record HasTaken (old new : Consumer Ask Global AnyItems) (held_before held_after : List Ask)
+    (room : ℕ) : Type 0 where
   -- the requests that were taken
   pub more : List Ask
   pub ring : SameConsumer old new

@@ -7,11 +7,13 @@ use Rattle.station_desk.specs.Messages.{entries_of}
 use Rattle.station_desk.specs.Rings.{DeskState}
 use Rattle.station_desk.specs.Served.{HasServed}
 
--- Some turns were taken, each while the history had fewer than `moves`, and all are in the seat's list; each was
--- acknowledged, as is said; and then the desk answered, in order, what became of their entries. Where the device failed,
--- it answered all that it then held that it is undecided: that is what it asked that turn with, as the seat, which counts
--- the turn, notes; else it gave nothing up, and the device failed in none of its turns.
-pub record HasWorked (was_acknowledged : Turn → Type 0) (old new : SeatState) (before after : DeskState) (moves : ℕ) (failed : Type 0) : Type 0 where
+-- Some turns were taken, each while the history had fewer than `moves`, and all are in the seat's
+-- list; each was acknowledged, as is said; and then the desk answered, in order, what became of
+-- their entries. Where the device failed, it answered all that it then held that it is undecided:
+-- that is what it asked that turn with, as the seat, which counts the turn, notes; else it gave
+-- nothing up, and the device failed in none of its turns.
+pub record HasWorked (was_acknowledged : Turn → Type 0) (old new : SeatState)
+    (before after : DeskState) (moves : ℕ) (failed : Type 0) : Type 0 where
   pub turns : List Turn
   pub given_up : List Ask
   pub station : new.station ≡ old.station

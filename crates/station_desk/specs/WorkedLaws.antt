@@ -18,23 +18,30 @@ use Rattle.station_desk.specs.Served.{HasServed, entries_of_turns, outcomes_of_t
 use Rattle.station_desk.specs.ServedLaws.{entries_in-append, outcomes_in-append, served-nothing}
 use Rattle.station_desk.specs.Worked.{HasWorked}
 
-pub served-joined : (old mid new : DeskState) (turns more : List Turn) (given_up : List Ask) → HasServed old mid turns [] → HasServed mid new more given_up → HasServed old new (turns ++ more) given_up
+pub served-joined : (old mid new : DeskState) (turns more : List Turn) (given_up : List Ask)
+    → HasServed old mid turns [] → HasServed mid new more given_up
+    → HasServed old new (turns ++ more) given_up
 served-joined old mid new turns more given_up far next = record {
   more = far.more ++ next.more;
-  given = next.given ∙ ap (λ (answers : List Answer). answers ++ next.more) far.given ∙ append_assoc old.given far.more next.more;
+  given = next.given ∙ ap (λ (answers : List Answer). answers ++ next.more) far.given
+      ∙ append_assoc old.given far.more next.more;
   entries = entries_in-append far.more next.more
       ∙ (λ i. (far.entries ∙ append-nil (entries_of_turns turns)) i ++ next.entries i)
       ∙ sym (append_assoc (entries_of_turns turns) (entries_of_turns more) (entries_of given_up))
-      ∙ ap (λ (entries : List Entry). entries ++ entries_of given_up) (sym (flat_map-append (λ (turn : Turn). turn.entries) turns more));
+      ∙ ap (λ (entries : List Entry). entries ++ entries_of given_up)
+      (sym (flat_map-append (λ (turn : Turn). turn.entries) turns more));
   outcomes = outcomes_in-append far.more next.more
       ∙ (λ i. (far.outcomes ∙ append-nil (outcomes_of_turns turns)) i ++ next.outcomes i)
       ∙ sym (append_assoc (outcomes_of_turns turns) (outcomes_of_turns more) (undecided given_up))
-      ∙ ap (λ (outcomes : List Outcome). outcomes ++ undecided given_up) (sym (flat_map-append outcomes_of turns more));
+      ∙ ap (λ (outcomes : List Outcome). outcomes ++ undecided given_up)
+      (sym (flat_map-append outcomes_of turns more));
   asks = next.asks ∙ far.asks;
   answers = next.answers ∙ far.answers;
 }
 
-pub worked-nothing : {was_acknowledged : Turn → Type 0} (seat : SeatState) (desk : DeskState) (moves : ℕ) (failed : Type 0) → ¬ failed → HasWorked was_acknowledged seat seat desk desk moves failed
+pub worked-nothing : {was_acknowledged : Turn → Type 0} (seat : SeatState) (desk : DeskState)
+    (moves : ℕ) (failed : Type 0) → ¬ failed
+    → HasWorked was_acknowledged seat seat desk desk moves failed
 worked-nothing {was_acknowledged = was_acknowledged} seat desk moves failed not = record {
   turns = [];
   given_up = [];
@@ -52,20 +59,27 @@ worked-nothing {was_acknowledged = was_acknowledged} seat desk moves failed not 
 }
 
 -- work in which nothing failed, and more of it
-pub worked-joined : {was_acknowledged : Turn → Type 0} (old mid new : SeatState) (before between after : DeskState) (moves : ℕ) (failed : Type 0)
+pub worked-joined : {was_acknowledged : Turn → Type 0} (old mid new : SeatState)
+    (before between after : DeskState) (moves : ℕ) (failed : Type 0)
     → HasWorked was_acknowledged old mid before between moves ⊥
-    → HasWorked was_acknowledged mid new between after moves failed → HasWorked was_acknowledged old new before after moves failed
-worked-joined {was_acknowledged = was_acknowledged} old mid new before between after moves failed far next =
+    → HasWorked was_acknowledged mid new between after moves failed
+    → HasWorked was_acknowledged old new before after moves failed
+worked-joined {was_acknowledged = was_acknowledged} old mid new before between after moves failed
+    far next =
     let none : far.given_up ≡ [] = far.undecided (λ never. never) in
     record {
       turns = far.turns ++ next.turns;
       given_up = next.given_up;
       station = next.station ∙ far.station;
-      listed = next.listed ∙ ap (λ (turns : List Turn). turns ++ next.turns) far.listed ∙ append_assoc old.turns far.turns next.turns;
-      within = All-append (λ (turn : Turn). turn.index < moves) far.turns next.turns far.within next.within;
-      acknowledged = All-append was_acknowledged far.turns next.turns far.acknowledged next.acknowledged;
+      listed = next.listed ∙ ap (λ (turns : List Turn). turns ++ next.turns) far.listed
+          ∙ append_assoc old.turns far.turns next.turns;
+      within = All-append (λ (turn : Turn). turn.index < moves) far.turns next.turns far.within
+          next.within;
+      acknowledged = All-append was_acknowledged far.turns next.turns far.acknowledged
+          next.acknowledged;
       served = served-joined before between after far.turns next.turns next.given_up
-          (subst (λ (asks : List Ask). HasServed before between far.turns asks) none far.served) next.served;
+          (subst (λ (asks : List Ask). HasServed before between far.turns asks) none far.served)
+          next.served;
       undecided = next.undecided;
       nothing_held = next.nothing_held;
       counted = λ is. omega (arith, next.counted is, far.none_failed (λ never. never));
@@ -75,8 +89,11 @@ worked-joined {was_acknowledged = was_acknowledged} old mid new before between a
     }
 
 -- that something else failed, or that it is said in other words
-pub worked-where : {was_acknowledged : Turn → Type 0} (old new : SeatState) (before after : DeskState) (moves : ℕ) (failed other : Type 0) → (failed → other) → (other → failed)
-    → HasWorked was_acknowledged old new before after moves failed → HasWorked was_acknowledged old new before after moves other
+pub worked-where : {was_acknowledged : Turn → Type 0} (old new : SeatState)
+    (before after : DeskState) (moves : ℕ) (failed other : Type 0) → (failed → other)
+    → (other → failed)
+    → HasWorked was_acknowledged old new before after moves failed
+    → HasWorked was_acknowledged old new before after moves other
 worked-where old new before after moves failed other there back worked = record {
   turns = worked.turns;
   given_up = worked.given_up;
@@ -94,7 +111,8 @@ worked-where old new before after moves failed other there back worked = record 
 }
 
 -- a question behind the work
-pub worked-noted : {was_acknowledged : Turn → Type 0} (old mid new : SeatState) (before after : DeskState) (moves : ℕ) (failed : Type 0) → NotesAlone mid new
+pub worked-noted : {was_acknowledged : Turn → Type 0} (old mid new : SeatState)
+    (before after : DeskState) (moves : ℕ) (failed : Type 0) → NotesAlone mid new
     → HasWorked was_acknowledged old mid before after moves failed
     → HasWorked was_acknowledged old new before after moves failed
 worked-noted old mid new before after moves failed alone worked = record {

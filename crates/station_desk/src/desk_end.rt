@@ -71,8 +71,8 @@ impl Desk {
         }
     }
 
-    /// Takes requests until as many are held as a turn takes, or as there are free places for answers, or no other
-    /// request is there; and lends the entries of all that is held, in order.
+    /// Takes requests until as many are held as a turn takes, or as there are free places for
+    /// answers, or no other request is there; and lends the entries of all that is held, in order.
     pub fn gather(&mut self) -> &[Entry]
         ensures* gathered { sem 𝓛 (follows_so the_row the_row self.entry.ghost_name none (λ _ _. ⊤)
             (λ new. HasGathered self.old new × (result.now ≡ entries_of new.held))) }
@@ -89,8 +89,9 @@ impl Desk {
         take(&mut self.asks, &mut self.held, room);
     }
 
-    /// Answers each request that is held, in order, by a turn that took their entries: an accepted one is told the
-    /// number that the turn posted under, a refused one its refusal. Nothing is held afterwards.
+    /// Answers each request that is held, in order, by a turn that took their entries: an accepted
+    /// one is told the number that the turn posted under, a refused one its refusal. Nothing is
+    /// held afterwards.
     pub fn settle(&mut self, turn: &Turn)
         requires { turn.now.entries ≡ entries_of self.old.held }
         ensures answered { self.new ≡ record self.old {
@@ -104,7 +105,8 @@ impl Desk {
         self.held.clear();
     }
 
-    /// Answers each request that is held, in order, that it is undecided. Nothing is held afterwards.
+    /// Answers each request that is held, in order, that it is undecided. Nothing is held
+    /// afterwards.
     pub fn give_up(&mut self)
         ensures { self.new ≡ record self.old {
           given = self.old.given ++ answers_to self.old.held (undecided self.old.held);
@@ -116,8 +118,8 @@ impl Desk {
         self.held.clear();
     }
 
-    /// What every desk keeps: each request that it took has its answer, in order, or is held; it holds no more than a
-    /// turn takes, and no more than it can answer.
+    /// What every desk keeps: each request that it took has its answer, in order, or is held; it
+    /// holds no more than a turn takes, and no more than it can answer.
     pub fn answered_or_held(&self)
         ensures { IsDesk self.now }
     {

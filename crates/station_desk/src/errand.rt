@@ -5,7 +5,7 @@ ghost use Rattle.station_desk.specs.Asked.{IsReportOn};
 use line_lock::{BalanceRefusal, Count, Office, OpenedOn, Room, Seat};
 use sector_device::Device;
 use std::sync::Wait;
-use turn_clerk::{FindRefusal, SearchStep, Sought};
+use turn_clerk::{FindRefusal, SearchStep, SearchTarget};
 
 /// What a station does next.
 #[derive(Clone, Copy, Debug, PartialEq, Eq)]
@@ -26,7 +26,7 @@ pub enum Question {
     /// What a step of a search finds, from the record of a number on, and before another.
     Search {
         /// What is looked for.
-        sought: Sought,
+        sought: SearchTarget,
         /// The number of the first record that is looked at.
         from: u64,
         /// The number behind the last one.

@@ -1,5 +1,6 @@
 //! A client's side of the rings.
-ghost use Rattle.std.specs.Prelude.{◌≡◌, ◌⊎◌, ◌+◌, ◌<◌, ◌≤◌, [], ◌∷◌, ◌++◌, length, IfOk, IfErr, IfSome, IsOk, IsErr, IsSome, IsNone, OnOk};
+ghost use Rattle.std.specs.Prelude.{◌≡◌, ◌⊎◌, ◌+◌, ◌<◌, ◌≤◌, [], ◌∷◌, ◌++◌, length, IfOk, IfErr};
+ghost use Rattle.std.specs.Prelude.{IfSome, IsOk, IsErr, IsSome, IsNone, OnOk};
 ghost use mathlib.Core.List.{IsPrefix};
 ghost use Rattle.rtrb.specs.Ring.{sent, received, known_free, known_items, producer_capacity};
 ghost use Rattle.station_desk.specs.Rings.{IsFeed, StandsAt, ring_pushed, ring_popped};
@@ -63,8 +64,8 @@ impl Feed {
     /// Submits an entry, and answers its ticket: how many requests were submitted before it.
     ///
     /// # Errors
-    /// The entry comes back if the ring of requests is full, or the tickets are used up: the last one is
-    /// `u64::MAX` - 1. Nothing has changed then.
+    /// The entry comes back if the ring of requests is full, or the tickets are used up: the last
+    /// one is `u64::MAX` - 1. Nothing has changed then.
     pub fn submit(&mut self, entry: Entry) -> Result<u64, Entry>
         ensures rings { StandsAt self.old self.new }
         ensures ticket { IfOk result (λ ticket. ticket ≡ length self.old.asked) }
@@ -107,7 +108,8 @@ impl Feed {
         self.answers.pop().ok()
     }
 
-    /// What every feed keeps: tickets count from 0, and the places of its ring that were never used are free.
+    /// What every feed keeps: tickets count from 0, and the places of its ring that were never used
+    /// are free.
     pub fn tickets_in_order(&self)
         ensures { IsFeed self.now }
     {

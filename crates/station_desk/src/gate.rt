@@ -5,17 +5,17 @@ use crate::errand::{Errand, Report};
 use std::sync::Wait;
 use turn_clerk::Turn;
 
-/// Who stands beside each station, in its thread: it says what the station does next, and is told how far the station
-/// is; no sector, as the gates of a journal are. Nothing is claimed of what it does; a station goes on when a call
-/// returns.
+/// Who stands beside each station, in its thread: it says what the station does next, and is told
+/// how far the station is; no sector, as the gates of a journal are. Nothing is claimed of what it
+/// does; a station goes on when a call returns.
 pub trait Gate {
     ghost use Rattle.station_desk.specs.declared.errand.Errand.TheVariants.{Close};
 
     /// Whether it may send a station home before all turns are taken.
     ghost closes: { Self → Type 0 } = { λ _. Unit {0} };
 
-    /// What the station does next. It may wait, until something is to be done. Without a body of its own a station asks
-    /// for its turn.
+    /// What the station does next. It may wait, until something is to be done. Without a body of
+    /// its own a station asks for its turn.
     fn errand<R: Wait>(&self, _rt: &R, _station: u8) -> Errand
         ensures close { result ≡ Close → closes self.now }
     {

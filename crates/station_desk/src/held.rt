@@ -7,7 +7,8 @@ use std::alloc::{AllocError, Global};
 use std::marker::Model;
 use turn_ledger::{BATCH_LIMIT, Entry};
 
-/// At most [`BATCH_LIMIT`] requests in order, and their entries once more, side by side: a turn takes them as a slice.
+/// At most [`BATCH_LIMIT`] requests in order, and their entries once more, side by side: a turn
+/// takes them as a slice.
 #[derive(Drop)]
 pub(crate) struct HeldAsks {
     asks: Vec<Ask>,

@@ -1,10 +1,12 @@
-//! The two rings between a client and its station: requests go one way and answers come back, in order, and neither
-//! side waits for the other.
+//! The two rings between a client and its station: requests go one way and answers come back, in
+//! order, and neither side waits for the other.
 //!
-//! A client has a [`Feed`]: it submits entries, each under a ticket, and collects the answers. A station has a
-//! [`Desk`]: it gathers requests, takes a turn with their entries, and answers each of them, once.
+//! A client has a [`Feed`]: it submits entries, each under a ticket, and collects the answers. A
+//! station has a [`Desk`]: it gathers requests, takes a turn with their entries, and answers each
+//! of them, once.
 //!
-//! The test `a_turn_answers_what_was_gathered` in `src/desks.rt` of the crate `test_examples` is an example.
+//! The test `a_turn_answers_what_was_gathered` in `src/desks.rt` of the crate `test_examples` is an
+//! example.
 #![tactic(auto)]
 
 mod desk_end;
@@ -26,8 +28,8 @@ pub use errand::{Errand, Question, Report};
 pub use feed::Feed;
 pub use gate::Gate;
 pub use line_lock::{
-    BalanceRefusal, Count, FindRefusal, Office, OpenedOn, Posting, Reached, Room, SearchStep, Seat,
-    Sought,
+    BalanceRefusal, Count, FindRefusal, Office, OpenedOn, Posting, Reached, Room, SearchStep,
+    SearchTarget, Seat,
 };
 pub use messages::{Answer, Ask, Outcome};
 pub use reconciling::{Reconciled, reconcile};

@@ -1,5 +1,6 @@
 //! What became of every request, once a feed and its desk are back in one hand.
-ghost use Rattle.std.specs.Prelude.{◌≡◌, ◌+◌, ◌≤◌, ◌<◌, ◌^◌, [], ◌++◌, length, take, vec_len, vec_capacity, IfOk, IfErr};
+ghost use Rattle.std.specs.Prelude.{◌≡◌, ◌+◌, ◌≤◌, ◌<◌, ◌^◌, [], ◌++◌, length, take, vec_len};
+ghost use Rattle.std.specs.Prelude.{vec_capacity, IfOk, IfErr};
 ghost use Rattle.rtrb.specs.Ring.{known_items};
 ghost use Rattle.station_desk.specs.Messages.{asks_of, AreNumberedFrom};
 ghost use Rattle.station_desk.specs.Rings.{AreTogether};
@@ -20,14 +21,16 @@ pub struct Reconciled {
     pub collected: u64,
     /// The answers that were given and not collected, in order.
     pub answers: Vec<Answer>,
-    /// The requests without an answer, in order: those that the desk held, and then those in the ring.
+    /// The requests without an answer, in order: those that the desk held, and then those in the
+    /// ring.
     pub unanswered: Vec<Ask>,
 }
 
 /// Accounts for every request of a feed, with the desk that was made with it.
 ///
-/// What was submitted is, in order, the requests of the collected answers, those of `answers`, and `unanswered`. The
-/// collected answers are the first of those that were given, and `answers` are the others.
+/// What was submitted is, in order, the requests of the collected answers, those of `answers`, and
+/// `unanswered`. The collected answers are the first of those that were given, and `answers` are
+/// the others.
 ///
 /// # Errors
 /// Out of memory, both come back unchanged.

@@ -8,8 +8,8 @@ use crate::held::HeldAsks;
 use rtrb::RingBuffer;
 use std::alloc::{AllocError, Global};
 
-/// A feed and its desk, with a ring of requests and a ring of answers between them, each with room for 1 to 4,096
-/// messages.
+/// A feed and its desk, with a ring of requests and a ring of answers between them, each with room
+/// for 1 to 4,096 messages.
 ///
 /// # Errors
 /// Out of memory.

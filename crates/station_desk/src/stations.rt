@@ -1,5 +1,6 @@
 //! Stations that take turns, each in a thread of its own.
-ghost use Rattle.std.specs.Prelude.{◌≡◌, ◌≢◌, ◌+◌, ◌<◌, ◌≤◌, ◌↔◌, ◌∷◌, ◌++◌, [], List, length, OnOk, OnErr, IsSomeAnd, Err, Some, None};
+ghost use Rattle.std.specs.Prelude.{◌≡◌, ◌≢◌, ◌+◌, ◌<◌, ◌≤◌, ◌↔◌, ◌∷◌, ◌++◌, [], List, length};
+ghost use Rattle.std.specs.Prelude.{OnOk, OnErr, IsSomeAnd, Err, Some, None};
 ghost use Rattle.turn_clerk.specs.declared.refusals.TurnRefusal.{TurnRefusal};
 ghost use Rattle.turn_clerk.specs.declared.turns.Turn.{Turn};
 ghost use Rattle.line_lock.specs.Seat.{WasAcknowledged, IsDeniedAfter};
@@ -39,7 +40,8 @@ fn round<D: Device, L: Count + OpenedOn, G: Gate, R: Wait>(
     moves: u64,
 ) -> Result<(), WithinRefusal>
     ensures worked { HasWorked (WasAcknowledged D.state L.device L.line)
-        seat.old seat.new desk.old desk.new moves (result ≡ Err (WithinRefusal.Turn TurnRefusal.Device)) }
+        seat.old seat.new desk.old desk.new moves
+        (result ≡ Err (WithinRefusal.Turn TurnRefusal.Device)) }
     ensures one_turn { OnOk result (length seat.new.turns ≡ length seat.old.turns + 1) }
     ensures no_turn { OnErr result (seat.new.turns ≡ seat.old.turns) }
     ensures reached { result ≡ Err WithinRefusal.Reached → moves ≤ seat.new.reached }
@@ -172,12 +174,14 @@ fn run_station<D: Device, L: Count + OpenedOn, G: Gate, R: Wait>(
     gate.ended(seat.station());
 }
 
-/// Runs the stations of an office, one thread for each, until the history holds so many turns. A station repeats what
-/// the gate tells it: it gathers, asks for its turn within `moves`, and answers; or it is sent home. Where it isn't its
-/// turn it lets other threads go on and asks again, at most `tries` times in a row. Where the device fails it answers
-/// what it holds that it is undecided; after any other refusal what it holds stays held, for it was never written. A
-/// station that ends otherwise than as [`End::Reached`] or [`End::Closed`] makes the others end as [`End::Stopped`] at
-/// their next round. Where the system refuses a thread, stations run one after another. The call may wait.
+/// Runs the stations of an office, one thread for each, until the history holds so many turns. A
+/// station repeats what the gate tells it: it gathers, asks for its turn within `moves`, and
+/// answers; or it is sent home. Where it isn't its turn it lets other threads go on and asks again,
+/// at most `tries` times in a row. Where the device fails it answers what it holds that it is
+/// undecided; after any other refusal what it holds stays held, for it was never written. A station
+/// that ends otherwise than as [`End::Reached`] or [`End::Closed`] makes the others end as
+/// [`End::Stopped`] at their next round. Where the system refuses a thread, stations run one after
+/// another. The call may wait.
 pub fn run_stations<
     D: Device + Send,
     L: Count + OpenedOn + Send + Sync,

@@ -1,5 +1,6 @@
 -- Every run that is long enough contains a legitimate configuration.
-use Rattle.std.proofs.Common.{◌≡◌, ℕ, zero, suc, ◌+◌, ◌-◌, ◌*◌, ◌^◌, ◌≤◌, ◌⊎◌, List, [], ◌∷◌, length, take, refl, ap, ◌∙◌, subst, arith, inl, inr}
+use Rattle.std.proofs.Common.{◌≡◌, ℕ, zero, suc, ◌+◌, ◌-◌, ◌*◌, ◌^◌, ◌≤◌, ◌⊎◌, List, [], ◌∷◌}
+use Rattle.std.proofs.Common.{length, take, refl, ap, ◌∙◌, subst, arith, inl, inr}
 use Rattle.std.proofs.Math.Nat.{pow-suc, pow-zero}
 use Rattle.std.proofs.lemmas.Bool.{cases_eq}
 use Rattle.std.proofs.lemmas.List.{take-take, length-take-le}
@@ -9,7 +10,8 @@ use Rattle.four_state.specs.Privilege.{IsPrivilege, IsLegitimate, privileges_of}
 use Rattle.four_state.specs.MotionLaws.{IsConfiguration-moved}
 use Rattle.four_state.specs.PrivilegeLaws.{length-privileges_of, one-le-privileges}
 use Rattle.sweep_auditor.specs.Run.{next, after, configuration_at, IsRun}
-use Rattle.sweep_auditor.specs.Stabilization.{ReachesLegitimate, Stabilizes, StabilizesFromAny, StabilizesInCube}
+use Rattle.sweep_auditor.specs.Stabilization.{ReachesLegitimate, Stabilizes, StabilizesFromAny}
+use Rattle.sweep_auditor.specs.Stabilization.{StabilizesInCube}
 use Rattle.sweep_auditor.specs.declared.moves.Move.{Move}
 use Rattle.sweep_auditor.specs.RunLaws.{IsConfiguration-after, IsRun-take}
 use Rattle.sweep_auditor.proofs.Rows.{cell_at, cells_of, count, count-cells_from}
@@ -18,7 +20,8 @@ use Rattle.sweep_auditor.proofs.Falls.{Change-falls}
 use Rattle.sweep_auditor.proofs.Local.{Change-moved}
 
 -- as many privileges are present as there are marks in the row
-pub counted : (c : Configuration) → IsConfiguration c → count (cells_of c) ≡ length (privileges_of c)
+pub counted : (c : Configuration) → IsConfiguration c
+    → count (cells_of c) ≡ length (privileges_of c)
 counted c h =
     let marks = count-cells_from c (stations c - 1) 0 in
     let privileges = length-privileges_of c h in
@@ -29,13 +32,16 @@ abbrev pub IsCrowded : Configuration → Type 0
 IsCrowded c = 2 ≤ length (privileges_of c)
 
 -- one move that leaves two privileges or more
-one_falls : (c : Configuration) (m : Move) → IsConfiguration c → IsPrivilege c m.station m.rule → IsCrowded (next c m) → energy (cells_of (next c m)) + 1 ≤ energy (cells_of c)
+one_falls : (c : Configuration) (m : Move) → IsConfiguration c → IsPrivilege c m.station m.rule
+    → IsCrowded (next c m) → energy (cells_of (next c m)) + 1 ≤ energy (cells_of c)
 one_falls c m h p crowded =
     let marks = counted (next c m) (IsConfiguration-moved c m.station m.rule h p) in
-    Change-falls m.station (cells_of c) (cells_of (next c m)) (Change-moved c m.station m.rule h p) (omega arith)
+    Change-falls m.station (cells_of c) (cells_of (next c m)) (Change-moved c m.station m.rule h p)
+    (omega arith)
 
 -- a run that leaves two privileges or more each time
-run_falls : (moves : List Move) (c : Configuration) → IsConfiguration c → IsRun c moves → ((k : ℕ) → k ≤ length moves → IsCrowded (configuration_at c moves k))
+run_falls : (moves : List Move) (c : Configuration) → IsConfiguration c → IsRun c moves
+    → ((k : ℕ) → k ≤ length moves → IsCrowded (configuration_at c moves k))
     → energy (cells_of (after c moves)) + length moves ≤ energy (cells_of c)
 run_falls [] c h run crowded = omega arith
 run_falls (m ∷ moves) c h run crowded =
@@ -46,25 +52,37 @@ run_falls (m ∷ moves) c h run crowded =
     omega arith
 
 -- each configuration of a run has a privilege, so it is legitimate or crowded
-legitimate_or_crowded : (c : Configuration) (moves : List Move) (k : ℕ) → IsConfiguration c → IsRun c moves → IsLegitimate (configuration_at c moves k) ⊎ IsCrowded (configuration_at c moves k)
+legitimate_or_crowded : (c : Configuration) (moves : List Move) (k : ℕ) → IsConfiguration c
+    → IsRun c moves
+    → IsLegitimate (configuration_at c moves k) ⊎ IsCrowded (configuration_at c moves k)
 legitimate_or_crowded c moves k h run =
-    let some = one-le-privileges (configuration_at c moves k) (IsConfiguration-after (take k moves) c h (IsRun-take k moves c run)) in
+    let some = one-le-privileges (configuration_at c moves k)
+    (IsConfiguration-after (take k moves) c h (IsRun-take k moves c run)) in
     elim (cases_eq (length (privileges_of (configuration_at c moves k))) 1) [
       | inl is ↦ inl is
       | inr is_not ↦ inr (omega arith)
     ]
 
 -- up to number m, one configuration is legitimate or all are crowded
-found_or_crowded : (c : Configuration) (moves : List Move) (m : ℕ) → IsConfiguration c → IsRun c moves → ReachesLegitimate c moves m ⊎ ((k : ℕ) → k ≤ m → IsCrowded (configuration_at c moves k))
+found_or_crowded : (c : Configuration) (moves : List Move) (m : ℕ) → IsConfiguration c
+    → IsRun c moves
+    → ReachesLegitimate c moves m ⊎ ((k : ℕ) → k ≤ m → IsCrowded (configuration_at c moves k))
 found_or_crowded c moves zero h run =
     elim (legitimate_or_crowded c moves 0 h run) [
       | inl is ↦ inl (record { number = 0; within = omega arith; legitimate = is })
-      | inr crowded ↦ inr (λ k l. let e : 0 ≡ k = omega arith in subst (λ i. IsCrowded (configuration_at c moves i)) e crowded)
+      | inr crowded ↦
+          inr (λ k l. let e : 0 ≡ k = omega arith in
+          subst (λ i. IsCrowded (configuration_at c moves i)) e crowded)
     ]
 found_or_crowded c moves (suc m) h run =
     elim (found_or_crowded c moves m h run) [
       | inl found ↦
-          let within = found.within in inl (record { number = found.number; within = omega arith; legitimate = found.legitimate })
+          let within = found.within in
+          inl (record {
+            number = found.number;
+            within = omega arith;
+            legitimate = found.legitimate;
+          })
       | inr all ↦
           elim (legitimate_or_crowded c moves (suc m) h run) [
             | inl is ↦ inl (record { number = suc m; within = omega arith; legitimate = is })
@@ -88,7 +106,8 @@ bound_is n k j e l =
     rw (less, twice) (omega arith)
 
 -- So the energy of a configuration is at most one more than its bound.
-energy_within : (c : Configuration) → IsConfiguration c → let n = stations c - 1 in let k = length (privileges_of c) in 2 ≤ k → energy (cells_of c) ≤ (k - 1) * (2 * n - k) + 2
+energy_within : (c : Configuration) → IsConfiguration c → let n = stations c - 1 in
+    let k = length (privileges_of c) in 2 ≤ k → energy (cells_of c) ≤ (k - 1) * (2 * n - k) + 2
 energy_within c h two =
     let n = stations c - 1 in
     let k = length (privileges_of c) in
@@ -100,8 +119,11 @@ energy_within c h two =
     omega arith
 
 -- no run has so many moves and a crowd each time
-pub crowded_ends : (c : Configuration) (moves : List Move) (m : ℕ) → IsConfiguration c → IsRun c moves
-    → let n = stations c - 1 in let k = length (privileges_of c) in m ≡ (k - 1) * (2 * n - k) + 1 → m ≤ length moves → ((i : ℕ) → i ≤ m → IsCrowded (configuration_at c moves i)) → ⊥
+pub crowded_ends : (c : Configuration) (moves : List Move) (m : ℕ) → IsConfiguration c
+    → IsRun c moves
+    → let n = stations c - 1 in let k = length (privileges_of c) in
+    m ≡ (k - 1) * (2 * n - k) + 1 → m ≤ length moves
+    → ((i : ℕ) → i ≤ m → IsCrowded (configuration_at c moves i)) → ⊥
 crowded_ends c moves m h run bound long crowded =
     let front = take m moves in
     let front_long : length front ≡ m = length-take-le m moves long in
@@ -116,14 +138,16 @@ crowded_ends c moves m h run bound long crowded =
     let most = energy_within c h (crowded 0 (omega arith)) in
     omega arith
 
--- With k privileges at the start, every run of (k - 1)·(2·N - k) + 1 moves contains a legitimate configuration.
+-- With k privileges at the start, every run of (k - 1)·(2·N - k) + 1 moves contains a legitimate
+-- configuration.
 pub stabilizes : Stabilizes
 stabilizes c moves h run long =
     let n = stations c - 1 in
     let k = length (privileges_of c) in
     elim (found_or_crowded c moves ((k - 1) * (2 * n - k) + 1) h run) [
       | inl found ↦ found
-      | inr crowded ↦ absurd (crowded_ends c moves ((k - 1) * (2 * n - k) + 1) h run refl long crowded)
+      | inr crowded ↦
+          absurd (crowded_ends c moves ((k - 1) * (2 * n - k) + 1) h run refl long crowded)
     ]
 
 -- ---- the bounds that don't speak of the start's privileges
@@ -152,8 +176,10 @@ square_below_cube n i e =
     let cube : n ^ 3 ≡ (i + 2) * (i + 2) * (i + 2) = cube_is n ∙ ap (λ k. k * k * k) e in
     omega arith
 
--- a start that isn't legitimate has at most as many privileges as boundaries, and its bound is at most N² - N + 1
-within_square : (c : Configuration) → IsConfiguration c → IsCrowded c → let n = stations c - 1 in let k = length (privileges_of c) in (2 ≤ n) × ((k - 1) * (2 * n - k) + n ≤ n ^ 2)
+-- a start that isn't legitimate has at most as many privileges as boundaries, and its bound is at
+-- most N² - N + 1
+within_square : (c : Configuration) → IsConfiguration c → IsCrowded c → let n = stations c - 1 in
+    let k = length (privileges_of c) in (2 ≤ n) × ((k - 1) * (2 * n - k) + n ≤ n ^ 2)
 within_square c h two =
     let n = stations c - 1 in
     let k = length (privileges_of c) in
@@ -163,8 +189,10 @@ within_square c h two =
     (omega arith, bound_most n k (k - 1) (n - k) (omega arith) (omega arith))
 
 -- a bound that is enough from a start that isn't legitimate is enough
-reaches : (c : Configuration) (moves : List Move) (most : ℕ) → IsConfiguration c → IsRun c moves → most ≤ length moves
-    → let n = stations c - 1 in let k = length (privileges_of c) in (IsCrowded c → (k - 1) * (2 * n - k) + 1 ≤ most) → ReachesLegitimate c moves most
+reaches : (c : Configuration) (moves : List Move) (most : ℕ) → IsConfiguration c → IsRun c moves
+    → most ≤ length moves
+    → let n = stations c - 1 in let k = length (privileges_of c) in
+    (IsCrowded c → (k - 1) * (2 * n - k) + 1 ≤ most) → ReachesLegitimate c moves most
 reaches c moves most h run long enough =
     elim (legitimate_or_crowded c moves 0 h run) [
       | inl is ↦ record { number = 0; within = omega arith; legitimate = is }
@@ -179,7 +207,8 @@ reaches c moves most h run long enough =
 pub stabilizes_from_any : StabilizesFromAny
 stabilizes_from_any c moves h run long =
     let n = stations c - 1 in
-    reaches c moves (n ^ 2 - n + 1) h run long (λ crowded. let square = within_square c h crowded in let most = square.1 in omega arith)
+    reaches c moves (n ^ 2 - n + 1) h run long
+    (λ crowded. let square = within_square c h crowded in let most = square.1 in omega arith)
 
 -- Every run of N³ - 1 moves does.
 pub stabilizes_in_cube : StabilizesInCube

@@ -1,5 +1,6 @@
 -- What a row is worth: a number that falls with every move, as long as two marks or more are left.
-use Rattle.std.proofs.Common.{◌≡◌, ℕ, zero, suc, ◌+◌, ◌-◌, ◌*◌, ◌≤◌, Bool, true, false, cond, not, List, [], ◌∷◌, ◌++◌, length, refl, ap, ◌∙◌, arith}
+use Rattle.std.proofs.Common.{◌≡◌, ℕ, zero, suc, ◌+◌, ◌-◌, ◌*◌, ◌≤◌, Bool, true, false, cond, not}
+use Rattle.std.proofs.Common.{List, [], ◌∷◌, ◌++◌, length, refl, ap, ◌∙◌, arith}
 use Rattle.std.proofs.Math.Nat.{mul-le-mul_left}
 use Rattle.sweep_auditor.proofs.Rows.{Cell, Rise, Fall, Bare, count}
 
@@ -25,14 +26,15 @@ low (Rise false ∷ cells) = low cells + some cells
 low (Fall ∷ cells) = low cells + some cells
 low (Bare up ∷ cells) = low cells
 
--- The worth of what stands above the lowest mark. `near`: the stations are not up from a mark other than the lowest
--- on, so far.
+-- The worth of what stands above the lowest mark. `near`: the stations are not up from a mark other
+-- than the lowest on, so far.
 abbrev pub worth : Bool → List Cell → ℕ
 worth near [] = 0
 worth near (Rise up ∷ cells) = free cells + free cells + worth (not up) cells
 worth near (Fall ∷ cells) = worth true cells
 worth near (Bare true ∷ cells) = low cells + low cells + some cells + worth false cells
-worth near (Bare false ∷ cells) = low cells + low cells + some cells + cond near (some cells) 0 + worth near cells
+worth near (Bare false ∷ cells) =
+    low cells + low cells + some cells + cond near (some cells) 0 + worth near cells
 
 -- the worth of the lowest mark, with what stands below and above it
 abbrev pub whole : ℕ → List Cell → ℕ
@@ -132,7 +134,8 @@ pairs-is (suc n) =
     omega arith
 
 -- each free boundary adds at most 2 for each mark but the lowest
-worth-most : (near : Bool) (cells : List Cell) → worth near cells ≤ (count cells + count cells) * free cells
+worth-most : (near : Bool) (cells : List Cell)
+    → worth near cells ≤ (count cells + count cells) * free cells
 worth-most near [] = omega arith
 worth-most near (Rise up ∷ cells) = let rest = worth-most (not up) cells in omega arith
 worth-most near (Fall ∷ cells) = let rest = worth-most true cells in omega arith
@@ -149,7 +152,8 @@ worth-most false (Bare false ∷ cells) =
     let most = low-most cells in
     omega arith
 
-whole-most : (cells : List Cell) (below j : ℕ) → count cells ≡ j + 1 → 1 ≤ j → whole below cells ≤ (j + j) * (below + free cells) + 1
+whole-most : (cells : List Cell) (below j : ℕ) → count cells ≡ j + 1 → 1 ≤ j
+    → whole below cells ≤ (j + j) * (below + free cells) + 1
 whole-most [] below j e two = absurd (omega arith)
 whole-most (Rise up ∷ cells) below j e two =
     let marks : count cells ≡ j = omega arith in
@@ -164,10 +168,12 @@ whole-most (Fall ∷ cells) below j e two =
     let one = some-least cells (omega arith) in
     let product = mul-le-mul_left {m = low cells + low cells + 2} {n = j + j} below (omega arith) in
     omega arith
-whole-most (Bare up ∷ cells) below j e two = let rest = whole-most cells (below + 1) j e two in omega arith
+whole-most (Bare up ∷ cells) below j e two = let rest = whole-most cells (below + 1) j e two in
+    omega arith
 
 -- with j + 1 marks and f free boundaries
-pub energy-most : (cells : List Cell) (j f : ℕ) → count cells ≡ j + 1 → 1 ≤ j → length cells ≡ j + 1 + f → energy cells ≤ (j + 1) * j + (j + j) * f + 2
+pub energy-most : (cells : List Cell) (j f : ℕ) → count cells ≡ j + 1 → 1 ≤ j
+    → length cells ≡ j + 1 + f → energy cells ≤ (j + 1) * j + (j + j) * f + 2
 energy-most cells j f e two long =
     let all = count-free cells in
     let room : free cells ≡ f = omega arith in
@@ -192,21 +198,25 @@ count-append (Rise up ∷ front) back = let rest = count-append front back in om
 count-append (Fall ∷ front) back = let rest = count-append front back in omega arith
 count-append (Bare up ∷ front) back = count-append front back
 
-pub last-append : (so_far : ℕ) (front back : List Cell) → last so_far (front ++ back) ≡ last (last so_far front) back
+pub last-append : (so_far : ℕ) (front back : List Cell)
+    → last so_far (front ++ back) ≡ last (last so_far front) back
 last-append so_far [] back = refl
 last-append so_far (Rise up ∷ front) back = last-append 1 front back
 last-append so_far (Fall ∷ front) back = last-append 0 front back
 last-append so_far (Bare up ∷ front) back = last-append so_far front back
 
 -- the part without a mark below the lowest one
-pub whole-bare : (front back : List Cell) (below n : ℕ) → count front ≡ 0 → n ≡ below + length front → whole below (front ++ back) ≡ whole n back
-whole-bare [] back below n bare e = let here : below ≡ n = omega arith in ap (λ b. whole b back) here
+pub whole-bare : (front back : List Cell) (below n : ℕ) → count front ≡ 0 → n ≡ below + length front
+    → whole below (front ++ back) ≡ whole n back
+whole-bare [] back below n bare e = let here : below ≡ n = omega arith in
+    ap (λ b. whole b back) here
 whole-bare (Rise up ∷ front) back below n bare e = absurd (omega arith)
 whole-bare (Fall ∷ front) back below n bare e = absurd (omega arith)
-whole-bare (Bare up ∷ front) back below n bare e = whole-bare front back (below + 1) n bare (omega arith)
+whole-bare (Bare up ∷ front) back below n bare e =
+    whole-bare front back (below + 1) n bare (omega arith)
 
--- What a change of a part does to what depends on it: e boundaries more are free, and its own worth falls by p and
--- rises by r.
+-- What a change of a part does to what depends on it: e boundaries more are free, and its own worth
+-- falls by p and rises by r.
 pub record Lowers (e p r : ℕ) (later before : List Cell) : Type 0 where
   pub less_some : some later ≤ some before
   pub less_low : low later ≤ low before
@@ -214,7 +224,8 @@ pub record Lowers (e p r : ℕ) (later before : List Cell) : Type 0 where
   pub less_worth : (near : Bool) → worth near later + p ≤ worth near before + r
 
 -- the same under what stands below the part
-bare_up : (e p r : ℕ) (later before : List Cell) → Lowers e p r later before → Lowers e p r (Bare true ∷ later) (Bare true ∷ before)
+bare_up : (e p r : ℕ) (later before : List Cell) → Lowers e p r later before
+    → Lowers e p r (Bare true ∷ later) (Bare true ∷ before)
 bare_up e p r later before h =
     let a = h.less_some in
     let b = h.less_low in
@@ -226,7 +237,8 @@ bare_up e p r later before h =
       less_worth = λ near. let w = h.less_worth false in omega arith;
     }
 
-bare_low_worth : (e p r : ℕ) (later before : List Cell) → Lowers e p r later before → (near : Bool) → worth near (Bare false ∷ later) + p ≤ worth near (Bare false ∷ before) + r
+bare_low_worth : (e p r : ℕ) (later before : List Cell) → Lowers e p r later before → (near : Bool)
+    → worth near (Bare false ∷ later) + p ≤ worth near (Bare false ∷ before) + r
 bare_low_worth e p r later before h true =
     let a = h.less_some in
     let b = h.less_low in
@@ -236,7 +248,8 @@ bare_low_worth e p r later before h false =
     let b = h.less_low in
     let w = h.less_worth false in omega arith
 
-bare_low : (e p r : ℕ) (later before : List Cell) → Lowers e p r later before → Lowers e p r (Bare false ∷ later) (Bare false ∷ before)
+bare_low : (e p r : ℕ) (later before : List Cell) → Lowers e p r later before
+    → Lowers e p r (Bare false ∷ later) (Bare false ∷ before)
 bare_low e p r later before h =
     let c = h.more_free in
     record {
@@ -246,7 +259,8 @@ bare_low e p r later before h =
       less_worth = bare_low_worth e p r later before h;
     }
 
-fall_under : (e p r : ℕ) (later before : List Cell) → Lowers e p r later before → Lowers e p r (Fall ∷ later) (Fall ∷ before)
+fall_under : (e p r : ℕ) (later before : List Cell) → Lowers e p r later before
+    → Lowers e p r (Fall ∷ later) (Fall ∷ before)
 fall_under e p r later before h =
     let a = h.less_some in
     let b = h.less_low in
@@ -257,7 +271,8 @@ fall_under e p r later before h =
       less_worth = λ near. h.less_worth true;
     }
 
-rise_under : (e p r : ℕ) (up : Bool) (later before : List Cell) → Lowers e p r later before → Lowers e p (r + e + e) (Rise up ∷ later) (Rise up ∷ before)
+rise_under : (e p r : ℕ) (up : Bool) (later before : List Cell) → Lowers e p r later before
+    → Lowers e p (r + e + e) (Rise up ∷ later) (Rise up ∷ before)
 rise_under e p r true later before h =
     let c = h.more_free in
     record {
@@ -277,7 +292,8 @@ rise_under e p r false later before h =
       less_worth = λ near. let w = h.less_worth true in omega arith;
     }
 
-weaker : (e p r q : ℕ) (later before : List Cell) → r ≤ q → Lowers e p r later before → Lowers e p q later before
+weaker : (e p r q : ℕ) (later before : List Cell) → r ≤ q → Lowers e p r later before
+    → Lowers e p q later before
 weaker e p r q later before l h =
     record {
       less_some = h.less_some;
@@ -286,33 +302,43 @@ weaker e p r q later before l h =
       less_worth = λ near. let w = h.less_worth near in omega arith;
     }
 
-pub Lowers-append : (e p r : ℕ) (front later before : List Cell) → Lowers e p r later before → Lowers e p (r + (e + e) * count front) (front ++ later) (front ++ before)
+pub Lowers-append : (e p r : ℕ) (front later before : List Cell) → Lowers e p r later before
+    → Lowers e p (r + (e + e) * count front) (front ++ later) (front ++ before)
 Lowers-append e p r [] later before h = weaker e p r (r + (e + e) * 0) later before (omega arith) h
 Lowers-append e p r (Rise up ∷ front) later before h =
     let more = (e + e) * count front in
     weaker e p (r + more + e + e) (r + (e + e) * (count front + 1)) _ _ (omega arith)
-    (rise_under e p (r + more) up (front ++ later) (front ++ before) (Lowers-append e p r front later before h))
+    (rise_under e p (r + more) up (front ++ later) (front ++ before)
+    (Lowers-append e p r front later before h))
 Lowers-append e p r (Fall ∷ front) later before h =
     let more = (e + e) * count front in
     weaker e p (r + more) (r + (e + e) * (count front + 1)) _ _ (omega arith)
-    (fall_under e p (r + more) (front ++ later) (front ++ before) (Lowers-append e p r front later before h))
-Lowers-append e p r (Bare true ∷ front) later before h = bare_up e p _ (front ++ later) (front ++ before) (Lowers-append e p r front later before h)
-Lowers-append e p r (Bare false ∷ front) later before h = bare_low e p _ (front ++ later) (front ++ before) (Lowers-append e p r front later before h)
+    (fall_under e p (r + more) (front ++ later) (front ++ before)
+    (Lowers-append e p r front later before h))
+Lowers-append e p r (Bare true ∷ front) later before h =
+    bare_up e p _ (front ++ later) (front ++ before) (Lowers-append e p r front later before h)
+Lowers-append e p r (Bare false ∷ front) later before h =
+    bare_low e p _ (front ++ later) (front ++ before) (Lowers-append e p r front later before h)
 
 -- the lowest mark stands below the part
-pub whole-falls : (e p r : ℕ) (later before : List Cell) → Lowers e p r later before → (front : List Cell) (below : ℕ) → 1 ≤ count front
-    → whole below (front ++ later) + p + e + e ≤ whole below (front ++ before) + r + (e + e) * count front
+pub whole-falls : (e p r : ℕ) (later before : List Cell) → Lowers e p r later before
+    → (front : List Cell) (below : ℕ) → 1 ≤ count front
+    → whole below (front ++ later) + p + e + e
+    ≤ whole below (front ++ before) + r + (e + e) * count front
 whole-falls e p r later before h [] below marked = absurd (omega arith)
 whole-falls e p r later before h (Rise up ∷ front) below marked =
     let rest = Lowers-append e p r front later before h in
     let lows = rest.less_low in
     let w = rest.less_worth false in
-    let product = mul-le-mul_left {m = low (front ++ later) + low (front ++ later)} {n = low (front ++ before) + low (front ++ before)} below (omega arith) in
+    let product = mul-le-mul_left {m = low (front ++ later) + low (front ++ later)}
+    {n = low (front ++ before) + low (front ++ before)} below (omega arith) in
     omega arith
 whole-falls e p r later before h (Fall ∷ front) below marked =
     let rest = Lowers-append e p r front later before h in
     let lows = rest.less_low in
     let w = rest.less_worth false in
-    let product = mul-le-mul_left {m = low (front ++ later) + low (front ++ later)} {n = low (front ++ before) + low (front ++ before)} below (omega arith) in
+    let product = mul-le-mul_left {m = low (front ++ later) + low (front ++ later)}
+    {n = low (front ++ before) + low (front ++ before)} below (omega arith) in
     omega arith
-whole-falls e p r later before h (Bare up ∷ front) below marked = whole-falls e p r later before h front (below + 1) marked
+whole-falls e p r later before h (Bare up ∷ front) below marked =
+    whole-falls e p r later before h front (below + 1) marked

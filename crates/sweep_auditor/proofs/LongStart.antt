@@ -1,17 +1,21 @@
 -- The start of the longest run.
-use Rattle.std.proofs.Common.{◌≡◌, ℕ, zero, suc, ◌+◌, ◌-◌, ◌*◌, ◌^◌, ◌<◌, ◌≤◌, Bool, true, false, cond, not, ◌&&◌, List, ◌∷◌, ◌++◌, map, refl, sym, ap, ◌∙◌, arith, zero-add}
+use Rattle.std.proofs.Common.{◌≡◌, ℕ, zero, suc, ◌+◌, ◌-◌, ◌*◌, ◌^◌, ◌<◌, ◌≤◌, Bool, true, false}
+use Rattle.std.proofs.Common.{cond, not, ◌&&◌, List, ◌∷◌, ◌++◌, map, refl, sym, ap, ◌∙◌, arith}
+use Rattle.std.proofs.Common.{zero-add}
 use Rattle.std.specs.Prelude.{◌==◌, nat_lt}
 use Rattle.std.specs.List.{range_with_len}
 use Rattle.std.proofs.lemmas.Bool.{ne_eqb, lt-ltb, le-ltb}
 use Rattle.std.proofs.lemmas.List.FromFn.{length-map-range_with_len, get_or-map-range_with_len}
 use Rattle.four_state.specs.Configuration.{Configuration, IsConfiguration, stations, x_at, up_at}
 use Rattle.sweep_auditor.specs.Sharpness.{NoFewerMoves, NoFewerMovesFromAny}
-use Rattle.sweep_auditor.proofs.Rows.{Cell, Rise, Fall, Bare, count, cell_at, cells_from, cells_of, map_range-add}
+use Rattle.sweep_auditor.proofs.Rows.{Cell, Rise, Fall, Bare, count, cell_at, cells_from, cells_of}
+use Rattle.sweep_auditor.proofs.Rows.{map_range-add}
 use Rattle.sweep_auditor.proofs.Local.{cell, cell_is}
 use Rattle.sweep_auditor.proofs.Bound.{counted, square_is}
 use Rattle.sweep_auditor.proofs.Longest.{many, long_row, count-long_row, longest_row}
 
--- x is the same at stations 0 and 1, differs between neighbors from there to station k, and is the same above
+-- x is the same at stations 0 and 1, differs between neighbors from there to station k, and is the
+-- same above
 abbrev x_bit : ℕ → ℕ → Bool
 x_bit k zero = false
 x_bit k (suc zero) = false
@@ -22,7 +26,10 @@ abbrev up_bit : ℕ → ℕ → Bool
 up_bit k s = not (s == 1) && nat_lt s k
 
 abbrev start : ℕ → ℕ → Configuration
-start n k = record { x = map (x_bit k) (range_with_len 0 (n + 1)); up = map (up_bit k) (range_with_len 0 (n + 1)) }
+start n k = record {
+  x = map (x_bit k) (range_with_len 0 (n + 1));
+  up = map (up_bit k) (range_with_len 0 (n + 1));
+}
 
 x_start : (n k s : ℕ) → s < n + 1 → x_at (start n k) s ≡ x_bit k s
 x_start n k s l = get_or-map-range_with_len (x_bit k) 0 (n + 1) s s false l (zero-add s)
@@ -68,43 +75,56 @@ bare_by false = refl
 
 first_cell : (n k : ℕ) → 3 ≤ n → 2 ≤ k → k ≤ n → cell_at (start n k) 0 ≡ Fall
 first_cell n k three two within =
-    cell_is (start n k) 0 false false true false (x_start n k 0 (omega arith)) (x_start n k 1 (omega arith))
+    cell_is (start n k) 0 false false true false (x_start n k 0 (omega arith))
+    (x_start n k 1 (omega arith))
     (up_below n k 0 (omega arith) within (λ e. absurd (omega arith))) (up_start n k 1 (omega arith))
 
-rise_cell : (n k s : ℕ) (v : Bool) → suc s < k → k ≤ n → up_at (start n k) (suc s + 1) ≡ v → cell_at (start n k) (suc s) ≡ Rise v
+rise_cell : (n k s : ℕ) (v : Bool) → suc s < k → k ≤ n → up_at (start n k) (suc s + 1) ≡ v
+    → cell_at (start n k) (suc s) ≡ Rise v
 rise_cell n k s v l within up =
     let here = x_bit k (suc s) in
     let e : suc s + 1 ≡ suc (suc s) = omega arith in
     let below = lt-ltb (suc s) k l in
     let flips : x_bit k (suc (suc s)) ≡ not here = rw below refl in
     let next = ap (x_at (start n k)) e ∙ x_start n k (suc (suc s)) (omega arith) ∙ flips in
-    cell_is (start n k) (suc s) here (not here) (up_at (start n k) (suc s)) v (x_start n k (suc s) (omega arith)) next refl up ∙ rises_by here (up_at (start n k) (suc s)) v
+    cell_is (start n k) (suc s) here (not here) (up_at (start n k) (suc s)) v
+    (x_start n k (suc s) (omega arith)) next refl up
+    ∙ rises_by here (up_at (start n k) (suc s)) v
 
-bare_cell : (n k s : ℕ) → 2 ≤ k → k ≤ suc s → suc s + 1 ≤ n → cell_at (start n k) (suc s) ≡ Bare false
+bare_cell : (n k s : ℕ) → 2 ≤ k → k ≤ suc s → suc s + 1 ≤ n
+    → cell_at (start n k) (suc s) ≡ Bare false
 bare_cell n k s two l within =
     let here = x_bit k (suc s) in
     let e : suc s + 1 ≡ suc (suc s) = omega arith in
     let above = le-ltb (suc s) k l in
     let stays : x_bit k (suc (suc s)) ≡ here = rw above refl in
     let next = ap (x_at (start n k)) e ∙ x_start n k (suc (suc s)) (omega arith) ∙ stays in
-    cell_is (start n k) (suc s) here here false false (x_start n k (suc s) (omega arith)) next (up_above n k (suc s) two l (omega arith))
+    cell_is (start n k) (suc s) here here false false (x_start n k (suc s) (omega arith)) next
+    (up_above n k (suc s) two l (omega arith))
     (up_above n k (suc s + 1) two (omega arith) within) ∙ bare_by here
 
-rise_cells : (n k m s : ℕ) → k ≤ n → s + 1 + m + 1 ≤ k → cells_from (start n k) (suc s) m ≡ many m (Rise true)
+rise_cells : (n k m s : ℕ) → k ≤ n → s + 1 + m + 1 ≤ k
+    → cells_from (start n k) (suc s) m ≡ many m (Rise true)
 rise_cells n k zero s within l = refl
 rise_cells n k (suc m) s within l =
     let e : suc s + 1 ≡ suc (suc s) = omega arith in
-    let first = rise_cell n k s true (omega arith) within (up_below n k (suc s + 1) (omega arith) within (λ e. absurd (omega arith))) in
-    let rest = ap (λ a. cells_from (start n k) a m) e ∙ rise_cells n k m (suc s) within (omega arith) in
-    ap (λ (c : Cell). c ∷ cells_from (start n k) (suc s + 1) m) first ∙ ap (λ (l : List Cell). Rise true ∷ l) rest
+    let first = rise_cell n k s true (omega arith) within
+    (up_below n k (suc s + 1) (omega arith) within (λ e. absurd (omega arith))) in
+    let rest = ap (λ a. cells_from (start n k) a m) e
+    ∙ rise_cells n k m (suc s) within (omega arith) in
+    ap (λ (c : Cell). c ∷ cells_from (start n k) (suc s + 1) m) first
+    ∙ ap (λ (l : List Cell). Rise true ∷ l) rest
 
-bare_cells : (n k m s : ℕ) → 2 ≤ k → k ≤ suc s → suc s + m ≤ n → cells_from (start n k) (suc s) m ≡ many m (Bare false)
+bare_cells : (n k m s : ℕ) → 2 ≤ k → k ≤ suc s → suc s + m ≤ n
+    → cells_from (start n k) (suc s) m ≡ many m (Bare false)
 bare_cells n k zero s two l within = refl
 bare_cells n k (suc m) s two l within =
     let e : suc s + 1 ≡ suc (suc s) = omega arith in
     let first = bare_cell n k s two l (omega arith) in
-    let rest = ap (λ a. cells_from (start n k) a m) e ∙ bare_cells n k m (suc s) two (omega arith) (omega arith) in
-    ap (λ (c : Cell). c ∷ cells_from (start n k) (suc s + 1) m) first ∙ ap (λ (l : List Cell). Bare false ∷ l) rest
+    let rest = ap (λ a. cells_from (start n k) a m) e
+    ∙ bare_cells n k m (suc s) two (omega arith) (omega arith) in
+    ap (λ (c : Cell). c ∷ cells_from (start n k) (suc s + 1) m) first
+    ∙ ap (λ (l : List Cell). Bare false ∷ l) rest
 
 start_row : (n k i q : ℕ) → 3 ≤ n → k ≡ i + 2 → n ≡ i + 2 + q → cells_of (start n k) ≡ long_row i q
 start_row n k i q three e all =
@@ -116,15 +136,20 @@ start_row n k i q three e all =
     let middle = rise_cells n k i 0 (omega arith) (omega arith) in
     let place : 1 + i ≡ suc i = omega arith in
     let next : suc i + 1 ≡ suc (suc i) = omega arith in
-    let last = rise_cell n k i false (omega arith) (omega arith) (up_above n k (suc i + 1) (omega arith) (omega arith) (omega arith)) in
-    let beyond = ap (λ a. cells_from c a q) next ∙ bare_cells n k q (suc i) (omega arith) (omega arith) (omega arith) in
+    let last = rise_cell n k i false (omega arith) (omega arith)
+    (up_above n k (suc i + 1) (omega arith) (omega arith) (omega arith)) in
+    let beyond = ap (λ a. cells_from c a q) next
+    ∙ bare_cells n k q (suc i) (omega arith) (omega arith) (omega arith) in
     let back : cells_from c (1 + i) (suc q) ≡ Rise false ∷ many q (Bare false) =
-    ap (λ a. cells_from c a (suc q)) place ∙ ap (λ (m : Cell). m ∷ cells_from c (suc i + 1) q) last ∙ ap (λ (l : List Cell). Rise false ∷ l) beyond in
-    ap (cells_from c 0) counts ∙ ap (λ (m : Cell). m ∷ cells_from c 1 (i + suc q)) first ∙ ap (λ (l : List Cell). Fall ∷ l) parts
-    ∙ ap (λ (l : List Cell). Fall ∷ (l ++ cells_from c (1 + i) (suc q))) middle ∙ ap (λ (l : List Cell). Fall ∷ (many i (Rise true) ++ l)) back
+    ap (λ a. cells_from c a (suc q)) place ∙ ap (λ (m : Cell). m ∷ cells_from c (suc i + 1) q) last
+    ∙ ap (λ (l : List Cell). Rise false ∷ l) beyond in
+    ap (cells_from c 0) counts ∙ ap (λ (m : Cell). m ∷ cells_from c 1 (i + suc q)) first
+    ∙ ap (λ (l : List Cell). Fall ∷ l) parts
+    ∙ ap (λ (l : List Cell). Fall ∷ (l ++ cells_from c (1 + i) (suc q))) middle
+    ∙ ap (λ (l : List Cell). Fall ∷ (many i (Rise true) ++ l)) back
 
--- From N = 3 on, for each k from 2 to N, there is a run of (k - 1)·(2·N - k) moves that contains no legitimate
--- configuration.
+-- From N = 3 on, for each k from 2 to N, there is a run of (k - 1)·(2·N - k) moves that contains no
+-- legitimate configuration.
 pub no_fewer_moves : NoFewerMoves
 no_fewer_moves n k three two within =
     let i = k - 2 in
@@ -149,7 +174,8 @@ no_fewer_moves n k three two within =
       privileges = omega arith;
       run = lasting.run;
       as_many = let long_run = lasting.as_many in omega arith;
-      never_legitimate = λ j l one. let crowd = lasting.crowded j (omega arith) in absurd (omega arith);
+      never_legitimate = λ j l one. let crowd = lasting.crowded j (omega arith) in
+          absurd (omega arith);
     }
 
 pub no_fewer_moves_from_any : NoFewerMovesFromAny

@@ -1,9 +1,11 @@
--- Rows: the marks of the line from the bottom up, each with the bit up of the station above its boundary; and what a
--- move does to them, at the station's own two boundaries.
-use Rattle.std.proofs.Common.{◌≡◌, ℕ, zero, suc, ◌+◌, ◌-◌, ◌≤◌, Bool, true, false, cond, List, [], ◌∷◌, ◌++◌, map, length, refl, ap, ◌∙◌, arith, zero-add, add-zero}
+-- Rows: the marks of the line from the bottom up, each with the bit up of the station above its
+-- boundary; and what a move does to them, at the station's own two boundaries.
+use Rattle.std.proofs.Common.{◌≡◌, ℕ, zero, suc, ◌+◌, ◌-◌, ◌≤◌, Bool, true, false, cond, List, []}
+use Rattle.std.proofs.Common.{◌∷◌, ◌++◌, map, length, refl, ap, ◌∙◌, arith, zero-add, add-zero}
 use Rattle.std.specs.List.{range_with_len}
 use Rattle.four_state.specs.Configuration.{Configuration, stations, up_at}
-use Rattle.four_state.specs.Marks.{Mark, Rising, Falling, Still, is_privilege, mark_at, marks_from, mark_count}
+use Rattle.four_state.specs.Marks.{Mark, Rising, Falling, Still, is_privilege, mark_at, marks_from}
+use Rattle.four_state.specs.Marks.{mark_count}
 
 -- a boundary with its mark, or bare; above a mark D the station is never up
 pub data Cell : Type 0 where
@@ -48,7 +50,8 @@ pub data Onto : Bool → Cell → Cell → Type 0 where
   onto_low : Onto false (Bare false) (Rise false)
   onto_fall : Onto true Fall (Rise false)
 
--- A fall goes down onto a boundary, and what it leaves there. It vanishes only where there is a mark below.
+-- A fall goes down onto a boundary, and what it leaves there. It vanishes only where there is a
+-- mark below.
 pub data Under (below : ℕ) : Cell → Cell → Type 0 where
   under_rise : Under below (Rise true) (Rise false)
   falls_on : Under below (Bare true) Fall
@@ -61,19 +64,27 @@ pub data AtTop : Cell → Type 0 where
 
 -- how station s changes the row
 pub data Change (s : ℕ) (before later : List Cell) : Type 0 where
-  bottom : (back : List Cell) → s ≡ 0 → before ≡ Fall ∷ back → later ≡ Rise false ∷ back → Change s before later
-  raise : (front back : List Cell) (up : Bool) (m k : Cell) → Onto up m k → s ≡ length front + 1 → before ≡ front ++ Rise up ∷ m ∷ back → later ≡ front ++ Bare true ∷ k ∷ back → Change s before later
-  lower : (front back : List Cell) (m k : Cell) → Under (count front) m k → s ≡ length front + 1 → before ≡ front ++ m ∷ Fall ∷ back → later ≡ front ++ k ∷ Bare false ∷ back → Change s before later
-  top : (front : List Cell) (k : Cell) → AtTop k → s ≡ length front + 1 → before ≡ front ++ Rise false ∷ [] → later ≡ front ++ k ∷ [] → Change s before later
+  bottom : (back : List Cell) → s ≡ 0 → before ≡ Fall ∷ back → later ≡ Rise false ∷ back
+      → Change s before later
+  raise : (front back : List Cell) (up : Bool) (m k : Cell) → Onto up m k → s ≡ length front + 1
+      → before ≡ front ++ Rise up ∷ m ∷ back → later ≡ front ++ Bare true ∷ k ∷ back
+      → Change s before later
+  lower : (front back : List Cell) (m k : Cell) → Under (count front) m k → s ≡ length front + 1
+      → before ≡ front ++ m ∷ Fall ∷ back → later ≡ front ++ k ∷ Bare false ∷ back
+      → Change s before later
+  top : (front : List Cell) (k : Cell) → AtTop k → s ≡ length front + 1
+      → before ≡ front ++ Rise false ∷ [] → later ≡ front ++ k ∷ [] → Change s before later
 
 -- ---- a row has the marks of the line
 
-count-cell : (m : Mark) (up : Bool) (cells : List Cell) → count (cell_of m up ∷ cells) ≡ cond (is_privilege m) 1 0 + count cells
+count-cell : (m : Mark) (up : Bool) (cells : List Cell)
+    → count (cell_of m up ∷ cells) ≡ cond (is_privilege m) 1 0 + count cells
 count-cell Rising up cells = omega arith
 count-cell Falling up cells = omega arith
 count-cell Still up cells = omega arith
 
-pub count-cells_from : (c : Configuration) (n a : ℕ) → count (cells_from c a n) ≡ mark_count (marks_from c a n)
+pub count-cells_from : (c : Configuration) (n a : ℕ)
+    → count (cells_from c a n) ≡ mark_count (marks_from c a n)
 count-cells_from c zero a = refl
 count-cells_from c (suc n) a =
     let first = count-cell (mark_at c a) (up_at c (a + 1)) (cells_from c (a + 1) n) in
@@ -85,14 +96,18 @@ mark-cell Rising up = refl
 mark-cell Falling up = refl
 mark-cell Still up = refl
 
-pub marks-cells_from : (c : Configuration) (n a : ℕ) → map mark_of (cells_from c a n) ≡ marks_from c a n
+pub marks-cells_from : (c : Configuration) (n a : ℕ)
+    → map mark_of (cells_from c a n) ≡ marks_from c a n
 marks-cells_from c zero a = refl
 marks-cells_from c (suc n) a =
     let first = mark-cell (mark_at c a) (up_at c (a + 1)) in
-    ap (λ (m : Mark). m ∷ map mark_of (cells_from c (a + 1) n)) first ∙ ap (λ (ms : List Mark). mark_at c a ∷ ms) (marks-cells_from c n (a + 1))
+    ap (λ (m : Mark). m ∷ map mark_of (cells_from c (a + 1) n)) first
+    ∙ ap (λ (ms : List Mark). mark_at c a ∷ ms) (marks-cells_from c n (a + 1))
 
 -- boundaries in two parts
-pub map_range-add : {X : Type 0} (at : ℕ → X) (n k a : ℕ) → map at (range_with_len a (n + k)) ≡ map at (range_with_len a n) ++ map at (range_with_len (a + n) k)
+pub map_range-add : {X : Type 0} (at : ℕ → X) (n k a : ℕ)
+    → map at (range_with_len a (n + k))
+    ≡ map at (range_with_len a n) ++ map at (range_with_len (a + n) k)
 map_range-add at zero k a = rw (zero-add, add-zero)
 map_range-add {X = X} at (suc n) k a =
     let counted : suc n + k ≡ suc (n + k) = omega arith in

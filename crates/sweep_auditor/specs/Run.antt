@@ -1,5 +1,6 @@
 -- Runs of the line: lists of moves, and the configurations that they pass.
-use Rattle.std.specs.Prelude.{◌≡◌, ℕ, ◌<◌, ◌≤◌, List, [], ◌∷◌, take, Option, Some, None, ⊤, slice_get}
+use Rattle.std.specs.Prelude.{◌≡◌, ℕ, ◌<◌, ◌≤◌, List, [], ◌∷◌, take, Option, Some, None, ⊤}
+use Rattle.std.specs.Prelude.{slice_get}
 use Rattle.four_state.specs.Configuration.{Configuration}
 use Rattle.four_state.specs.Privilege.{IsPrivilege, IsLegitimate}
 use Rattle.four_state.specs.Motion.{moved, IsMove}
@@ -31,7 +32,8 @@ pub record IsLeastLegitimate (c : Configuration) (moves : List Move) (n i : ℕ)
   pub legitimate : IsLegitimate (configuration_at c moves i)
   pub none_before : (k : ℕ) → k < i → ¬ IsLegitimate (configuration_at c moves k)
 
--- which configuration, of those up to number n, is the first that is legitimate; `None` where there is none
+-- which configuration, of those up to number n, is the first that is legitimate; `None` where there
+-- is none
 abbrev pub IsFirstLegitimate : Configuration → List Move → ℕ → Option ℕ → Type 0
 IsFirstLegitimate c moves n None = (k : ℕ) → k ≤ n → ¬ IsLegitimate (configuration_at c moves k)
 IsFirstLegitimate c moves n (Some i) = IsLeastLegitimate c moves n i

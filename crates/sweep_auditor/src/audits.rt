@@ -1,6 +1,7 @@
 //! The audit of a list of moves.
 
-ghost use Rattle.std.specs.Prelude.{◌≡◌, ℕ, ◌+◌, ◌-◌, ◌*◌, ◌^◌, ◌≤◌, ◌↔◌, length, drop, IsOk, IfOk, IfErr, IfSome, IsSomeAnd, Some, None};
+ghost use Rattle.std.specs.Prelude.{◌≡◌, ℕ, ◌+◌, ◌-◌, ◌*◌, ◌^◌, ◌≤◌, ◌↔◌, length, drop, IsOk, IfOk};
+ghost use Rattle.std.specs.Prelude.{IfErr, IfSome, IsSomeAnd, Some, None};
 ghost use Rattle.four_state.specs.Configuration.{IsLine};
 ghost use Rattle.four_state.specs.Privilege.{IsLegitimate, privileges_of};
 ghost use Rattle.sweep_auditor.specs.Run.{after, IsRun, IsFirstLegitimate, AuditRefuses};
@@ -9,8 +10,8 @@ ghost use Rattle.sweep_auditor.specs.Stabilization.{top_of, LegitimateFrom, IsSt
 use crate::moves::{Audit, AuditRefusal, Move};
 use four_state::Line;
 
-/// Goes through the moves from the start. The start has index 0, and the configuration after i moves
-/// has index i.
+/// Goes through the moves from the start. The start has index 0, and the configuration after i
+/// moves has index i.
 ///
 /// # Errors
 /// The first move that is no privilege of the configuration before it.

@@ -2,11 +2,12 @@
 //! these statements: they speak of configurations, moves and runs alone, for lines of any length.
 
 ghost use Rattle.sweep_auditor.specs.Sharpness.{NoFewerMoves, NoFewerMovesFromAny};
-ghost use Rattle.sweep_auditor.specs.Stabilization.{Stabilizes, StabilizesFromAny, StabilizesInCube, SweepsFromLegitimate};
+ghost use Rattle.sweep_auditor.specs.Stabilization.{Stabilizes, StabilizesFromAny};
+ghost use Rattle.sweep_auditor.specs.Stabilization.{StabilizesInCube, SweepsFromLegitimate};
 
 /// With N for the number of the top station and k for the number of privileges at the start: every
-/// run of (k - 1)·(2·N - k) + 1 moves contains a legitimate configuration, whichever privilege moved
-/// each time.
+/// run of (k - 1)·(2·N - k) + 1 moves contains a legitimate configuration, whichever privilege
+/// moved each time.
 pub fn stabilizes()
     ensures { Stabilizes }
 {}
@@ -32,8 +33,8 @@ pub fn no_fewer_moves_from_any()
     ensures { NoFewerMovesFromAny }
 {}
 
-/// After a legitimate configuration every one is legitimate, the stations that move are a stretch of
-/// the sweep, and a configuration comes again after each 4·N moves and at no other time.
+/// After a legitimate configuration every one is legitimate, the stations that move are a stretch
+/// of the sweep, and a configuration comes again after each 4·N moves and at no other time.
 pub fn sweeps_from_legitimate()
     ensures { SweepsFromLegitimate }
 {}

@@ -24,8 +24,8 @@ pub struct Audit {
 /// Why a list of moves is no run.
 #[derive(Clone, Copy, Debug, PartialEq, Eq, Error)]
 pub enum AuditRefusal {
-    /// The first move that can't be made: at its place the station has no privilege by that rule. Moves are counted
-    /// from 0.
+    /// The first move that can't be made: at its place the station has no privilege by that rule.
+    /// Moves are counted from 0.
     #[error("the station of move {index} may not move by its rule there")]
     NotEnabled { index: usize },
 }

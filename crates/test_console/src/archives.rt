@@ -11,7 +11,8 @@ pub fn new_archive(supply: &mut Supply, said: &mut Said<'_>, told: &mut Told) {
     }
 }
 
-/// `catch_up`: adds to that archive what it lacks of the ledger, and tells whether it never failed, and its batches.
+/// `catch_up`: adds to that archive what it lacks of the ledger, and tells whether it never failed,
+/// and its batches.
 pub fn catch_up(device: Bench, supply: &mut Supply, told: &mut Told) -> Stage {
     let Some(archive) = &mut supply.archive else {
         told.line("not asked: no archive");

@@ -30,10 +30,10 @@ enum Work {
     Run { first: u64, moves: u64, tries: u64 },
 }
 
-/// `callers STATIONS XBITS UPBITS TURNS`: an office in which each seat, in a thread of its own, takes so many turns.
-/// `unclosed ..`: one that nobody closes then. `reclosed ..`: one that is closed without its top seat first, goes on,
-/// and is closed with all. `stations STATIONS XBITS UPBITS FIRST MOVES TRIES`: one in which some stations run. In hand
-/// is its clerk then.
+/// `callers STATIONS XBITS UPBITS TURNS`: an office in which each seat, in a thread of its own,
+/// takes so many turns. `unclosed ..`: one that nobody closes then. `reclosed ..`: one that is
+/// closed without its top seat first, goes on, and is closed with all. `stations STATIONS XBITS
+/// UPBITS FIRST MOVES TRIES`: one in which some stations run. In hand is its clerk then.
 pub fn call_in_threads<R: Threads + Wait + Sync>(
     rt: &R,
     device: Bench,
@@ -71,7 +71,8 @@ fn call_in<L: Count + OpenedOn + Send + Sync, R: Threads + Wait + Sync>(
     plan: (Work, Ending),
     told: &mut Told,
 ) -> Stage
-    requires named { Names L.name L.parts L.device L.line blank (foreign_state (memory_device_state device.inner) device.failures) line }
+    requires named { Names L.name L.parts L.device L.line blank
+        (foreign_state (memory_device_state device.inner) device.failures) line }
     requires begins { (found : State) → L.begins found }
 {
     let (work, ending) = plan;
@@ -125,7 +126,8 @@ pub fn take_all_turns<
     );
 }
 
-// A station whose turn it isn't lets others go on, and one that is refused for another reason stops them.
+// A station whose turn it isn't lets others go on, and one that is refused for another reason stops
+// them.
 fn take_turns<D: Device, L: Count + OpenedOn, R: Wait>(
     rt: &R,
     office: &Office<D, L>,

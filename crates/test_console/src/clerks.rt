@@ -10,7 +10,7 @@ use office_sessions::Look;
 use station_desk::Question;
 use std::alloc::Global;
 use test_words::{Bench, Said, Told, read_entries, read_line, set_fault};
-use turn_clerk::{Clerk, Event, Sought, Turn, TurnRefusal};
+use turn_clerk::{Clerk, Event, SearchTarget, Turn, TurnRefusal};
 
 /// `clerk STATIONS XBITS UPBITS`: opens a clerk on the device.
 pub fn open_clerk(
@@ -31,7 +31,8 @@ pub fn open_clerk(
     }
 }
 
-/// A clerk with that line. It has no other clause: whoever opens a clerk would pay for each at each way out.
+/// A clerk with that line. It has no other clause: whoever opens a clerk would pay for each at each
+/// way out.
 pub fn clerk_on(
     alloc: Global,
     device: Bench,
@@ -146,7 +147,7 @@ fn tell_in_flight(clerk: &Clerk<Bench>, told: &mut Told) {
 fn find(clerk: &mut Clerk<Bench>, said: &mut Said<'_>, told: &mut Told) {
     let (reference, from, end) = (said.number(), said.number(), said.number());
     if said.is_right(told) {
-        told.outcome(&clerk.search(Sought::Reference(reference), from, end));
+        told.outcome(&clerk.search(SearchTarget::Reference(reference), from, end));
     }
 }
 
@@ -154,7 +155,7 @@ fn find(clerk: &mut Clerk<Bench>, said: &mut Said<'_>, told: &mut Told) {
 fn latest(clerk: &mut Clerk<Bench>, said: &mut Said<'_>, told: &mut Told) {
     let (station, limit, from) = (said.station(), said.number(), said.number());
     if said.is_right(told) {
-        told.outcome(&clerk.search(Sought::OfStation { station, limit }, from, u64::MAX));
+        told.outcome(&clerk.search(SearchTarget::OfStation { station, limit }, from, u64::MAX));
     }
 }
 
@@ -223,7 +224,8 @@ fn tell_replies(replies: &[Result<Turn, TurnRefusal>], told: &mut Told) {
     }
 }
 
-// `opening ACCOUNT`: the line, the number of the next batch, and what the account held when the clerk was opened.
+// `opening ACCOUNT`: the line, the number of the next batch, and what the account held when the
+// clerk was opened.
 fn opening(clerk: &Clerk<Bench>, said: &mut Said<'_>, told: &mut Told) {
     let account = said.small();
     if !said.is_right(told) {

@@ -13,7 +13,8 @@ pub enum Ending {
     Closed,
     /// Nobody closes it.
     Unclosed,
-    /// It is closed without its top seat, which is refused; then each seat takes so many turns more, and it is closed.
+    /// It is closed without its top seat, which is refused; then each seat takes so many turns
+    /// more, and it is closed.
     Again(u64),
 }
 

@@ -4,7 +4,7 @@ use crate::callers::call_in_threads;
 use crate::clerks::{self, open_clerk};
 use crate::days::{have_day, hold};
 use crate::desks::{self, Pair, new_desk};
-use crate::offices::{Planned, plan_office, play};
+use crate::offices::{OfficeScript, plan_office, play};
 use crate::spans::have_spans;
 use office_day::{HeldEntries, MemoryArchive};
 use office_sessions::Look;
@@ -21,7 +21,7 @@ pub enum Stage {
     Scene(Scene),
     Desk(Pair),
     Clerk(Clerk<Bench>),
-    Office(Planned),
+    Office(OfficeScript),
 }
 
 /// What earlier lines have put together for a call.
@@ -72,8 +72,8 @@ impl Console {
         }
     }
 
-    /// Does what a line asks for; one that begins with `#` asks for nothing. A line `mark X` is told as it is, and asks
-    /// for what was told, which the answer says.
+    /// Does what a line asks for; one that begins with `#` asks for nothing. A line `mark X` is
+    /// told as it is, and asks for what was told, which the answer says.
     pub fn run<R: Threads + Wait + Sync>(&mut self, rt: &R, line: &str) -> bool {
         let line = line.trim_end();
         let mut said = Said::of(line);
@@ -128,7 +128,7 @@ fn next<R: Threads + Wait + Sync>(
 // The next line of an office, or its end.
 fn plan_or_play<R: Wait>(
     rt: &R,
-    mut planned: Planned,
+    mut planned: OfficeScript,
     line: &str,
     supply: &mut Supply,
     name: &str,

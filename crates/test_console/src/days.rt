@@ -30,8 +30,8 @@ pub fn hold(supply: &mut Supply, said: &mut Said<'_>, told: &mut Told) {
     }
 }
 
-/// `day STATIONS XBITS UPBITS MOVES [TRIES]`: an office on the device is open until so many turns are taken. Its clerk
-/// is in hand then.
+/// `day STATIONS XBITS UPBITS MOVES [TRIES]`: an office on the device is open until so many turns
+/// are taken. Its clerk is in hand then.
 pub fn have_day<R: Threads + Wait + Sync>(
     rt: &R,
     device: Bench,

@@ -1,9 +1,10 @@
-//! A console for tests: a line asks for one public call of the library, and what the call answers is printed. Here are
-//! the words that need a clerk, an office, a desk or an archive in memory. All others are in `test_words`.
+//! A console for tests: a line asks for one public call of the library, and what the call answers
+//! is printed. Here are the words that need a clerk, an office, a desk or an archive in memory. All
+//! others are in `test_words`.
 //!
-//! But for the words in an office no word has a type parameter, so that it is proved once, as it is compiled. A
-//! [`Console`] has a device, or what stands on it, in hand. A word that isn't one of that is told, and changes nothing.
-//! What a call requires is asked first.
+//! But for the words in an office no word has a type parameter, so that it is proved once, as it is
+//! compiled. A [`Console`] has a device, or what stands on it, in hand. A word that isn't one of
+//! that is told, and changes nothing. What a call requires is asked first.
 #![tactic(auto)]
 
 mod archives;
@@ -48,7 +49,8 @@ fn hand_over<W: Write>(console: &mut Console, output: &mut W) -> Result<(), Stre
     Ok(())
 }
 
-// Does what each line asks for, and writes what it is told if a line asks for that, or it has become much.
+// Does what each line asks for, and writes what it is told if a line asks for that, or it has
+// become much.
 fn converse<R: Threads + Wait + Sync, I: BufRead, W: Write>(
     rt: &R,
     console: &mut Console,
@@ -67,7 +69,8 @@ fn converse<R: Threads + Wait + Sync, I: BufRead, W: Write>(
     hand_over(console, output)
 }
 
-// A console, and a line with room for the longest: behind its start it takes no memory but for a call.
+// A console, and a line with room for the longest: behind its start it takes no memory but for a
+// call.
 fn begun(alloc: Global) -> Result<(Console, String), AllocError> {
     let line = String::with_capacity(alloc, LONGEST)?;
     Ok((Console::new(alloc)?, line))

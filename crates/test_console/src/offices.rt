@@ -1,4 +1,5 @@
-//! The words of an office, which are gathered up to `close`: then it is opened, does them, and is closed.
+//! The words of an office, which are gathered up to `close`: then it is opened, does them, and is
+//! closed.
 use crate::console::{Stage, Supply};
 use crate::turns::{tell_taken, tell_turn};
 use four_state::Line;
@@ -6,11 +7,11 @@ use line_lock::{Closing, Count, Office, OfficeRefusal, OfficeWork, OpenedOn, Sea
 use std::alloc::Global;
 use std::sync::Wait;
 use test_words::{Bench, Said, Told, read_entries, read_line, set_fault};
-use turn_clerk::{Sought, TurnRefusal};
+use turn_clerk::{SearchTarget, TurnRefusal};
 
 /// An office that isn't opened yet, with what is to be done in it, a line for each call.
 #[derive(Drop)]
-pub struct Planned {
+pub struct OfficeScript {
     device: Bench,
     line: Line,
     lines: String,
@@ -24,7 +25,7 @@ pub fn plan_office(
     told: &mut Told,
 ) -> Stage {
     match read_line(said, told) {
-        Some(line) => Stage::Office(Planned {
+        Some(line) => Stage::Office(OfficeScript {
             device,
             line,
             lines: String::new(supply.hand.alloc),
@@ -33,7 +34,7 @@ pub fn plan_office(
     }
 }
 
-impl Planned {
+impl OfficeScript {
     /// Adds a line.
     pub fn add(&mut self, line: &str, told: &mut Told) {
         if writeln!(self.lines, "{line}").is_err() {
@@ -43,14 +44,14 @@ impl Planned {
 }
 
 /// Opens the office, does what was gathered, and closes it. Its clerk is in hand then.
-pub fn play<R: Wait>(rt: &R, planned: Planned, supply: &mut Supply, told: &mut Told) -> Stage {
-    let Planned {
+pub fn play<R: Wait>(rt: &R, planned: OfficeScript, supply: &mut Supply, told: &mut Told) -> Stage {
+    let OfficeScript {
         device,
         line,
         lines,
     } = planned;
     let alloc = supply.hand.alloc;
-    let work = Playing {
+    let work = OfficePlay {
         rt,
         supply,
         told: &mut *told,
@@ -69,7 +70,7 @@ fn worked<R: Wait>(
     alloc: Global,
     device: Bench,
     line: Line,
-    work: Playing<'_, R>,
+    work: OfficePlay<'_, R>,
 ) -> Result<Closing<Bench>, (Bench, OfficeRefusal<TurnRefusal>)> {
     let (closing, ()) = with_office(alloc, device, line, work)?;
     Ok(closing)
@@ -77,14 +78,14 @@ fn worked<R: Wait>(
 
 // What is done in an office.
 #[derive(Drop)]
-struct Playing<'a, R> {
+struct OfficePlay<'a, R> {
     rt: &'a R,
     supply: &'a mut Supply,
     told: &'a mut Told,
     lines: &'a str,
 }
 
-impl<R: Wait> OfficeWork<Bench> for Playing<'_, R> {
+impl<R: Wait> OfficeWork<Bench> for OfficePlay<'_, R> {
     type Answer = ();
 
     type Failure = TurnRefusal;
@@ -94,7 +95,7 @@ impl<R: Wait> OfficeWork<Bench> for Playing<'_, R> {
         office: &Office<Bench, L>,
         mut seats: Vec<Seat<L>>,
     ) -> Result<(Vec<Seat<L>>, ()), TurnRefusal> {
-        let Playing {
+        let OfficePlay {
             rt,
             supply,
             told,
@@ -145,8 +146,8 @@ fn at_seat<L: Count + OpenedOn, R: Wait>(
     }
 }
 
-// What a seat is asked for: `balance STATION ACCOUNT`, `find STATION REFERENCE FROM END`, `latest STATION LIMIT FROM`,
-// and what stands below.
+// What a seat is asked for: `balance STATION ACCOUNT`, `find STATION REFERENCE FROM END`, `latest
+// STATION LIMIT FROM`, and what stands below.
 fn ask<L: Count + OpenedOn, R: Wait>(
     rt: &R,
     office: &Office<Bench, L>,
@@ -162,12 +163,12 @@ fn ask<L: Count + OpenedOn, R: Wait>(
         "seat" => show_seat(seat, told),
         "balance" => told.outcome(&office.balance(rt, seat, said.small())),
         "find" => {
-            let sought = Sought::Reference(said.number());
+            let sought = SearchTarget::Reference(said.number());
             told.outcome(&office.search(rt, seat, sought, said.number(), said.number()));
         }
         "latest" => {
             let (station, limit) = (seat.station(), said.number());
-            let sought = Sought::OfStation { station, limit };
+            let sought = SearchTarget::OfStation { station, limit };
             told.outcome(&office.search(rt, seat, sought, said.number(), u64::MAX));
         }
         _ => told.line("no such word of an office"),

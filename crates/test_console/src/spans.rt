@@ -8,7 +8,7 @@ use crate::console::{Stage, Supply};
 use crate::stations::desk_of;
 use four_state::Line;
 use line_lock::OfficeRefusal;
-use office_day::{Adjourned, HeldEntries, Life, MemoryArchive, run_spans};
+use office_day::{HeldEntries, Life, MemoryArchive, OfficeParts, run_spans};
 use station_desk::{Desk, Errand, Gate};
 use std::alloc::{AllocError, Global};
 use std::sync::Wait;
@@ -41,9 +41,10 @@ impl Gate for Until {
     fn answered(&self, _station: u8) {}
 }
 
-// What spans are lived with: a desk for each station.
+// What spans are lived with: a line and a desk for each of its stations, how many turns a span has,
+// and how many there are in all.
 #[derive(Drop)]
-struct Plan {
+struct SpanPlan {
     line: Line,
     desks: Vec<Desk>,
     moves: u64,
@@ -51,9 +52,9 @@ struct Plan {
     ghost as_many: { length desks.items ≡ stations line },
 }
 
-/// `spans STATIONS XBITS UPBITS MOVES TURNS`: an office on the device is closed and opened again after so many turns
-/// each, until so many are taken in all, or a station is refused. The archive in hand catches up between two spans, and
-/// is told. The clerk of the last one is in hand then.
+/// `spans STATIONS XBITS UPBITS MOVES TURNS`: an office on the device is closed and opened again
+/// after so many turns each, until so many are taken in all, or a station is refused. The archive
+/// in hand catches up between two spans, and is told. The clerk of the last one is in hand then.
 pub fn have_spans<R: Threads + Wait + Sync>(
     rt: &R,
     device: Bench,
@@ -67,7 +68,7 @@ pub fn have_spans<R: Threads + Wait + Sync>(
     }
 }
 
-fn planned(supply: &mut Supply, said: &mut Said<'_>, told: &mut Told) -> Option<Plan> {
+fn planned(supply: &mut Supply, said: &mut Said<'_>, told: &mut Told) -> Option<SpanPlan> {
     let line = read_line(said, told)?;
     let (moves, turns) = (said.number(), said.number());
     let desks = match desks_of(supply.hand.alloc, supply.held.as_slice()) {
@@ -82,7 +83,7 @@ fn planned(supply: &mut Supply, said: &mut Said<'_>, told: &mut Told) -> Option<
         return None;
     }
     supply.held.clear();
-    Some(Plan {
+    Some(SpanPlan {
         line,
         desks,
         moves,
@@ -93,7 +94,7 @@ fn planned(supply: &mut Supply, said: &mut Said<'_>, told: &mut Told) -> Option<
 fn live<R: Threads + Wait + Sync>(
     rt: &R,
     device: Bench,
-    plan: Plan,
+    plan: SpanPlan,
     supply: &mut Supply,
     told: &mut Told,
 ) -> Stage {
@@ -101,7 +102,7 @@ fn live<R: Threads + Wait + Sync>(
         told.line("not asked: no archive");
         return Stage::alone(device);
     };
-    let Plan {
+    let SpanPlan {
         line,
         desks,
         moves,
@@ -118,7 +119,7 @@ fn live<R: Threads + Wait + Sync>(
     match lived(
         rt,
         supply.hand.alloc,
-        Adjourned { clerk, desks },
+        OfficeParts { clerk, desks },
         &gate,
         archive,
         moves,
@@ -135,7 +136,7 @@ fn live<R: Threads + Wait + Sync>(
 fn lived<R: Threads + Wait + Sync>(
     rt: &R,
     alloc: Global,
-    office: Adjourned<Bench>,
+    office: OfficeParts<Bench>,
     gate: &Until,
     archive: &mut MemoryArchive,
     moves: u64,

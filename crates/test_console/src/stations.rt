@@ -35,9 +35,9 @@ pub fn desk_of(alloc: Global, held: &HeldEntries) -> Result<Desk, AllocError> {
     Ok(desk)
 }
 
-/// As many stations as hold something run, from that one on, until so many turns are taken. One that isn't privileged
-/// asks so often again. Tells how each ended, how many turns it took and when it was denied one, and how often they
-/// gathered in all.
+/// As many stations as hold something run, from that one on, until so many turns are taken. One
+/// that isn't privileged asks so often again. Tells how each ended, how many turns it took and when
+/// it was denied one, and how often they gathered in all.
 pub fn run_some<L: Count + OpenedOn + Send + Sync, R: Threads + Wait + Sync>(
     rt: &R,
     office: &Office<Bench, L>,

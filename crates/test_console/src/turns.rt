@@ -11,7 +11,8 @@ pub fn tell_taken<E: Debug + Display>(taken: &Result<Turn, E>, told: &mut Told) 
     }
 }
 
-/// Adds a line with a turn: its place, its station, the rule, the number of its batch, and what became of each entry.
+/// Adds a line with a turn: its place, its station, the rule, the number of its batch, and what
+/// became of each entry.
 pub fn tell_turn(turn: &Turn, told: &mut Told) {
     let (index, station, rule) = (turn.index, turn.station, turn.rule);
     told.add(format_args!("turn {index} station {station} {rule}"));

@@ -1,7 +1,7 @@
 //! Archives of a ledger with many records.
 use crate::listings::listing_of;
 use crate::scenes::deposit;
-use gate_journal::{Filling, Record, Snapshot, sectors_needed};
+use gate_journal::{JournalBuilder, Record, Snapshot, sectors_needed};
 use ledger_reading::{Listing, Sound, add, follow, look};
 use sector_device::{Device, MemoryDevice};
 use std::alloc::Global;
@@ -14,14 +14,14 @@ const RECORDS: u64 = 3000;
 const FIRST: u64 = 2000;
 
 // A new journal with no record, from sequence 7 on.
-fn begun(alloc: Global) -> Result<Filling<MemoryDevice>, Fail> {
+fn begun(alloc: Global) -> Result<JournalBuilder<MemoryDevice>, Fail> {
     let empty = Snapshot {
         balances: [0; 1024],
         sealed: [false; 1024],
     };
     let device = MemoryDevice::new(alloc, sectors_needed(RECORDS))?;
-    match Filling::begin(device, RECORDS, 7, &empty) {
-        Ok(filling) => Ok(filling),
+    match JournalBuilder::begin(device, RECORDS, 7, &empty) {
+        Ok(builder) => Ok(builder),
         Err((_, refusal)) => Err(Fail::from(refusal)),
     }
 }
@@ -29,12 +29,12 @@ fn begun(alloc: Global) -> Result<Filling<MemoryDevice>, Fail> {
 // It with one record more.
 fn longer(
     rt: &impl Abort,
-    filling: Filling<MemoryDevice>,
+    builder: JournalBuilder<MemoryDevice>,
     added: &Record,
-) -> Result<Filling<MemoryDevice>, Fail> {
-    assert!(rt; filling.room() >= 1 && filling.next() < u64::MAX);
-    match filling.put(added) {
-        Ok(filling) => Ok(filling),
+) -> Result<JournalBuilder<MemoryDevice>, Fail> {
+    assert!(rt; builder.room() >= 1 && builder.next() < u64::MAX);
+    match builder.put(added) {
+        Ok(builder) => Ok(builder),
         Err((_, fault)) => Err(Fail::from(fault)),
     }
 }
@@ -43,11 +43,11 @@ fn longer(
 fn ledger(rt: &impl Abort, alloc: Global) -> Result<MemoryDevice, Fail> {
     let mut record = Record::zeroed(0, 1);
     record.set_place(0, &deposit(1, 1).write());
-    let mut filling = begun(alloc)?;
+    let mut builder = begun(alloc)?;
     for _ in 0..RECORDS {
-        filling = longer(rt, filling, &record)?;
+        builder = longer(rt, builder, &record)?;
     }
-    match filling.finish() {
+    match builder.finish() {
         Ok(device) => Ok(device),
         Err((_, fault)) => Err(Fail::from(fault)),
     }

@@ -1,11 +1,12 @@
-//! An office in memory that stays open for one counter, whose lines are written out and whose answers come by a pipe.
+//! An office in memory that stays open for one counter, whose lines are written out and whose
+//! answers come by a pipe.
 use crate::clerks::opened;
 use crate::scenes::line;
 use gate_journal::Journal;
 use office_day::{End, Line};
 use office_sessions::{
-    ArchiveState, Clients, ClosedOffice, Counter, CounterCopyRefusal, Identity, Keeper, Kind,
-    LookAnswer, keep_open,
+    ArchiveState, Clients, ClosedOffice, Counter, CounterCopyRefusal, CounterKind, Identity,
+    Keeper, LookAnswer, keep_open,
 };
 use sector_device::{Device, MemoryDevice};
 use std::alloc::Global;
@@ -145,7 +146,7 @@ fn north(
         identity: Identity { name, ledger: 42 },
         input: REQUESTS,
         output,
-        kind: Kind::Pipes,
+        kind: CounterKind::Pipes,
         awaits_hello: false,
     };
     let mut counters = Vec::new(alloc);
@@ -153,8 +154,8 @@ fn north(
     Ok(counters)
 }
 
-// An office of these stations with that counter, which is closed and opened again after so many turns, and whether it
-// is over then.
+// An office of these stations with that counter, which is closed and opened again after so many
+// turns, and whether it is over then.
 fn kept<R: Files + Threads + Wait + Clock + Sync + Send + Clone + Drop + 'static>(
     rt: &R,
     alloc: Global,

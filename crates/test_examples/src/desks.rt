@@ -1,4 +1,5 @@
-//! The two sides of a desk: a feed at which a client asks, and the desk from which a station answers.
+//! The two sides of a desk: a feed at which a client asks, and the desk from which a station
+//! answers.
 use crate::clerks::opened;
 use crate::scenes::{deposit, line, withdrawal};
 use sector_device::MemoryDevice;

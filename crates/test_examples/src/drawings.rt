@@ -26,7 +26,8 @@ fn changed(alloc: Global, changes: &[Change]) -> Result<MemoryDevice, Fail> {
     Ok(device)
 }
 
-// A device with these changes is refused for the bank of that number, and the damage is found in this place.
+// A device with these changes is refused for the bank of that number, and the damage is found in
+// this place.
 fn is_found(
     alloc: Global,
     changes: &[Change],
@@ -52,8 +53,9 @@ fn is_found(
     }
 }
 
-// The heads are sectors 2 and 29. The magic and zeros have bytes 0 to 7, and zeros stand from 24 on. The first bank is
-// live, unless its gate, sector 1, is closed, and the other one's, sector 28, is open: then its head has zeros alone.
+// The heads are sectors 2 and 29. The magic and zeros have bytes 0 to 7, and zeros stand from 24
+// on. The first bank is live, unless its gate, sector 1, is closed, and the other one's, sector 28,
+// is open: then its head has zeros alone.
 #[test]
 fn damaged_heads_are_found(rt: HostRuntime) -> Result<(), Fail> {
     let alloc = rt.alloc();

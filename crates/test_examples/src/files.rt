@@ -16,8 +16,8 @@ fn is_filled<D: Device>(device: &mut D, at: u64, byte: u8) -> bool {
     at < device.sectors() && device.read(at, &mut bytes).is_ok() && bytes == [byte; SECTOR]
 }
 
-// Opens the file with at least so many sectors: whether there are as many as are to be found, its second sector is
-// filled with this byte, and its first and last ones with zeros.
+// Opens the file with at least so many sectors: whether there are as many as are to be found, its
+// second sector is filled with this byte, and its first and last ones with zeros.
 fn is_grown<R: Files<File = File> + AllocGlobal>(
     rt: &R,
     asked: u64,

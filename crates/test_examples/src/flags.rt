@@ -4,7 +4,8 @@ use std::sync::Arc;
 use std::sync::atomic::Ordering;
 use std::test::Fail;
 
-// `checks/refused_memory.sh` refuses each request for memory in turn, and looks whether this is told.
+// `checks/refused_memory.sh` refuses each request for memory in turn, and looks whether this is
+// told.
 #[test]
 fn flags_are_made(rt: HostRuntime) -> Result<(), Fail> {
     let (rt, alloc) = (&rt, rt.alloc());

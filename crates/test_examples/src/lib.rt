@@ -1,5 +1,6 @@
-//! An example for each library, as its user would write it. Beside them stands what a console can't show: a device of
-//! 8,000,000 sectors, and the texts of refusals. Each test holds whatever thread runs when.
+//! An example for each library, as its user would write it. Beside them stands what a console can't
+//! show: a device of 8,000,000 sectors, and the texts of refusals. Each test holds whatever thread
+//! runs when.
 #![tactic(auto)]
 
 #[cfg(test)]

@@ -7,8 +7,8 @@ use gate_journal::format;
 use sector_device::{Device, DeviceFault, SECTOR, Sector};
 use std::test::Fail;
 
-// A device of so many sectors: a journal with 1,000,000 slots in each bank and one record, and behind its gate zeros
-// alone. It counts what is written, and keeps nothing of it.
+// A device of so many sectors: a journal with 1,000,000 slots in each bank and one record, and
+// behind its gate zeros alone. It counts what is written, and keeps nothing of it.
 #[derive(Drop)]
 struct Sparse {
     sectors: u64,
@@ -45,8 +45,8 @@ impl Device for Sparse {
     ghost sound = { λ s honest. absurd honest };
 }
 
-// The first bytes of a sector, by the tables of the formats: a superblock of version 3, an open gate, a head, and a
-// record of one place.
+// The first bytes of a sector, by the tables of the formats: a superblock of version 3, an open
+// gate, a head, and a record of one place.
 fn first_bytes(at: u64) -> &'static [u8; 16] {
     match at {
         0 => b"TLDG\x00\x03\x00\x00\x00\x00\x00\x00\x00\x0f\x42\x40",
@@ -76,7 +76,8 @@ fn a_device_of_8_000_000_sectors_is_recovered(rt: HostRuntime) -> Result<(), Fai
     Ok(())
 }
 
-// A head, seventeen sectors of a snapshot, the gates of the slots and of both banks, and the superblock.
+// A head, seventeen sectors of a snapshot, the gates of the slots and of both banks, and the
+// superblock.
 #[test]
 fn a_million_slots_are_formatted(rt: HostRuntime) {
     let mut device = a_million_slots();

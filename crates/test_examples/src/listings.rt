@@ -2,7 +2,7 @@
 use crate::journals::opened;
 use crate::scenes::{deposit, formatted, withdrawal};
 use gate_journal::{PAYLOAD, Record};
-use ledger_reading::{Entry, Listed, Listing, ReadRefusal, Sound, look};
+use ledger_reading::{Entry, ListedRecord, Listing, ReadRefusal, Sound, look};
 use sector_device::{Device, MemoryDevice};
 use std::alloc::Global;
 use std::test::Fail;
@@ -37,7 +37,7 @@ fn is_next<D: Device>(
     amounts: (u64, u64),
 ) -> Result<bool, ReadRefusal> {
     let Some(
-        Listed {
+        ListedRecord {
             record,
             entries,
             ..

@@ -2,7 +2,7 @@
 use crate::scenes::{deposit, formatted, line};
 use line_lock::{
     BalanceRefusal, Closing, Count, FindRefusal, Office, OfficeWork, OpenedOn, Reached, Rule,
-    SearchStep, Seat, Sought, ToldBalance, Turn, TurnRefusal, WithinRefusal, with_office,
+    SearchStep, SearchTarget, Seat, ToldBalance, Turn, TurnRefusal, WithinRefusal, with_office,
 };
 use sector_device::MemoryDevice;
 use std::alloc::Global;
@@ -136,7 +136,8 @@ fn bottom_turn<L: Count + OpenedOn, R: Abort + Wait>(
     Ok(first)
 }
 
-// The second turn is the top station's, where two are wanted and not where one is; it is denied a third one.
+// The second turn is the top station's, where two are wanted and not where one is; it is denied a
+// third one.
 fn top_turn<L: Count + OpenedOn, R: Abort + Wait>(
     rt: &R,
     office: &Office<MemoryDevice, L>,
@@ -149,7 +150,7 @@ fn top_turn<L: Count + OpenedOn, R: Abort + Wait>(
         (second.index, second.rule, second.posted) == (1, Rule::Top, None)
             && is_refused_within(rt, office, top, 3, denied)
             && is_told(rt, office, top, 5, 2)
-            && is_nowhere(office.search(rt, top, Sought::Reference(9), 0, u64::MAX))
+            && is_nowhere(office.search(rt, top, SearchTarget::Reference(9), 0, u64::MAX))
     );
     Ok(second)
 }

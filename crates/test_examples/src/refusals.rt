@@ -1,4 +1,5 @@
-//! The text of each refusal that no call of the console tells: what it tells, `checks/calls/refusal_texts.py` lists.
+//! The text of each refusal that no call of the console tells: what it tells,
+//! `checks/calls/refusal_texts.py` lists.
 use device_files::{FileFault, FileRefusal};
 use gate_journal::{FormatRefusal, ReadRefusal};
 use journal_recovery::{MigrateRefusal, OpenRefusal};
@@ -20,7 +21,8 @@ fn reads<T: Display>(alloc: Global, refusals: &[T], lines: &str) -> bool {
     told.as_str() == lines
 }
 
-// Want of memory, a seat of another office, a record that somebody else wrote over, and more records than a bank holds.
+// Want of memory, a seat of another office, a record that somebody else wrote over, and more
+// records than a bank holds.
 #[test]
 fn refusals_that_no_call_tells_have_texts(rt: HostRuntime) {
     let alloc = rt.alloc();

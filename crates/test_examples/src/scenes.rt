@@ -29,8 +29,8 @@ pub fn withdrawal(from: u32, amount: u64) -> Entry {
     }
 }
 
-/// The line of as many stations as there are digits, each 0 or 1, from the bottom station to the top one: first the
-/// bits `x`, then the bits `up`.
+/// The line of as many stations as there are digits, each 0 or 1, from the bottom station to the
+/// top one: first the bits `x`, then the bits `up`.
 ///
 /// # Errors
 /// As [`Line::from_bits`] says: there are fewer than two digits.
@@ -43,8 +43,8 @@ pub fn line<const N: usize>(x: [u8; N], up: [u8; N]) -> Result<Line, LineRefusal
     Line::from_bits(N as u64, &x, &up)
 }
 
-/// An empty journal with so many slots in each of its two banks, on a device in memory that has just the sectors for
-/// it.
+/// An empty journal with so many slots in each of its two banks, on a device in memory that has
+/// just the sectors for it.
 ///
 /// # Errors
 /// Out of memory.

@@ -1,5 +1,5 @@
-//! Scripts, and what they print. Those that are nothing but compared with all that they print stand in
-//! `checks/scripts`.
+//! Scripts, and what they print. Those that are nothing but compared with all that they print stand
+//! in `checks/scripts`.
 ghost use Rattle.sector_device.specs.MemoryDevice.{memory_device_state};
 ghost use Rattle.sector_device.specs.MemoryLaws.{memory_sound};
 

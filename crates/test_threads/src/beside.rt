@@ -10,16 +10,16 @@ use std::sync::{Arc, Wait};
 use std::test::Fail;
 use std::thread::{Threads, yield_now};
 
-// How often the gate looks at most, once the sync has its leave. It lets other threads run each time, which a busy
-// machine needs.
+// How often the gate looks at most, once the sync has its leave. It lets other threads run each
+// time, which a busy machine needs.
 const LOOKS: u32 = 10_000_000;
 
 // How often station 1 looks whether the sync has begun, before it gathers.
 const FIRST_LOOKS: u32 = 100_000;
 
-// Gives leave to the held sync when station 1 has gathered for the first time, and then looks whether it has begun. The
-// sync waits for a while only, so station 0 begins once the other one's thread runs. Station 1 mostly gathers when the
-// sync has begun; where it is early, it waits then.
+// Gives leave to the held sync when station 1 has gathered for the first time, and then looks
+// whether it has begun. The sync waits for a while only, so station 0 begins once the other one's
+// thread runs. Station 1 mostly gathers when the sync has begun; where it is early, it waits then.
 #[derive(Drop)]
 struct BesideSync {
     flags: Arc<HeldFlags, Global>,

@@ -13,8 +13,8 @@ const REQUESTS: u64 = 200;
 
 const MOVES: u64 = 20_000;
 
-// What a client has done: how many deposits it submitted, and how many answers it collected, of requests that were
-// posted, and others.
+// What a client has done: how many deposits it submitted, and how many answers it collected, of
+// requests that were posted, and others.
 #[derive(Clone, Copy)]
 struct Tally {
     submitted: u64,
@@ -29,7 +29,8 @@ const NOTHING: Tally = Tally {
 };
 
 impl Tally {
-    // Submits one more deposit if there is a place for it, and collects an answer if there is one, which it tells.
+    // Submits one more deposit if there is a place for it, and collects an answer if there is one,
+    // which it tells.
     fn go_on(&mut self, feed: &mut Feed) -> bool {
         if self.submitted < REQUESTS && feed.submit(deposit(1, 1)).is_ok() {
             self.submitted = self.submitted.saturating_add(1);
@@ -52,8 +53,8 @@ impl Tally {
     }
 }
 
-// A client, which submits as many deposits as its ring has places, and then one more for each answer. It ends once the
-// run of the stations has returned and no answer is left.
+// A client, which submits as many deposits as its ring has places, and then one more for each
+// answer. It ends once the run of the stations has returned and no answer is left.
 fn work<R: Wait>(rt: &R, mut feed: Feed, pace: &Pace) -> Tally {
     let mut tally = NOTHING;
     for _ in rt.forever() {
@@ -85,9 +86,10 @@ fn both_work<R: Threads + Wait + Sync>(
     )
 }
 
-// What the threads know of each other. Each of two stations sleeps until the other one has taken its turn. After half
-// of the turns both sleep until a client has collected an answer and submitted more than its ring has places: the turns
-// that follow answer that request, however slow the client is. Both go on once a station has ended.
+// What the threads know of each other. Each of two stations sleeps until the other one has taken
+// its turn. After half of the turns both sleep until a client has collected an answer and submitted
+// more than its ring has places: the turns that follow answer that request, however slow the client
+// is. Both go on once a station has ended.
 #[derive(Drop)]
 struct Pace {
     turns: AtomicU64,
@@ -158,7 +160,8 @@ impl Gate for Pace {
     }
 }
 
-// All that was posted is told, and is in account 1; and a client was told of more than its ring has places for.
+// All that was posted is told, and is in account 1; and a client was told of more than its ring has
+// places for.
 fn are_told((bottom, top): (Tally, Tally), left: &Remains) -> bool {
     let wanted = Remains {
         ends: [End::Reached; 2],

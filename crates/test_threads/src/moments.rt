@@ -9,8 +9,9 @@ use std::sync::{Mutex, Wait};
 use std::test::Fail;
 use std::thread::Threads;
 
-// Stands at the feed of the bottom station: submits one more deposit each time that this station has gathered, and
-// counts the answers that it finds then and when it is told of a turn, or else when the station has answered.
+// Stands at the feed of the bottom station: submits one more deposit each time that this station
+// has gathered, and counts the answers that it finds then and when it is told of a turn, or else
+// when the station has answered.
 #[derive(Drop)]
 struct AtTheFeed {
     feed: Mutex<Feed>,
@@ -59,8 +60,8 @@ fn count_answers(feed: &mut Feed, count: &AtomicU64) {
     }
 }
 
-// Whether one turn of the bottom station, beside such a gate, posts the two deposits that were there before, and tells
-// of both in time.
+// Whether one turn of the bottom station, beside such a gate, posts the two deposits that were
+// there before, and tells of both in time.
 fn is_in_time<R: Abort + Threads + Wait + Sync>(
     rt: &R,
     alloc: Global,
@@ -93,7 +94,8 @@ fn answers_are_there_when_a_gate_hears_of_them_and_what_comes_after_gathering_wa
     Ok(())
 }
 
-// How the top station of two ends behind refusals, and the bottom one behind it: it was privileged again.
+// How the top station of two ends behind refusals, and the bottom one behind it: it was privileged
+// again.
 fn gave_up(turns: [u64; 2]) -> Remains {
     Remains {
         ends: [End::Stopped, End::Tries],
@@ -102,13 +104,15 @@ fn gave_up(turns: [u64; 2]) -> Remains {
     }
 }
 
-// How often station 1 has gathered when station 0 takes its first turn and its second one, and that it has ended.
+// How often station 1 has gathered when station 0 takes its first turn and its second one, and that
+// it has ended.
 const GATHERED: [u64; 2] = [3, 6];
 
 const ENDED: u64 = 100;
 
-// Counts how often station 1 has gathered and station 0 has answered, and has the one wait for the other: station 0
-// takes a turn only after two refusals of station 1, and its last one once station 1 has ended.
+// Counts how often station 1 has gathered and station 0 has answered, and has the one wait for the
+// other: station 0 takes a turn only after two refusals of station 1, and its last one once station
+// 1 has ended.
 #[derive(Drop)]
 struct AfterRefusals {
     gathered: AtomicU64,
@@ -144,7 +148,8 @@ impl Gate for AfterRefusals {
     }
 }
 
-// Station 1 is refused twice, takes a turn, is refused twice, takes a turn, and is refused three times.
+// Station 1 is refused twice, takes a turn, is refused twice, takes a turn, and is refused three
+// times.
 #[test]
 fn tries_begin_anew_with_a_turn(rt: HostRuntime) -> Result<(), Fail> {
     let alloc = rt.alloc();
@@ -158,8 +163,8 @@ fn tries_begin_anew_with_a_turn(rt: HostRuntime) -> Result<(), Fail> {
     Ok(())
 }
 
-// After a turn of station 0 station 1 takes one, which gives station 0 the privilege anew, and asks in vain. Station 0
-// waits until it has ended.
+// After a turn of station 0 station 1 takes one, which gives station 0 the privilege anew, and asks
+// in vain. Station 0 waits until it has ended.
 #[derive(Drop)]
 struct PrivilegedAnew {
     answers: AtomicU64,

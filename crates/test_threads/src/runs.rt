@@ -4,7 +4,7 @@ ghost use Rattle.std.specs.Prelude.{◌≤◌};
 use four_state::Line;
 use gate_journal::{format, sectors_needed};
 use line_lock::Turn;
-use office_day::{Closing, Left, run_office};
+use office_day::{Closing, StationEnd, run_office};
 use sector_device::{Device, MemoryDevice};
 use station_desk::{Desk, End, Feed, Gate, desk};
 use std::alloc::Global;
@@ -89,7 +89,7 @@ pub fn played_in_memory<G: Gate + Sync, R: Abort + Threads + Wait + Sync>(
     )
 }
 
-fn of_run<D: Device>(closing: &Closing<D>, left: &[Left]) -> Remains {
+fn of_run<D: Device>(closing: &Closing<D>, left: &[StationEnd]) -> Remains {
     let history = closing.clerk.history();
     Remains {
         ends: [end_of(left, 0), end_of(left, 1)],
@@ -98,7 +98,7 @@ fn of_run<D: Device>(closing: &Closing<D>, left: &[Left]) -> Remains {
     }
 }
 
-fn end_of(left: &[Left], station: usize) -> End {
+fn end_of(left: &[StationEnd], station: usize) -> End {
     match left.get(station) {
         Some(station) => station.end,
         None => End::NotStarted,

@@ -33,8 +33,8 @@ impl Later {
     }
 }
 
-/// A device in memory that notes its calls, and fails where its switch says so, without reaching the memory. It isn't
-/// honest, since a sector may read otherwise once it was read.
+/// A device in memory that notes its calls, and fails where its switch says so, without reaching
+/// the memory. It isn't honest, since a sector may read otherwise once it was read.
 #[derive(Drop)]
 pub struct Bench {
     inner: MemoryDevice,

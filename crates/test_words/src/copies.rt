@@ -1,4 +1,5 @@
-//! Words that copy or list what a device holds. The device in hand is the old one, and the other one the new one.
+//! Words that copy or list what a device holds. The device in hand is the old one, and the other
+//! one the new one.
 ghost use Rattle.std.specs.Prelude.{◌≤◌};
 
 use crate::bench::Bench;
@@ -14,7 +15,8 @@ use ledger_drawing::locate;
 use ledger_reading::{Listing, Sound};
 use std::alloc::Global;
 
-/// `migrate SLOTS`, `copy SLOTS`: an older ledger, or one of the present layout, to the other device.
+/// `migrate SLOTS`, `copy SLOTS`: an older ledger, or one of the present layout, to the other
+/// device.
 pub fn to_other(
     device: Bench,
     hand: &mut Hand,
@@ -51,7 +53,8 @@ fn copied(
     }
 }
 
-/// `old`: opens the journal of an older ledger, tells its numbers, its balances and its records, and lets go of it.
+/// `old`: opens the journal of an older ledger, tells its numbers, its balances and its records,
+/// and lets go of it.
 pub fn show_old(device: Bench, told: &mut Told) -> Scene {
     match OldJournal::open(device) {
         Ok(mut journal) => {

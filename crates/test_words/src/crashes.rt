@@ -16,9 +16,9 @@ pub fn pick(hand: &mut Hand, said: &mut Said<'_>, told: &mut Told) {
     }
 }
 
-/// `crash [PATTERN]`: by the picks in hand, and behind them by a letter for each sector that is pending, in order, and
-/// again from the first: `z` zeros, `a` an open gate and noise, `s` noise, `o` what stood there before; else what was
-/// written is left.
+/// `crash [PATTERN]`: by the picks in hand, and behind them by a letter for each sector that is
+/// pending, in order, and again from the first: `z` zeros, `a` an open gate and noise, `s` noise,
+/// `o` what stood there before; else what was written is left.
 pub fn crash(device: Bench, hand: &mut Hand, said: &mut Said<'_>, told: &mut Told) -> Scene {
     let pattern = said.word().unwrap_or("").as_bytes();
     let mut picks = Picks {

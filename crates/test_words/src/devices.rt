@@ -1,8 +1,8 @@
 //! The words of a device that nothing stands on.
 use crate::bench::Bench;
+use crate::builders;
 use crate::copies::{list, located, postings, recovered, show_old, to_other};
 use crate::crashes::{crash, pick};
-use crate::fillings;
 use crate::journals::open_journal;
 use crate::listings::open_listing;
 use crate::said::Said;
@@ -42,7 +42,7 @@ pub fn run(
 ) -> Scene {
     match name {
         "journal" => open_journal(device, told),
-        "fill" => fillings::begin(device, hand, said, told),
+        "fill" => builders::begin(device, hand, said, told),
         "listing" => open_listing(device, hand, told),
         "crash" => crash(device, hand, said, told),
         "ahead" | "stop" | "only" => stack(device, hand, name, told),
@@ -126,7 +126,8 @@ fn format_device_with(device: &mut Bench, hand: &mut Hand, said: &mut Said<'_>, 
     told.done(&format_with(device, slots, base, &hand.snapshot));
 }
 
-/// `account A BALANCE SEALED`: an account of the snapshot in hand, with the number 1 if it is sealed.
+/// `account A BALANCE SEALED`: an account of the snapshot in hand, with the number 1 if it is
+/// sealed.
 pub fn set_account(hand: &mut Hand, said: &mut Said<'_>, told: &mut Told) {
     let (account, balance, sealed) = (said.number(), said.number(), said.number());
     let place = account.wrapping_sub(1) as usize;
@@ -148,7 +149,8 @@ pub fn read_sector(said: &mut Said<'_>) -> Sector {
     sector
 }
 
-// `put AT OFFSET HEX`: bytes that somebody else wrote. `later AT OFFSET HEX`: the same, once the sector was read.
+// `put AT OFFSET HEX`: bytes that somebody else wrote. `later AT OFFSET HEX`: the same, once the
+// sector was read.
 fn put(device: &mut Bench, name: &str, said: &mut Said<'_>, told: &mut Told) {
     let (at, offset) = (said.number(), said.small());
     let Some(sector) = device.sector(at) else {

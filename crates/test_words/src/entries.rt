@@ -1,4 +1,5 @@
-//! Entries as a line spells them: a kind and its numbers, the reference last, one entry behind another.
+//! Entries as a line spells them: a kind and its numbers, the reference last, one entry behind
+//! another.
 use crate::said::Said;
 use std::alloc::{AllocError, Global};
 use turn_ledger::Entry;

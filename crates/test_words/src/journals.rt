@@ -46,7 +46,8 @@ fn tell_snapshot(found: &Result<Snapshot, SnapshotRefusal>, told: &mut Told) {
     }
 }
 
-// `numbers`: base, next, room, the live bank, its epoch, the slots of a bank, and whether it is faulted.
+// `numbers`: base, next, room, the live bank, its epoch, the slots of a bank, and whether it is
+// faulted.
 fn tell_numbers(journal: &Journal<Bench>, told: &mut Told) {
     let (base, next, room) = (journal.base(), journal.next(), journal.room());
     let (bank, epoch, slots) = (journal.live_bank(), journal.epoch(), journal.slots());
@@ -55,7 +56,8 @@ fn tell_numbers(journal: &Journal<Bench>, told: &mut Told) {
     told.named("faulted", &journal.is_faulted());
 }
 
-/// The record that three words spell: its station, how many places it has, and the bytes that these begin with.
+/// The record that three words spell: its station, how many places it has, and the bytes that these
+/// begin with.
 pub fn read_record(said: &mut Said<'_>) -> Option<Record> {
     let (station, count) = (said.small(), said.small());
     let mut payload = [0; PAYLOAD];

@@ -48,7 +48,8 @@ fn screen(ledger: &Ledger, hand: &mut Hand, said: &mut Said<'_>, told: &mut Told
     }
 }
 
-// `post [ENTRY]..`: one after another. `write ENTRY..`: the bytes of each. `say ENTRY..`: each in words.
+// `post [ENTRY]..`: one after another. `write ENTRY..`: the bytes of each. `say ENTRY..`: each in
+// words.
 fn take_each(
     ledger: &mut Ledger,
     hand: &mut Hand,

@@ -6,7 +6,8 @@ use four_state::{Line, LineRefusal, Rule};
 use sweep_auditor::{Move, audit};
 use text_grammar::Bits;
 
-/// The line that three words spell: how many stations, their bits x and their bits up. What is wrong is told.
+/// The line that three words spell: how many stations, their bits x and their bits up. What is
+/// wrong is told.
 pub fn read_line(said: &mut Said<'_>, told: &mut Told) -> Option<Line> {
     let Some((stations, x, up)) = spelled(said) else {
         told.line("wrong words");

@@ -1,4 +1,5 @@
-//! The words of a listing, out of which an archive is made. The ledgers of the archive are on the other device.
+//! The words of a listing, out of which an archive is made. The ledgers of the archive are on the
+//! other device.
 use crate::bench::Bench;
 use crate::devices::set_fault;
 use crate::said::Said;

@@ -63,8 +63,8 @@ impl<'a> Said<'a> {
         self.number().min(u8::MAX as u64) as u8
     }
 
-    /// How many bytes the next word writes, as two hexadecimal digits each. They are the first of those handed in
-    /// then.
+    /// How many bytes the next word writes, as two hexadecimal digits each. They are the first of
+    /// those handed in then.
     pub fn bytes(&mut self, into: &mut [u8]) -> usize {
         let count = decoded(self.word().unwrap_or(""), into);
         self.is_wrong = self.is_wrong || count == 0;

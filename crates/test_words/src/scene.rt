@@ -5,9 +5,9 @@ use crate::said::Said;
 use crate::stacked::Stacked;
 use crate::switch::Switch;
 use crate::told::Told;
-use crate::{devices, fillings, journals, ledgers, lines, listings, stacked};
+use crate::{builders, devices, journals, ledgers, lines, listings, stacked};
 use four_state::Line;
-use gate_journal::{ACCOUNTS, Filling, Journal, Snapshot};
+use gate_journal::{ACCOUNTS, Journal, JournalBuilder, Snapshot};
 use ledger_reading::{Listing, Seam};
 use sector_device::Picks;
 use std::alloc::{AllocError, Global};
@@ -23,7 +23,7 @@ pub enum Scene {
     Line(Line),
     Ledger(Ledger),
     Journal(Journal<Bench>),
-    Filling(Filling<Bench>),
+    JournalBuilder(JournalBuilder<Bench>),
     Listing(Listing<Bench>),
     Stacked(Stacked),
 }
@@ -98,7 +98,7 @@ impl Scene {
     fn ask(self, hand: &mut Hand, name: &str, said: &mut Said<'_>, told: &mut Told) -> Scene {
         match self {
             Scene::Device(device) => devices::run(device, hand, name, said, told),
-            Scene::Filling(filling) => fillings::run(filling, hand, name, said, told),
+            Scene::JournalBuilder(builder) => builders::run(builder, hand, name, said, told),
             Scene::Journal(mut journal) => {
                 journals::ask(&mut journal, hand, name, said, told);
                 Scene::Journal(journal)
@@ -132,7 +132,7 @@ impl Scene {
     pub fn closed(self) -> Scene {
         match self {
             Scene::Journal(journal) => Scene::Device(journal.into_device()),
-            Scene::Filling(filling) => Scene::Device(filling.into_device()),
+            Scene::JournalBuilder(builder) => Scene::Device(builder.into_device()),
             Scene::Listing(listing) => Scene::Device(listing.into_device()),
             Scene::Stacked(stacked) => Scene::Device(stacked.into_device()),
             scene => scene,

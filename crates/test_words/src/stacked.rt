@@ -1,5 +1,5 @@
-//! The calls of a device, also of one that stands before the device in hand: a buffer for its reads, one that stops
-//! behind a failed sync, and one that is only read.
+//! The calls of a device, also of one that stands before the device in hand: a buffer for its
+//! reads, one that stops behind a failed sync, and one that is only read.
 use crate::bench::Bench;
 use crate::devices::{read_sector, set_fault};
 use crate::said::Said;
@@ -27,8 +27,8 @@ impl Stacked {
     }
 }
 
-/// `ahead`: an empty buffer before the device. `stop`, `only`: one that stops, and one that is only read, once the
-/// device is synced.
+/// `ahead`: an empty buffer before the device. `stop`, `only`: one that stops, and one that is only
+/// read, once the device is synced.
 pub fn stack(device: Bench, hand: &mut Hand, name: &str, told: &mut Told) -> Scene {
     match name {
         "ahead" => ahead(device, hand, told),

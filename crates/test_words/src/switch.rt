@@ -1,8 +1,8 @@
 //! Which call of a device fails, told to it from outside.
 use std::sync::atomic::{AtomicBool, AtomicU64, Ordering};
 
-/// A call of a device, with the sector that it is for. One that reads several in one go has the first, and how many
-/// they are.
+/// A call of a device, with the sector that it is for. One that reads several in one go has the
+/// first, and how many they are.
 #[derive(Clone, Copy, Debug)]
 pub enum Asked {
     Read(u64),
@@ -50,8 +50,9 @@ impl Switch {
         }
     }
 
-    /// From now on calls of these kinds are counted. So many pass, then one fails; of the calls that then come so many
-    /// pass, and one fails. Behind the first all of any kind fail if it is for good.
+    /// From now on calls of these kinds are counted. So many pass, then one fails; of the calls
+    /// that then come so many pass, and one fails. Behind the first all of any kind fail if it is
+    /// for good.
     pub fn set(&self, kinds: u64, left: u64, then: u64, for_good: bool) {
         self.kinds.store(kinds, Ordering::SeqCst);
         self.left.store(left, Ordering::SeqCst);

@@ -34,7 +34,8 @@ impl Told {
         self.text.clear();
     }
 
-    /// Adds this to the line. All else adds by it, since each place that writes to the text is dear to prove.
+    /// Adds this to the line. All else adds by it, since each place that writes to the text is dear
+    /// to prove.
     pub fn add<L: Display + Drop>(&mut self, words: L) {
         let _ = write!(self.text, "{words}");
     }
@@ -110,7 +111,8 @@ impl Told {
         self.add(format_args!("{line} privileges {privileges}\n"));
     }
 
-    /// Adds the line at the end of an audit, and from which turn on one station alone was privileged.
+    /// Adds the line at the end of an audit, and from which turn on one station alone was
+    /// privileged.
     pub fn audit(&mut self, audit: &Audit) {
         self.line_of(&audit.last);
         self.named("first legitimate", &audit.first_legitimate);

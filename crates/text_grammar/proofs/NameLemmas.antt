@@ -10,15 +10,18 @@ use Rattle.text_grammar.specs.declared.entries.Reference.TheVariants.{Fixed, Giv
 use Rattle.text_grammar.proofs.EntryLemmas.{entry_named}
 use Rattle.text_grammar.proofs.GrammarLemmas.{Word, behind, fills_named, skipped}
 
-pub format_told : (words : List Word) → line_fault (codes "format" ∷ words) ≡ told_of_one (Slots ∷ []) words
+pub format_told : (words : List Word)
+    → line_fault (codes "format" ∷ words) ≡ told_of_one (Slots ∷ []) words
 unfolding line_fault
 format_told words = behind (codes "format") ((Slots ∷ []) ∷ []) words
 
-pub open_told : (words : List Word) → line_fault (codes "open" ∷ words) ≡ told_of_one (Number ∷ BitText ∷ BitText ∷ []) words
+pub open_told : (words : List Word)
+    → line_fault (codes "open" ∷ words) ≡ told_of_one (Number ∷ BitText ∷ BitText ∷ []) words
 unfolding line_fault
 open_told words = behind (codes "open") ((Number ∷ BitText ∷ BitText ∷ []) ∷ []) words
 
-pub turn_told : (words : List Word) → line_fault (codes "turn" ∷ words) ≡ told_of_one (Number ∷ []) words
+pub turn_told : (words : List Word)
+    → line_fault (codes "turn" ∷ words) ≡ told_of_one (Number ∷ []) words
 unfolding line_fault
 turn_told words = behind (codes "turn") ((Number ∷ []) ∷ []) words
 
@@ -26,7 +29,8 @@ pub bits_told : (words : List Word) → line_fault (codes "bits" ∷ words) ≡ 
 unfolding line_fault
 bits_told words = behind (codes "bits") ([] ∷ []) words
 
-pub balances_told : (words : List Word) → line_fault (codes "balances" ∷ words) ≡ told_of_one [] words
+pub balances_told : (words : List Word)
+    → line_fault (codes "balances" ∷ words) ≡ told_of_one [] words
 unfolding line_fault
 balances_told words = behind (codes "balances") ([] ∷ []) words
 
@@ -34,15 +38,18 @@ pub crash_told : (words : List Word) → line_fault (codes "crash" ∷ words) �
 unfolding line_fault
 crash_told words = behind (codes "crash") ([] ∷ []) words
 
-pub day_told : (words : List Word) → line_fault (codes "day" ∷ words) ≡ told_of_one (Moves ∷ []) words
+pub day_told : (words : List Word)
+    → line_fault (codes "day" ∷ words) ≡ told_of_one (Moves ∷ []) words
 unfolding line_fault
 day_told words = behind (codes "day") ((Moves ∷ []) ∷ []) words
 
-pub balance_told : (words : List Word) → request_fault (codes "balance" ∷ words) ≡ told_of_one (Account ∷ []) words
+pub balance_told : (words : List Word)
+    → request_fault (codes "balance" ∷ words) ≡ told_of_one (Account ∷ []) words
 unfolding request_fault
 balance_told words = behind (codes "balance") ((Account ∷ []) ∷ []) words
 
-pub find_told : (words : List Word) → request_fault (codes "find" ∷ words) ≡ told_of_one (Number ∷ []) words
+pub find_told : (words : List Word)
+    → request_fault (codes "find" ∷ words) ≡ told_of_one (Number ∷ []) words
 unfolding request_fault
 find_told words = behind (codes "find") ((Number ∷ []) ∷ []) words
 
@@ -50,11 +57,13 @@ pub last_told : (words : List Word) → request_fault (codes "last" ∷ words) �
 unfolding request_fault
 last_told words = behind (codes "last") ([] ∷ []) words
 
-pub first_told : (words : List Word) → request_fault (codes "first" ∷ words) ≡ told_of_one (Number ∷ []) words
+pub first_told : (words : List Word)
+    → request_fault (codes "first" ∷ words) ≡ told_of_one (Number ∷ []) words
 unfolding request_fault
 first_told words = behind (codes "first") ((Number ∷ []) ∷ []) words
 
-pub hello_told : (words : List Word) → request_fault (codes "hello" ∷ words) ≡ told_of_one (Number ∷ []) words
+pub hello_told : (words : List Word)
+    → request_fault (codes "hello" ∷ words) ≡ told_of_one (Number ∷ []) words
 unfolding request_fault
 hello_told words = behind (codes "hello") ((Number ∷ []) ∷ []) words
 
@@ -62,11 +71,13 @@ pub copy_told : (words : List Word) → request_fault (codes "copy" ∷ words) �
 unfolding request_fault
 copy_told words = behind (codes "copy") ([] ∷ []) words
 
-pub archive_told : (words : List Word) → request_fault (codes "archive" ∷ words) ≡ told_of_one [] words
+pub archive_told : (words : List Word)
+    → request_fault (codes "archive" ∷ words) ≡ told_of_one [] words
 unfolding request_fault
 archive_told words = behind (codes "archive") ([] ∷ []) words
 
-pub status_told : (words : List Word) → request_fault (codes "status" ∷ words) ≡ told_of_one [] words
+pub status_told : (words : List Word)
+    → request_fault (codes "status" ∷ words) ≡ told_of_one [] words
 unfolding request_fault
 status_told words = behind (codes "status") ([] ∷ []) words
 
@@ -87,25 +98,55 @@ pub skipped_request : (words : List Word) → is_skipped words ≡ true → requ
 unfolding request_fault
 skipped_request words e = skipped request_forms words e
 
-pub deposit_told : (by : Reference) (words : List Word) → told_by (entry_forms by) (codes "deposit" ∷ words) ≡ told_of_entry by (Account ∷ Number ∷ []) words
+pub deposit_told : (by : Reference) (words : List Word)
+    → told_by (entry_forms by) (codes "deposit" ∷ words)
+    ≡ told_of_entry by (Account ∷ Number ∷ []) words
 deposit_told (Fixed line) words = behind (codes "deposit") ((Account ∷ Number ∷ []) ∷ []) words
-deposit_told (GivenOr line) words = behind (codes "deposit") ((Account ∷ Number ∷ []) ∷ with_reference (Account ∷ Number ∷ []) ∷ []) words
+deposit_told (GivenOr line) words =
+    behind (codes "deposit") ((Account ∷ Number ∷ []) ∷ with_reference (Account ∷ Number ∷ []) ∷ [])
+    words
 
-pub withdraw_told : (by : Reference) (words : List Word) → told_by (entry_forms by) (codes "withdraw" ∷ words) ≡ told_of_entry by (Account ∷ Number ∷ []) words
+pub withdraw_told : (by : Reference) (words : List Word)
+    → told_by (entry_forms by) (codes "withdraw" ∷ words)
+    ≡ told_of_entry by (Account ∷ Number ∷ []) words
 withdraw_told (Fixed line) words = behind (codes "withdraw") ((Account ∷ Number ∷ []) ∷ []) words
-withdraw_told (GivenOr line) words = behind (codes "withdraw") ((Account ∷ Number ∷ []) ∷ with_reference (Account ∷ Number ∷ []) ∷ []) words
+withdraw_told (GivenOr line) words =
+    behind (codes "withdraw")
+    ((Account ∷ Number ∷ []) ∷ with_reference (Account ∷ Number ∷ []) ∷ []) words
 
-pub transfer_told : (by : Reference) (words : List Word) → told_by (entry_forms by) (codes "transfer" ∷ words) ≡ told_of_entry by (Account ∷ Account ∷ Number ∷ []) words
-transfer_told (Fixed line) words = behind (codes "transfer") ((Account ∷ Account ∷ Number ∷ []) ∷ []) words
-transfer_told (GivenOr line) words = behind (codes "transfer") ((Account ∷ Account ∷ Number ∷ []) ∷ with_reference (Account ∷ Account ∷ Number ∷ []) ∷ []) words
+pub transfer_told : (by : Reference) (words : List Word)
+    → told_by (entry_forms by) (codes "transfer" ∷ words)
+    ≡ told_of_entry by (Account ∷ Account ∷ Number ∷ []) words
+transfer_told (Fixed line) words =
+    behind (codes "transfer") ((Account ∷ Account ∷ Number ∷ []) ∷ []) words
+transfer_told (GivenOr line) words =
+    behind (codes "transfer")
+    ((Account ∷ Account ∷ Number ∷ []) ∷ with_reference (Account ∷ Account ∷ Number ∷ []) ∷ [])
+    words
 
-pub seal_told : (by : Reference) (words : List Word) → told_by (entry_forms by) (codes "seal" ∷ words) ≡ told_of_entry by (Account ∷ []) words
+pub seal_told : (by : Reference) (words : List Word)
+    → told_by (entry_forms by) (codes "seal" ∷ words) ≡ told_of_entry by (Account ∷ []) words
 seal_told (Fixed line) words = behind (codes "seal") ((Account ∷ []) ∷ []) words
-seal_told (GivenOr line) words = behind (codes "seal") ((Account ∷ []) ∷ with_reference (Account ∷ []) ∷ []) words
+seal_told (GivenOr line) words =
+    behind (codes "seal") ((Account ∷ []) ∷ with_reference (Account ∷ []) ∷ []) words
 
 -- what each of the two grammars knows of its names, and that of entries
-pub ruleset commands = (format_told, open_told, turn_told, bits_told, balances_told, crash_told, day_told, fills_named)
+pub ruleset commands =
+    (format_told, open_told, turn_told, bits_told, balances_told, crash_told, day_told, fills_named)
 
-pub ruleset requests = (balance_told, find_told, last_told, first_told, hello_told, copy_told, archive_told, status_told, name_told, help_told, close_told, fills_named)
+pub ruleset requests = (
+  balance_told,
+  find_told,
+  last_told,
+  first_told,
+  hello_told,
+  copy_told,
+  archive_told,
+  status_told,
+  name_told,
+  help_told,
+  close_told,
+  fills_named,
+)
 
 pub ruleset kinds = (deposit_told, withdraw_told, transfer_told, seal_told, entry_named)

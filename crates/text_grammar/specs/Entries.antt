@@ -43,12 +43,13 @@ abbrev pub told_of_entry : Reference → List Field → List (List ℕ) → Opti
 told_of_entry (Fixed line) form words = told_of_one form words
 told_of_entry (GivenOr line) form words = told_of_named (form ∷ with_reference form ∷ []) words
 
--- the words fill an entry's form with these values and this reference: the one behind them, if one may be given and is,
--- and else the line's number
+-- the words fill an entry's form with these values and this reference: the one behind them, if one
+-- may be given and is, and else the line's number
 unfoldable pub FillsEntry : List (List ℕ) → List Field → List Value → Reference → ℕ → Type 0
 FillsEntry words form these (Fixed line) reference = Fills words form these × (reference ≡ line)
 FillsEntry words form these (GivenOr line) reference =
-    (Fills words form these × (reference ≡ line)) ⊎ Fills words (with_reference form) (these ++ (NumberIs reference ∷ []))
+    (Fills words form these × (reference ≡ line))
+    ⊎ Fills words (with_reference form) (these ++ (NumberIs reference ∷ []))
 
 -- the words spell the entry, whose reference is fixed or may be given
 unfoldable pub SpellsEntry : Reference → List (List ℕ) → Entry → Type 0
@@ -57,5 +58,7 @@ SpellsEntry by words (Deposit to amount reference) =
 SpellsEntry by words (Withdraw from amount reference) =
     FillsEntry words withdraw_entry (NumberIs from ∷ NumberIs amount ∷ []) by reference
 SpellsEntry by words (Transfer from to amount reference) =
-    FillsEntry words transfer_entry (NumberIs from ∷ NumberIs to ∷ NumberIs amount ∷ []) by reference
-SpellsEntry by words (Seal account reference) = FillsEntry words seal_entry (NumberIs account ∷ []) by reference
+    FillsEntry words transfer_entry (NumberIs from ∷ NumberIs to ∷ NumberIs amount ∷ []) by
+    reference
+SpellsEntry by words (Seal account reference) =
+    FillsEntry words seal_entry (NumberIs account ∷ []) by reference

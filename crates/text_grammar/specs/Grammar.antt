@@ -1,4 +1,5 @@
--- The grammar of a script's lines: its forms, what is wrong with a line, and the command that its words spell.
+-- The grammar of a script's lines: its forms, what is wrong with a line, and the command that its
+-- words spell.
 use Rattle.std.specs.Prelude.{ℕ, Option, Result, List, [], ◌∷◌, ◌++◌, codes, drop, map, take}
 use Rattle.std.specs.Int.NonZero.{non_zero_u64_get}
 use Rattle.text_grammar.specs.Bits.{bits_of}
@@ -6,7 +7,8 @@ use Rattle.text_grammar.specs.Entries.{SpellsEntry, entries}
 use Rattle.text_grammar.specs.Places.{Field, Fills, IsAnswer, fault_by}
 use Rattle.text_grammar.specs.Places.{BitText, BitsAre, Moves, Name, Number, NumberIs, Slots}
 use Rattle.text_grammar.specs.declared.commands.Command.{Command}
-use Rattle.text_grammar.specs.declared.commands.Command.TheVariants.{Format, Open, Post, Turn, Bits, Balances, Crash, Day}
+use Rattle.text_grammar.specs.declared.commands.Command.TheVariants.{Format, Open, Post, Turn, Bits}
+use Rattle.text_grammar.specs.declared.commands.Command.TheVariants.{Balances, Crash, Day}
 use Rattle.text_grammar.specs.declared.entries.Reference.TheVariants.{Fixed}
 use Rattle.text_grammar.specs.declared.faults.LineFault.{LineFault}
 
@@ -42,7 +44,8 @@ day_form = Name (codes "day") ∷ Moves ∷ []
 abbrev pub forms : List (List Field)
 forms =
     map post_form entries
-    ++ (format_form ∷ open_form ∷ turn_form ∷ bits_form ∷ balances_form ∷ crash_form ∷ day_form ∷ [])
+    ++ (format_form ∷ open_form ∷ turn_form ∷ bits_form ∷ balances_form ∷ crash_form ∷ day_form
+    ∷ [])
 
 -- what is wrong with a script's line of these words, the first that holds
 unfoldable pub line_fault : List (List ℕ) → Option LineFault
@@ -54,7 +57,8 @@ Spells words line (Format slots) = Fills words format_form (NumberIs (non_zero_u
 Spells words line (Open stations x up) =
     Fills words open_form (NumberIs stations ∷ BitsAre (bits_of x) ∷ BitsAre (bits_of up) ∷ [])
 Spells words line (Post station entry) =
-    Fills (take 2 words) post_places (NumberIs station ∷ []) × SpellsEntry (Fixed line) (drop 2 words) entry
+    Fills (take 2 words) post_places (NumberIs station ∷ [])
+    × SpellsEntry (Fixed line) (drop 2 words) entry
 Spells words line (Turn station) = Fills words turn_form (NumberIs station ∷ [])
 Spells words line Bits = Fills words bits_form []
 Spells words line Balances = Fills words balances_form []

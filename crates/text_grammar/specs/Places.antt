@@ -1,13 +1,17 @@
--- What stands at the places of a line: forms, what is wrong with words that should fill one, and the values that they
--- write.
-use Rattle.std.specs.Prelude.{◌≡◌, ℕ, ◌^◌, Bool, true, ◌&&◌, Option, None, Some, Result, Ok, Err, if◌then◌else◌, List, [], ◌∷◌, ◌++◌, ◌==◌, drop, filter, length, nat_lt, bytes_eq, slice_index}
+-- What stands at the places of a line: forms, what is wrong with words that should fill one, and
+-- the values that they write.
+use Rattle.std.specs.Prelude.{◌≡◌, ℕ, ◌^◌, Bool, true, ◌&&◌, Option, None, Some, Result, Ok, Err}
+use Rattle.std.specs.Prelude.{if◌then◌else◌, List, [], ◌∷◌, ◌++◌, ◌==◌, drop, filter, length}
+use Rattle.std.specs.Prelude.{nat_lt, bytes_eq, slice_index}
 use Rattle.std.specs.Str.Parse.{digits_value}
 use Rattle.text_grammar.specs.Script.{bits_written, is_bit_text, is_number}
 use Rattle.text_grammar.specs.declared.faults.LineFault.{LineFault}
-use Rattle.text_grammar.specs.declared.faults.LineFault.TheVariants.{UnknownCommand, WrongNumberOfWords, BadNumber, BadBits}
+use Rattle.text_grammar.specs.declared.faults.LineFault.TheVariants.{UnknownCommand}
+use Rattle.text_grammar.specs.declared.faults.LineFault.TheVariants.{WrongNumberOfWords, BadNumber}
+use Rattle.text_grammar.specs.declared.faults.LineFault.TheVariants.{BadBits}
 
--- what stands at one place of a line: a name, a number above zero, a number, a number below 2^32, bits, or a number
--- from 1 to 100,000
+-- what stands at one place of a line: a name, a number above zero, a number, a number below 2^32,
+-- bits, or a number from 1 to 100,000
 pub data Field : Type 0 where
   Name : List ℕ → Field
   Slots : Field
@@ -23,7 +27,8 @@ takes Slots word = is_number word && nat_lt 0 (digits_value 10 word)
 takes Number word = is_number word
 takes Account word = is_number word && nat_lt (digits_value 10 word) (2 ^ 32)
 takes BitText word = is_bit_text word
-takes Moves word = is_number word && nat_lt 0 (digits_value 10 word) && nat_lt (digits_value 10 word) 100001
+takes Moves word =
+    is_number word && nat_lt 0 (digits_value 10 word) && nat_lt (digits_value 10 word) 100001
 
 -- what a wrong word at the place is reported as
 abbrev pub told_as : Field → LineFault
@@ -50,7 +55,8 @@ has_names [] words = true
 
 -- what the first word that may not stand at its place is reported as
 unfoldable pub first_wrong : List Field → List (List ℕ) → Option LineFault
-first_wrong (place ∷ places) (word ∷ words) = if takes place word then first_wrong places words else Some (told_as place)
+first_wrong (place ∷ places) (word ∷ words) =
+    if takes place word then first_wrong places words else Some (told_as place)
 first_wrong _ _ = None
 
 -- the values that words write at the places of a form
@@ -85,9 +91,11 @@ is_skipped (name ∷ _) = slice_index name 0 == 35
 abbrev pub fault_by : List (List Field) → List (List ℕ) → Option LineFault
 fault_by table words = if is_skipped words then None else told_by table words
 
--- the words fill the form with these values: there are as many as places, each may stand at its place and writes this
+-- the words fill the form with these values: there are as many as places, each may stand at its
+-- place and writes this
 unfoldable pub Fills : List (List ℕ) → List Field → List Value → Type 0
-Fills words form these = (length words ≡ length form) × (first_wrong form words ≡ None) × (values form words ≡ these)
+Fills words form these =
+    (length words ≡ length form) × (first_wrong form words ≡ None) × (values form words ≡ these)
 
 -- the first words write these values at the places of the form, and the other words are left
 abbrev pub AreTaken : List Field → List Value → List (List ℕ) → List (List ℕ) → Type 0

@@ -1,5 +1,5 @@
--- The grammar of the lines that a counter says: its forms, what is wrong with a line, and the request that its words
--- spell.
+-- The grammar of the lines that a counter says: its forms, what is wrong with a line, and the
+-- request that its words spell.
 use Rattle.std.specs.Prelude.{ℕ, Option, Result, List, [], ◌∷◌, ◌++◌, codes}
 use Rattle.text_grammar.specs.Entries.{SpellsEntry, entries_given}
 use Rattle.text_grammar.specs.Places.{Field, Fills, IsAnswer, fault_by}
@@ -7,7 +7,9 @@ use Rattle.text_grammar.specs.Places.{Account, Name, Number, NumberIs}
 use Rattle.text_grammar.specs.declared.entries.Reference.TheVariants.{GivenOr}
 use Rattle.text_grammar.specs.declared.faults.LineFault.{LineFault}
 use Rattle.text_grammar.specs.declared.requests.Request.{Request}
-use Rattle.text_grammar.specs.declared.requests.Request.TheVariants.{Post, Balance, Find, Last, First, Hello, Copy, Archive, Status, Help, Close}
+use Rattle.text_grammar.specs.declared.requests.Request.TheVariants.{Post, Balance, Find, Last}
+use Rattle.text_grammar.specs.declared.requests.Request.TheVariants.{First, Hello, Copy, Archive}
+use Rattle.text_grammar.specs.declared.requests.Request.TheVariants.{Status, Help, Close}
 use Rattle.text_grammar.specs.declared.requests.Request.TheVariants as request
 
 -- the form of each request but entries
@@ -47,7 +49,8 @@ close_request = Name (codes "close") ∷ []
 -- the forms of a counter's lines
 abbrev pub request_forms : List (List Field)
 request_forms =
-    entries_given ++ (balance_request ∷ find_request ∷ last_request ∷ first_request ∷ hello_request ∷ copy_request ∷ archive_request ∷ status_request ∷ name_request
+    entries_given ++ (balance_request ∷ find_request ∷ last_request ∷ first_request ∷ hello_request
+    ∷ copy_request ∷ archive_request ∷ status_request ∷ name_request
     ∷ help_request ∷ close_request ∷ [])
 
 -- what is wrong with a counter's line of these words, the first that holds

@@ -10,7 +10,9 @@ words_of line = filter (λ word. nat_lt 0 (length word)) (slice_split (λ byte. 
 
 -- one decimal digit or more, of a number below 2^64
 abbrev pub is_number : List ℕ → Bool
-is_number word = nat_lt 0 (length word) && list_all (λ byte. is_digit byte 10) word && nat_lt (digits_value 10 word) (2 ^ 64)
+is_number word =
+    nat_lt 0 (length word) && list_all (λ byte. is_digit byte 10) word
+    && nat_lt (digits_value 10 word) (2 ^ 64)
 
 -- one character or more, each `0` or `1`
 abbrev pub is_bit_text : List ℕ → Bool

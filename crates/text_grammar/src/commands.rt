@@ -1,5 +1,6 @@
 //! The lines of a script as commands.
-ghost use Rattle.std.specs.Prelude.{◌≡◌, false, ◌∷◌, ◌==◌, codes, slice_index, IfOk, IfErr, IfSome, OnOk, is_none};
+ghost use Rattle.std.specs.Prelude.{◌≡◌, false, ◌∷◌, ◌==◌, codes, slice_index, IfOk, IfErr, IfSome};
+ghost use Rattle.std.specs.Prelude.{OnOk, is_none};
 ghost use Rattle.text_grammar.specs.Grammar.{IsRead, Spells, line_fault};
 ghost use Rattle.text_grammar.specs.Places.{is_skipped};
 ghost use Rattle.text_grammar.specs.Script.{words_of};
@@ -40,18 +41,20 @@ pub enum Command<'a> {
     Balances,
     /// `crash`: lose the power.
     Crash,
-    /// `day M`: the stations take M turns, each in a thread of its own; 1 to [`DAY_LIMIT`](crate::DAY_LIMIT).
+    /// `day M`: the stations take M turns, each in a thread of its own; 1 to
+    /// [`DAY_LIMIT`](crate::DAY_LIMIT).
     Day {
         moves: u64,
     },
 }
 
-/// The command of a line, or None if the line has no words or is a comment. An entry's reference is the number of
-/// its line.
+/// The command of a line, or None if the line has no words or is a comment. An entry's reference is
+/// the number of its line.
 ///
 /// # Errors
 /// [`LineFault`], the first thing that is wrong with the line.
-// A part of its caller, since a command is large: a script has many lines, and each would be copied on its way.
+// A part of its caller, since a command is large: a script has many lines, and each would be copied
+// on its way.
 #[inline(always)]
 #[tactic(auto, using(crate::proofs::GrammarLemmas::skipped), unfolding(crate::specs::Grammar::IsRead, crate::specs::Grammar::line_fault))]
 pub fn read_command<'a>(line: &'a [u8], number: u64) -> Result<Option<Command<'a>>, LineFault>

@@ -1,5 +1,6 @@
 //! The bytes of a stream, cut into lines as they come.
-ghost use Rattle.std.specs.Prelude.{◌≡◌, ◌≢◌, ℕ, ◌<◌, ◌≤◌, List, [], ◌∷◌, ◌++◌, ◌==◌, length, take, IfOk, MatchOption};
+ghost use Rattle.std.specs.Prelude.{◌≡◌, ◌≢◌, ℕ, ◌<◌, ◌≤◌, List, [], ◌∷◌, ◌++◌, ◌==◌, length, take};
+ghost use Rattle.std.specs.Prelude.{IfOk, MatchOption};
 ghost use Rattle.std.specs.Str.Lines.{lines, strip_carriage_return};
 ghost use Rattle.text_grammar.specs.Cutting.{HasSeen, cut_of};
 ghost use Rattle.text_grammar.specs.declared.cutting.Cut.TheVariants.{Line, Nothing, TooLong};
@@ -16,8 +17,8 @@ pub fn line_limit_in_numbers()
     ensures { LINE_LIMIT ≡ 256 }
 {}
 
-/// How many bytes of a line are kept: those of the longest one, its carriage return, and one more, that tells that
-/// there were more.
+/// How many bytes of a line are kept: those of the longest one, its carriage return, and one more,
+/// that tells that there were more.
 const KEPT: usize = LINE_LIMIT + 2;
 
 /// What a byte did, or the end of a stream.
@@ -31,9 +32,10 @@ pub enum Cut {
     TooLong,
 }
 
-/// Cuts a stream, which comes byte after byte, into lines. A line ends with a line feed, and one carriage return before
-/// it is dropped. It has at most 256 bytes, the line feed and that carriage return not counted; of a longer one the
-/// first 258 bytes are kept, and only until it ends. Every other byte is one of its line, a zero byte too.
+/// Cuts a stream, which comes byte after byte, into lines. A line ends with a line feed, and one
+/// carriage return before it is dropped. It has at most 256 bytes, the line feed and that carriage
+/// return not counted; of a longer one the first 258 bytes are kept, and only until it ends. Every
+/// other byte is one of its line, a zero byte too.
 #[derive(Debug, Drop)]
 pub struct LineCutter {
     kept: Vec<u8>,
@@ -41,7 +43,8 @@ pub struct LineCutter {
 }
 
 impl Model for LineCutter {
-    ghost use Rattle.std.specs.Prelude.{◌≡◌, ◌≤◌, ◌==◌, Some, None, [], false, All, cond, vec_len, vec_capacity};
+    ghost use Rattle.std.specs.Prelude.{◌≡◌, ◌≤◌, ◌==◌, Some, None, [], false, All, cond, vec_len};
+    ghost use Rattle.std.specs.Prelude.{vec_capacity};
     ghost use Rattle.text_grammar.specs.Cutting.{Cutting};
 
     ghost Value = { Cutting };
@@ -95,8 +98,8 @@ impl LineCutter {
         Cut::Nothing
     }
 
-    /// Ends the stream: what stands behind the last line feed is a line too, unless it is empty. No carriage return is
-    /// dropped. A byte that comes afterwards begins a line.
+    /// Ends the stream: what stands behind the last line feed is a line too, unless it is empty. No
+    /// carriage return is dropped. A byte that comes afterwards begins a line.
     pub fn end(&mut self) -> Cut
         ensures none { HasSeen self.old [] → result ≡ Nothing }
         ensures cuts { (bytes : List ℕ) → HasSeen self.old bytes → 0 < length bytes

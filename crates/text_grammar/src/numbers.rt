@@ -1,10 +1,11 @@
 //! Numbers and bits as a script writes them.
-ghost use Rattle.std.specs.Prelude.{◌≡◌, ◌↔◌, ◌<◌, ◌≤◌, ◌^◌, ◌⊎◌, All, IsTrue, IfSome, SomeIff, is_some, length, take};
+ghost use Rattle.std.specs.Prelude.{◌≡◌, ◌↔◌, ◌<◌, ◌≤◌, ◌^◌, ◌⊎◌, All, IsTrue, IfSome, SomeIff};
+ghost use Rattle.std.specs.Prelude.{is_some, length, take};
 ghost use Rattle.std.specs.Str.Parse.{IsNumeral, digits_value};
 ghost use Rattle.text_grammar.specs.Script.{bits_written, is_bit_text};
 
-/// The number that a word writes in decimal digits, if it is one and below 2^64. Any count of leading zeros is a
-/// number, and no sign is.
+/// The number that a word writes in decimal digits, if it is one and below 2^64. Any count of
+/// leading zeros is a number, and no sign is.
 pub fn read_number(word: &[u8]) -> Option<u64>
     ensures { SomeIff result (IsNumeral 10 word.now
         × (digits_value 10 word.now < 2 ^ 64)) (digits_value 10 word.now) }
@@ -19,7 +20,8 @@ pub fn read_number(word: &[u8]) -> Option<u64>
 }
 
 /// Bits as a word writes them, in the characters `0` and `1`.
-// They stay where they stand in their line: a command that had them itself would be copied with them on its way.
+// They stay where they stand in their line: a command that had them itself would be copied with
+// them on its way.
 #[derive(Clone, Copy, Debug)]
 pub struct Bits<'a> {
     word: &'a [u8],

@@ -1,8 +1,10 @@
 //! What words write at the places of a line.
 ghost use Rattle.std.specs.Prelude.{◌≡◌, ◌<◌, ◌≤◌, true, false, List, [], ◌∷◌, length, IfOk, IfErr};
 ghost use Rattle.text_grammar.specs.Bits.{bits_of};
-ghost use Rattle.text_grammar.specs.Places.{AreTaken, Field, Fills, IsAnswer, Value, first_wrong, takes, told_as, told_of_one, written};
-ghost use Rattle.text_grammar.specs.Places.{Account, BitText, BitsAre, Moves, Number, NumberIs, Slots};
+ghost use Rattle.text_grammar.specs.Places.{AreTaken, Field, Fills, IsAnswer, Value, first_wrong};
+ghost use Rattle.text_grammar.specs.Places.{takes, told_as, told_of_one, written};
+ghost use Rattle.text_grammar.specs.Places.{Account, BitText, BitsAre, Moves, Number, NumberIs};
+ghost use Rattle.text_grammar.specs.Places.{Slots};
 ghost use Rattle.std.specs.Int.NonZero.{non_zero_u64_get};
 
 use crate::faults::LineFault;

@@ -1,5 +1,6 @@
 //! The lines of a counter as requests.
-ghost use Rattle.std.specs.Prelude.{◌≡◌, false, ◌∷◌, ◌==◌, slice_index, IfOk, IfErr, IfSome, OnOk, is_none};
+ghost use Rattle.std.specs.Prelude.{◌≡◌, false, ◌∷◌, ◌==◌, slice_index, IfOk, IfErr, IfSome, OnOk};
+ghost use Rattle.std.specs.Prelude.{is_none};
 ghost use Rattle.text_grammar.specs.Places.{is_skipped};
 ghost use Rattle.text_grammar.specs.Requests.{IsRequestRead, SpellsRequest, request_fault};
 ghost use Rattle.text_grammar.specs.Script.{words_of};
@@ -10,11 +11,12 @@ use crate::places::{Nothing, One, exactly};
 use crate::words::{Words, first_name, is};
 use turn_ledger::Entry;
 
-/// What a line of a counter asks for. A counter is a client of an office that stays open: it says one request a line.
+/// What a line of a counter asks for. A counter is a client of an office that stays open: it says
+/// one request a line.
 #[derive(Clone, Copy, Debug, PartialEq, Eq)]
 pub enum Request {
-    /// `deposit A M`, `withdraw A M`, `transfer A B M` or `seal A`: post this entry. A number behind it is its
-    /// reference; without one it has reference 0.
+    /// `deposit A M`, `withdraw A M`, `transfer A B M` or `seal A`: post this entry. A number
+    /// behind it is its reference; without one it has reference 0.
     Post(Entry),
     /// `balance A`: what account A holds.
     Balance { account: u32 },
@@ -40,8 +42,8 @@ pub enum Request {
     Close,
 }
 
-/// The request of a line, or None if the line has no words or is a comment. An entry's reference is the number behind
-/// it, or 0 if there is none.
+/// The request of a line, or None if the line has no words or is a comment. An entry's reference is
+/// the number behind it, or 0 if there is none.
 ///
 /// # Errors
 /// [`LineFault`], the first thing that is wrong with the line; never `BadBits`.

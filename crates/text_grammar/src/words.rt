@@ -1,5 +1,7 @@
 //! Lines and words of a script.
-ghost use Rattle.std.specs.Prelude.{◌≡◌, ◌⊎◌, ◌<◌, ℕ, true, false, List, [], ◌∷◌, ◌++◌, ◌==◌, length, bytes_eq, slice_index, All, IfErr, IfOk, IfSome, IsFalse, IsNone, IsTrue, MatchOption};
+ghost use Rattle.std.specs.Prelude.{◌≡◌, ◌⊎◌, ◌<◌, ℕ, true, false, List, [], ◌∷◌, ◌++◌, ◌==◌};
+ghost use Rattle.std.specs.Prelude.{length, bytes_eq, slice_index, All, IfErr, IfOk, IfSome};
+ghost use Rattle.std.specs.Prelude.{IsFalse, IsNone, IsTrue, MatchOption};
 ghost use Rattle.std.specs.Str.Lines.{lines, strip_carriage_return};
 ghost use Rattle.text_grammar.specs.Places.{is_skipped};
 ghost use Rattle.text_grammar.specs.Script.{words_of};
@@ -8,8 +10,8 @@ ghost use Rattle.text_grammar.specs.declared.faults.LineFault.TheVariants.{Wrong
 use crate::faults::LineFault;
 use std::marker::Model;
 
-/// The lines of a script, seen as their list, without their ends: a line feed, and one carriage return before it. What
-/// stands behind the last line feed is a line too, unless it is empty.
+/// The lines of a script, seen as their list, without their ends: a line feed, and one carriage
+/// return before it. What stands behind the last line feed is a line too, unless it is empty.
 #[derive(Debug, Drop)]
 pub struct Lines<'a> {
     rest: &'a [u8],

@@ -3,8 +3,8 @@ use Rattle.std.specs.Prelude.{◌<◌, ℕ, List, Option, length, take}
 use Rattle.std.specs.Io.KnownBytes.{Appends, append_known}
 use Rattle.text_streams.specs.declared.output.Output.{Output}
 
--- what an output was given so far, where the bytes of its writer are known: these, and behind them what is still
--- gathered
+-- what an output was given so far, where the bytes of its writer are known: these, and behind them
+-- what is still gathered
 abbrev pub given_to : {W : Type 0} → (W → Option (List ℕ)) → Output W → Option (List ℕ)
 given_to contents output = append_known (contents output.writer.now) output.text.bytes.items
 

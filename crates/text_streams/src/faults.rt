@@ -8,7 +8,8 @@ pub enum StreamFault {
     /// The script couldn't be read.
     #[error("read failed")]
     Read,
-    /// Output couldn't be written: the writer took no byte, was interrupted too often, or met another fault.
+    /// Output couldn't be written: the writer took no byte, was interrupted too often, or met
+    /// another fault.
     #[error("write failed")]
     Write,
     /// There is no memory for the script or the output.

@@ -1,7 +1,9 @@
-//! The streams of a script: it is read whole from a reader, within limits, and what it prints is gathered and handed to
-//! a writer in large pieces. Of a writer that is [`Watched`] it is known whether its reader went away.
+//! The streams of a script: it is read whole from a reader, within limits, and what it prints is
+//! gathered and handed to a writer in large pieces. Of a writer that is [`WatchedWriter`] it is
+//! known whether its reader went away.
 //!
-//! The test `lines_are_gathered_to_65536_bytes` in `src/streams.rt` of the crate `test_examples` is an example.
+//! The test `lines_are_gathered_to_65536_bytes` in `src/streams.rt` of the crate `test_examples` is
+//! an example.
 #![tactic(auto)]
 
 mod faults;
@@ -12,4 +14,4 @@ mod watched;
 pub use faults::StreamFault;
 pub use output::{Output, WriteFault, write_all};
 pub use reading::{SCRIPT_LIMIT, limit_in_numbers, read_script};
-pub use watched::Watched;
+pub use watched::WatchedWriter;

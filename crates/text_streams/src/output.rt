@@ -1,5 +1,6 @@
 //! Output that is gathered, and handed to a writer in large pieces.
-ghost use Rattle.std.specs.Prelude.{◌≡◌, ℕ, ◌<◌, ◌≤◌, [], ◌∷◌, ◌++◌, take, length, Some, IfOk, IfSome, OnOk, OnErr};
+ghost use Rattle.std.specs.Prelude.{◌≡◌, ℕ, ◌<◌, ◌≤◌, [], ◌∷◌, ◌++◌, take, length, Some, IfOk};
+ghost use Rattle.std.specs.Prelude.{IfSome, OnOk, OnErr};
 ghost use Rattle.std.specs.Io.KnownBytes.{Appends, Keeps};
 ghost use Rattle.text_streams.specs.Output.{AppendsPart};
 
@@ -34,7 +35,8 @@ impl From<WriteFault> for StreamFault {
 /// Hands all bytes to the writer.
 ///
 /// # Errors
-/// A call failed, took no byte, or was interrupted 1,000 times in a row. The writer has a first part of the bytes.
+/// A call failed, took no byte, or was interrupted 1,000 times in a row. The writer has a first
+/// part of the bytes.
 pub fn write_all<W: Write>(writer: &mut W, bytes: &[u8]) -> Result<(), WriteFault>
     ensures ok { OnOk result (Appends (W.contents writer.old) (W.contents writer.new) bytes.now) }
     // after a fault it has the first of them, and not all

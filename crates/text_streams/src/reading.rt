@@ -1,5 +1,6 @@
 //! Reads a script whole.
-ghost use Rattle.std.specs.Prelude.{◌≡◌, ◌≢◌, ◌<◌, ◌≤◌, ◌+◌, true, ℕ, List, ◌++◌, length, vec_len, IfErr, IfOk, IfSome, OnOk};
+ghost use Rattle.std.specs.Prelude.{◌≡◌, ◌≢◌, ◌<◌, ◌≤◌, ◌+◌, true, ℕ, List, ◌++◌, length, vec_len};
+ghost use Rattle.std.specs.Prelude.{IfErr, IfOk, IfSome, OnOk};
 ghost use Rattle.std.specs.Io.KnownBytes.{Consumes, IsAtEnd};
 ghost use Rattle.text_streams.specs.declared.faults.StreamFault.TheVariants.{TooLong};
 
@@ -25,7 +26,8 @@ const CHUNK: usize = 65_536;
 /// All bytes of a script. A call that is interrupted is made again.
 ///
 /// # Errors
-/// `TooLong` for more than 16,777,216 bytes; `Memory`; `Read` if a call failed, or after 33,554,432 of them.
+/// `TooLong` for more than 16,777,216 bytes; `Memory`; `Read` if a call failed, or after 33,554,432
+/// of them.
 pub fn read_script<R: Read>(alloc: Global, reader: &mut R) -> Result<Vec<u8>, StreamFault>
     ensures limit { IfOk result (λ script. vec_len script ≤ SCRIPT_LIMIT) }
     // all bytes that the reader had, where they are known, and it has none left
@@ -73,7 +75,8 @@ fn read_piece<R: Read>(
         × (script.new.items ≡ script.old.items ++ bytes)) }
     ensures end { IfOk result (λ ended. ended ≡ true → IsAtEnd (R.remaining reader.new)) }
     ensures too_long { IfErr result (λ fault. fault ≡ TooLong
-        → IfSome (R.remaining reader.old) (λ bytes. SCRIPT_LIMIT < vec_len script.old + length bytes)) }
+        → IfSome (R.remaining reader.old)
+        (λ bytes. SCRIPT_LIMIT < vec_len script.old + length bytes)) }
 {
     let count = match reader.read(chunk) {
         Ok(0) => return Ok(true),

@@ -4,15 +4,15 @@ use std::io::{ErrorKind, Write};
 
 /// A writer of which is known whether it failed since nobody reads it any more.
 #[derive(Drop)]
-pub struct Watched<'a, W: Write> {
+pub struct WatchedWriter<'a, W: Write> {
     writer: &'a mut W,
     closed: bool,
 }
 
-impl<'a, W: Write> Watched<'a, W> {
+impl<'a, W: Write> WatchedWriter<'a, W> {
     /// A writer that has not failed yet.
-    pub fn over(writer: &'a mut W) -> Watched<'a, W> {
-        Watched {
+    pub fn over(writer: &'a mut W) -> WatchedWriter<'a, W> {
+        WatchedWriter {
             writer,
             closed: false,
         }
@@ -33,7 +33,7 @@ impl<'a, W: Write> Watched<'a, W> {
     }
 }
 
-impl<W: Write> Write for Watched<'_, W> {
+impl<W: Write> Write for WatchedWriter<'_, W> {
     fn write(&mut self, buf: &[u8]) -> io::Result<usize> {
         let answer = self.writer.write(buf);
         self.note(&answer);

@@ -14,18 +14,27 @@ use Rattle.turn_clerk.specs.View.{view_of, KeepsFields}
 use Rattle.turn_clerk.proofs.AfterLooks.{looked}
 use Rattle.turn_clerk.proofs.FarBack.{far_behind_looks}
 
-module _ {D : Type 0} (state : D → DeviceState) (sound : (device : D) → (state device).honest → IsSound (state device)) (k : Inside D) (is : KeepsFields state k) where
+module _ {D : Type 0} (state : D → DeviceState)
+    (sound : (device : D) → (state device).honest → IsSound (state device)) (k : Inside D)
+    (is : KeepsFields state k) where
   -- which may tell more of the bank that isn't live
-  pub keeps_looking : (journal : JournalState D) (back : LookBack) (back_ledger : LedgerState) → journal ≡ after_reads k.journal journal.device
-      → ((state journal.device).honest → (state k.journal.device).honest) → LooksOnly (state k.journal.device) (state journal.device) → KeepsContents state k.journal journal
-      → LooksBack state journal back back_ledger → KeepsFields state (record k { journal = journal; back = back; back_ledger = back_ledger })
+  pub keeps_looking : (journal : JournalState D) (back : LookBack) (back_ledger : LedgerState)
+      → journal ≡ after_reads k.journal journal.device
+      → ((state journal.device).honest → (state k.journal.device).honest)
+      → LooksOnly (state k.journal.device) (state journal.device)
+      → KeepsContents state k.journal journal
+      → LooksBack state journal back back_ledger
+      → KeepsFields state
+      (record k { journal = journal; back = back; back_ledger = back_ledger })
   keeps_looking journal back back_ledger kept was_honest looks stays looks_back = record {
     is_clerk = looked state (view_of k) is.is_clerk journal kept was_honest looks stays;
     moves = is.moves;
     opening_next = is.opening_next;
     looks_back = looks_back;
     sees_as_far =
-        far_behind_looks state sound k.opening_journal.value k.journal journal (accepted_batches (view_of k)) (accepted_stations (view_of k)) was_honest kept looks is.sees_as_far;
+        far_behind_looks state sound k.opening_journal.value k.journal journal
+        (accepted_batches (view_of k)) (accepted_stations (view_of k)) was_honest kept looks
+        is.sees_as_far;
   }
 
   -- or else knows as much of it as before
@@ -40,14 +49,20 @@ module _ {D : Type 0} (state : D → DeviceState) (sound : (device : D) → (sta
           let before : HoldsContents state k.journal contents = record {
             honest = honest;
             works = now.works;
-            reads = subst (λ (image : Image). ReadsAs image k.journal.slots k.journal.live contents) same now.reads;
+            reads = subst (λ (image : Image). ReadsAs image k.journal.slots k.journal.live contents)
+                same now.reads;
             next = now.next;
             durable = held.is_at.durable;
           } in
-          subst (λ (image : Image). IsSo image k.journal.slots k.journal.live contents k.back k.back_ledger) (sym same) (is.looks_back.is_so contents before spare);
+          subst (λ (image : Image).
+          IsSo image k.journal.slots k.journal.live contents k.back k.back_ledger) (sym same)
+          (is.looks_back.is_so contents before spare);
     }
 
-    pub keeps_lent : (journal : JournalState D) → journal ≡ after_reads k.journal device → KeepsContents state k.journal journal → KeepsFields state (record k { journal = journal })
+    pub keeps_lent : (journal : JournalState D) → journal ≡ after_reads k.journal device
+        → KeepsContents state k.journal journal → KeepsFields state (record k { journal = journal })
     keeps_lent journal kept stays =
-        subst (λ (j : JournalState D). KeepsContents state k.journal j → KeepsFields state (record k { journal = j })) (sym kept)
-        (λ contents. keeps_looking (after_reads k.journal device) k.back k.back_ledger refl was.was_honest was.looks contents still_looks_back) stays
+        subst (λ (j : JournalState D). KeepsContents state k.journal j
+        → KeepsFields state (record k { journal = j })) (sym kept)
+        (λ contents. keeps_looking (after_reads k.journal device) k.back k.back_ledger refl
+        was.was_honest was.looks contents still_looks_back) stays

@@ -21,10 +21,12 @@ Number-decides : (a b : Option ℕ) → Decides (option_eq (λ x y. x == y) a b)
 Number-decides None None = (λ yes. refl, λ same. refl)
 Number-decides None (Some b) = (λ yes. absurd (cc), λ same. absurd (cc))
 Number-decides (Some a) None = (λ yes. absurd (cc), λ same. absurd (cc))
-Number-decides (Some a) (Some b) = Decides-like (a == b) (λ same i. Some (same i)) (λ same. cc) (Decides-eqb a b)
+Number-decides (Some a) (Some b) =
+    Decides-like (a == b) (λ same i. Some (same i)) (λ same. cc) (Decides-eqb a b)
 
 -- turns are the same where their parts are
-module _ (a b : Turn) (index : a.index ≡ b.index) (station : a.station ≡ b.station) (rule : a.rule ≡ b.rule) (entries : a.entries ≡ b.entries) (verdicts : a.verdicts ≡ b.verdicts)
+module _ (a b : Turn) (index : a.index ≡ b.index) (station : a.station ≡ b.station)
+    (rule : a.rule ≡ b.rule) (entries : a.entries ≡ b.entries) (verdicts : a.verdicts ≡ b.verdicts)
     (posted : a.posted ≡ b.posted) where
   judged_prop : (i : 𝕀) → IsProp (length (verdicts i) ≡ length (entries i))
   judged_prop i = hlevel props
@@ -40,8 +42,11 @@ module _ (a b : Turn) (index : a.index ≡ b.index) (station : a.station ≡ b.s
     entries = entries i;
     verdicts = verdicts i;
     posted = posted i;
-    judged_each = is_prop→PathP (λ (j : 𝕀). length (verdicts j) ≡ length (entries j)) judged_prop a.judged_each b.judged_each i;
-    posted_if_accepted = is_prop→PathP (λ (j : 𝕀). is_none (posted j) ≡ (count_by is_ok (verdicts j) == 0)) posted_prop a.posted_if_accepted b.posted_if_accepted i;
+    judged_each = is_prop→PathP (λ (j : 𝕀). length (verdicts j) ≡ length (entries j)) judged_prop
+        a.judged_each b.judged_each i;
+    posted_if_accepted =
+        is_prop→PathP (λ (j : 𝕀). is_none (posted j) ≡ (count_by is_ok (verdicts j) == 0))
+        posted_prop a.posted_if_accepted b.posted_if_accepted i;
   }
 
 pub Turn-decides : (a b : Turn) → Decides (turn_eq.ghosts.eq a b) (a ≡ b)
@@ -54,7 +59,10 @@ Turn-decides a b =
         ap (λ (t : Turn). t.station) same,
         (
           ap (λ (t : Turn). t.rule) same,
-          (ap (λ (t : Turn). t.entries) same, (ap (λ (t : Turn). t.verdicts) same, ap (λ (t : Turn). t.posted) same)),
+          (
+            ap (λ (t : Turn). t.entries) same,
+            (ap (λ (t : Turn). t.verdicts) same, ap (λ (t : Turn). t.posted) same),
+          ),
         ),
       ),
     ))
@@ -62,4 +70,5 @@ Turn-decides a b =
     (Decides-and _ _ (Decides-eqb a.station b.station)
     (Decides-and _ _ (Rule-decides a.rule b.rule)
     (Decides-and _ _ (Batch-decides a.entries b.entries)
-    (Decides-and _ _ (Verdicts-decides a.verdicts b.verdicts) (Number-decides a.posted b.posted))))))
+    (Decides-and _ _ (Verdicts-decides a.verdicts b.verdicts)
+    (Number-decides a.posted b.posted))))))

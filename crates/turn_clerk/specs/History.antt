@@ -36,11 +36,15 @@ line_after line turns = after line (moves_of turns)
 abbrev pub state_after_turns : State → List Turn → State
 state_after_turns state turns = state_after state (batches_of turns)
 
--- The turn that stands at a place has that index, and is a turn on the line and the state after those before it.
-pub record IsTurnAt (line : Configuration) (state : State) (turns : List Turn) (place : ℕ) (turn : Turn) : Type 0 where
+-- The turn that stands at a place has that index, and is a turn on the line and the state after
+-- those before it.
+pub record IsTurnAt (line : Configuration) (state : State) (turns : List Turn) (place : ℕ)
+    (turn : Turn) : Type 0 where
   pub index : turn.index ≡ place
-  pub taken : IsTurn (line_after line (take place turns)) (state_after_turns state (take place turns)) turn
+  pub taken : IsTurn (line_after line (take place turns))
+      (state_after_turns state (take place turns)) turn
 
 -- A legal history from a line and a state: each turn in it is one at its place.
 pub record IsLegal (line : Configuration) (state : State) (turns : List Turn) : Type 0 where
-  pub each : (place : ℕ) (turn : Turn) → slice_get turns place ≡ Some turn → IsTurnAt line state turns place turn
+  pub each : (place : ℕ) (turn : Turn) → slice_get turns place ≡ Some turn
+      → IsTurnAt line state turns place turn

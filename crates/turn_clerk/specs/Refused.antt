@@ -10,7 +10,9 @@ use Rattle.turn_clerk.specs.Room.{IsExhausted}
 use Rattle.turn_clerk.specs.Turn.{HasPrivilege, MayTurn}
 use Rattle.turn_clerk.specs.Clerk.{ClerkState, present_state}
 use Rattle.turn_clerk.specs.declared.refusals.TurnRefusal.{TurnRefusal}
-use Rattle.turn_clerk.specs.declared.refusals.TurnRefusal.TheVariants.{Faulted, NoStation, NotPrivileged, TooMany, Memory, Exhausted, Device}
+use Rattle.turn_clerk.specs.declared.refusals.TurnRefusal.TheVariants.{Faulted, NoStation}
+use Rattle.turn_clerk.specs.declared.refusals.TurnRefusal.TheVariants.{NotPrivileged, TooMany}
+use Rattle.turn_clerk.specs.declared.refusals.TurnRefusal.TheVariants.{Memory, Exhausted, Device}
 
 -- All that an answer depends on.
 pub record Standing : Type 0 where
@@ -22,9 +24,17 @@ pub record Standing : Type 0 where
   pub live : LiveBank
 
 abbrev pub standing_of : {D : Type 0} → ClerkState D → Standing
-standing_of clerk = record { faulted = clerk.journal.faulted; line = clerk.line; state = present_state clerk; slots = clerk.journal.slots; live = clerk.journal.live }
+standing_of clerk =
+    record {
+      faulted = clerk.journal.faulted;
+      line = clerk.line;
+      state = present_state clerk;
+      slots = clerk.journal.slots;
+      live = clerk.journal.live;
+    }
 
--- They stand alike, but that where they are faulted their live banks may differ, on which no answer then depends.
+-- They stand alike, but that where they are faulted their live banks may differ, on which no answer
+-- then depends.
 pub record StandsAs (one other : Standing) : Type 0 where
   pub faulted : one.faulted ≡ other.faulted
   pub line : one.line ≡ other.line
@@ -42,12 +52,20 @@ pub record WantsRecord (standing : Standing) (station : ℕ) (entries : List Ent
 abbrev pub CanJournalNoMore : Standing → Type 0
 CanJournalNoMore standing = IsExhausted standing.slots standing.live standing.state.next
 
--- What holds where a turn is refused: of the first four exactly, and where none of them holds, of the others at least.
+-- What holds where a turn is refused: of the first four exactly, and where none of them holds, of
+-- the others at least.
 abbrev pub ClerkRefuses : Standing → ℕ → List Entry → TurnRefusal → Type 0
 ClerkRefuses standing station entries Faulted = standing.faulted ≡ true
-ClerkRefuses standing station entries NoStation = (standing.faulted ≡ false) × (stations standing.line ≤ station)
-ClerkRefuses standing station entries NotPrivileged = (standing.faulted ≡ false) × (station < stations standing.line) × ¬ HasPrivilege standing.line station
-ClerkRefuses standing station entries TooMany = (standing.faulted ≡ false) × HasPrivilege standing.line station × (BATCH_LIMIT < length entries)
-ClerkRefuses standing station entries Memory = (standing.faulted ≡ false) × MayTurn standing.line station entries
-ClerkRefuses standing station entries Exhausted = WantsRecord standing station entries × CanJournalNoMore standing
-ClerkRefuses standing station entries Device = WantsRecord standing station entries × ¬ CanJournalNoMore standing
+ClerkRefuses standing station entries NoStation =
+    (standing.faulted ≡ false) × (stations standing.line ≤ station)
+ClerkRefuses standing station entries NotPrivileged =
+    (standing.faulted ≡ false) × (station < stations standing.line)
+    × ¬ HasPrivilege standing.line station
+ClerkRefuses standing station entries TooMany =
+    (standing.faulted ≡ false) × HasPrivilege standing.line station × (BATCH_LIMIT < length entries)
+ClerkRefuses standing station entries Memory =
+    (standing.faulted ≡ false) × MayTurn standing.line station entries
+ClerkRefuses standing station entries Exhausted =
+    WantsRecord standing station entries × CanJournalNoMore standing
+ClerkRefuses standing station entries Device =
+    WantsRecord standing station entries × ¬ CanJournalNoMore standing

@@ -32,8 +32,9 @@ pub record MayTurn (line : Configuration) (station : ℕ) (entries : List Entry)
   pub privileged : HasPrivilege line station
   pub few : length entries ≤ BATCH_LIMIT
 
--- A turn taken on a line and a state: by the station's rule, which is Raise where it has two; its entries are few
--- enough, and each is judged after the accepted ones before it; what is accepted has the next sequence number.
+-- A turn taken on a line and a state: by the station's rule, which is Raise where it has two; its
+-- entries are few enough, and each is judged after the accepted ones before it; what is accepted
+-- has the next sequence number.
 pub record IsTurn (line : Configuration) (state : State) (turn : Turn) : Type 0 where
   pub privileged : choice line turn.station ≡ Some turn.rule
   pub few : length turn.entries ≤ BATCH_LIMIT

@@ -17,7 +17,11 @@ view_of k = record {
   acknowledged = values_of k.acknowledged;
   in_flight = k.in_flight;
   in_flight_by = k.in_flight_station;
-  opening = record { journal = k.opening_journal.value; ledger = k.opening_ledger; line = k.opening_line };
+  opening = record {
+    journal = k.opening_journal.value;
+    ledger = k.opening_ledger;
+    line = k.opening_line;
+  };
 }
 
 pub record KeepsFields {D : Type 0} (state : D → DeviceState) (k : Inside D) : Type 0 where
@@ -25,4 +29,5 @@ pub record KeepsFields {D : Type 0} (state : D → DeviceState) (k : Inside D) :
   pub moves : k.moves.items ≡ moves_of k.history.items
   pub opening_next : k.opening_next ≡ k.opening_journal.value.next
   pub looks_back : LooksBack state k.journal k.back k.back_ledger
-  pub sees_as_far : SeesAsFar state k.opening_journal.value k.journal (accepted_batches (view_of k)) (accepted_stations (view_of k))
+  pub sees_as_far : SeesAsFar state k.opening_journal.value k.journal (accepted_batches (view_of k))
+      (accepted_stations (view_of k))

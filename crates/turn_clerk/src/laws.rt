@@ -10,8 +10,9 @@ ghost use Rattle.turn_clerk.specs.Lives.{Life, AreLives, IsAfterLives};
 
 use journal_recovery::one_recovery;
 
-/// Two lives of a device, one after the other: if a crash left an image that recovers to the ledger of a prefix of
-/// the first life's batches, the state that the second life finds in it is the state after that prefix.
+/// Two lives of a device, one after the other: if a crash left an image that recovers to the ledger
+/// of a prefix of the first life's batches, the state that the second life finds in it is the state
+/// after that prefix.
 pub fn lives_join()
     ensures { (image : Image) (opened found : State) (batches : List (List Entry)) (least : ℕ)
         → (prefix : RecoversToPrefix opened batches least image)
@@ -20,10 +21,11 @@ pub fn lives_join()
     one_recovery();
 }
 
-/// A device over any number of lives: each begins with what the opening behind the one before it found, and ends in a
-/// power failure that left a prefix of its batches with all those acknowledged, as a clerk's calls promise of each
-/// moment. What the last opening finds is the ledger of batches that are, life by life, a prefix of those that were
-/// accepted, and hold every one that was acknowledged in any life.
+/// A device over any number of lives: each begins with what the opening behind the one before it
+/// found, and ends in a power failure that left a prefix of its batches with all those
+/// acknowledged, as a clerk's calls promise of each moment. What the last opening finds is the
+/// ledger of batches that are, life by life, a prefix of those that were accepted, and hold every
+/// one that was acknowledged in any life.
 pub fn lives_in_a_row()
     ensures { (from found : State) (lives : List Life) → IsLedger from.ledger
         → AreLives from lives found

@@ -4,7 +4,8 @@ ghost use Rattle.turn_clerk.specs.Past.{values_of};
 
 use std::snapshot::Snapshot as Ghost;
 
-/// What a value was at some moments, in order. Contracts see them; the program finds its mark alone.
+/// What a value was at some moments, in order. Contracts see them; the program finds its mark
+/// alone.
 #[derive(Drop)]
 pub(crate) enum Past<T> {
     /// At none.

@@ -6,7 +6,8 @@ use thiserror::Error;
 /// Why a turn was not taken: the first, in this order, that holds.
 #[derive(Clone, Copy, Debug, PartialEq, Eq, Error)]
 pub enum TurnRefusal {
-    /// A device fault was met in an earlier turn. The clerk answers so until its device is opened again.
+    /// A device fault was met in an earlier turn. The clerk answers so until its device is opened
+    /// again.
     #[error("a device fault was met and the device must be opened again")]
     Faulted,
     /// The line has no station of this number.
@@ -21,11 +22,12 @@ pub enum TurnRefusal {
     /// There is no memory for the history to grow.
     #[error("out of memory")]
     Memory,
-    /// An entry is accepted, and it can't be journaled: no sequence number is left, or no slot is free and the live
-    /// bank has the last epoch.
+    /// An entry is accepted, and it can't be journaled: no sequence number is left, or no slot is
+    /// free and the live bank has the last epoch.
     #[error("there are no more sequence numbers or epochs")]
     Exhausted,
-    /// The device failed while the accepted entries were journaled. Whether they stand is told by opening it again.
+    /// The device failed while the accepted entries were journaled. Whether they stand is told by
+    /// opening it again.
     #[error("the device failed")]
     Device,
 }
@@ -33,7 +35,8 @@ pub enum TurnRefusal {
 /// Why a search for a reference was not answered: the first, in this order, that holds.
 #[derive(Clone, Copy, Debug, PartialEq, Eq, Error)]
 pub enum FindRefusal {
-    /// A device fault was met in an earlier turn. The clerk answers so until its device is opened again.
+    /// A device fault was met in an earlier turn. The clerk answers so until its device is opened
+    /// again.
     #[error("a device fault was met and the device must be opened again")]
     Faulted,
     /// What is read isn't what was posted any more, which never happens on an honest device.

@@ -6,7 +6,8 @@ use std::snapshot::Snapshot as Ghost;
 use sweep_auditor::Move;
 use turn_ledger::{BATCH_LIMIT, Batch, Entry, Verdicts};
 
-/// A turn of a station: what its clients asked, what became of each entry, and the move that the station made.
+/// A turn of a station: what its clients asked, what became of each entry, and the move that the
+/// station made.
 #[derive(Clone, Copy, Debug, PartialEq, Eq)]
 pub struct Turn {
     /// Its place in the history since the opening, counted from 0.
@@ -19,13 +20,15 @@ pub struct Turn {
     pub entries: Batch,
     /// What became of each entry, in order.
     pub verdicts: Verdicts,
-    /// The sequence number under which the accepted entries are journaled; `None` if there are none.
+    /// The sequence number under which the accepted entries are journaled; `None` if there are
+    /// none.
     pub posted: Option<u64>,
     pub ghost judged_each: { length verdicts ≡ length entries },
     pub ghost posted_if_accepted: { is_none posted ≡ (count_by is_ok verdicts == 0) },
 }
 
-/// A turn that was taken and stands where it is kept. Contracts see it here; the program finds no byte of it.
+/// A turn that was taken and stands where it is kept. Contracts see it here; the program finds no
+/// byte of it.
 #[derive(Drop)]
 pub struct Taken {
     /// The turn, for contracts alone.

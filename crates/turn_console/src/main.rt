@@ -1,6 +1,7 @@
 //! The console: a ledger that stations in a row share, driven by a script of commands.
 //!
-//! The crate `front_program` does all of it; here it is handed the words and the streams of the system.
+//! The crate `front_program` does all of it; here it is handed the words and the streams of the
+//! system.
 #![tactic(auto)]
 
 use front_program::{run_console, words_given};

@@ -6,8 +6,11 @@ use Rattle.turn_ledger.specs.declared.limits.TheConstants.{ACCOUNTS}
 
 -- all accounts, account 1 first, each with what it holds
 abbrev pub accounts_of : LedgerState → List (ℕ × ℕ)
-accounts_of state = map (λ (account : ℕ). (account, balance_of state account)) (range_with_len 1 ACCOUNTS)
+accounts_of state =
+    map (λ (account : ℕ). (account, balance_of state account)) (range_with_len 1 ACCOUNTS)
 
 -- those from this one on
 abbrev pub accounts_from : LedgerState → ℕ → List (ℕ × ℕ)
-accounts_from state first = map (λ (account : ℕ). (account, balance_of state account)) (range_with_len first (ACCOUNTS + 1 - first))
+accounts_from state first =
+    map (λ (account : ℕ). (account, balance_of state account))
+    (range_with_len first (ACCOUNTS + 1 - first))

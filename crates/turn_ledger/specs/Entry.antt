@@ -1,12 +1,16 @@
 -- The verdict of an entry on a state, and the state after it.
-use Rattle.std.specs.Prelude.{ℕ, ◌+◌, Bool, false, ◌==◌, not, nat_lt, if◌then◌else◌, List, [], ◌∷◌, ◌++◌, Result, Ok, Err}
+use Rattle.std.specs.Prelude.{ℕ, ◌+◌, Bool, false, ◌==◌, not, nat_lt, if◌then◌else◌, List, [], ◌∷◌}
+use Rattle.std.specs.Prelude.{◌++◌, Result, Ok, Err}
 use Rattle.std.specs.List.{list_all, list_any}
 use Rattle.turn_ledger.specs.declared.limits.TheConstants.{TOTAL_LIMIT}
 use Rattle.turn_ledger.specs.declared.entry.Entry.{Entry}
 use Rattle.turn_ledger.specs.declared.entry.Entry.TheVariants.{Deposit, Withdraw, Transfer, Seal}
 use Rattle.turn_ledger.specs.declared.refusal.EntryRefusal.{EntryRefusal}
-use Rattle.turn_ledger.specs.declared.refusal.EntryRefusal.TheVariants.{ZeroAmount, NoAccount, SameAccount, Short, OverLimit, Sealed}
-use Rattle.turn_ledger.specs.State.{LedgerState, balance_of, total_of, is_account, mark_of, sealed_at, credited, debited}
+use Rattle.turn_ledger.specs.declared.refusal.EntryRefusal.TheVariants.{ZeroAmount, NoAccount}
+use Rattle.turn_ledger.specs.declared.refusal.EntryRefusal.TheVariants.{SameAccount, Short}
+use Rattle.turn_ledger.specs.declared.refusal.EntryRefusal.TheVariants.{OverLimit, Sealed}
+use Rattle.turn_ledger.specs.State.{LedgerState, balance_of, total_of, is_account, mark_of}
+use Rattle.turn_ledger.specs.State.{sealed_at, credited, debited}
 
 -- a yes, or the refusal
 abbrev pub Verdict : Type 0
@@ -68,7 +72,9 @@ own_checks entry =
 
 -- those that look at the state, after the others
 abbrev pub state_checks : LedgerState → Entry → List (Bool × EntryRefusal)
-state_checks state entry = (is_short state entry, Short) ∷ (is_over_limit state entry, OverLimit) ∷ (is_of_sealed state entry, Sealed) ∷ []
+state_checks state entry =
+    (is_short state entry, Short) ∷ (is_over_limit state entry, OverLimit)
+    ∷ (is_of_sealed state entry, Sealed) ∷ []
 
 -- the first refusal whose check holds, or a yes
 abbrev pub first_refusal : List (Bool × EntryRefusal) → Verdict

@@ -11,28 +11,34 @@ use Rattle.turn_ledger.specs.Ledger.{into, out_of, entries_of, ledger_after}
 -- batches: each account has what it held and what came in, less what went out.
 abbrev pub PostingGivesTheSums : Type 0
 PostingGivesTheSums =
-    (state : LedgerState) (batches : List (List Entry)) → IsLedger state → AreAccepted state (entries_of batches)
-    → (posted_in_order state (entries_of batches) ≡ ledger_after state batches) × IsLedger (ledger_after state batches)
+    (state : LedgerState) (batches : List (List Entry)) → IsLedger state
+    → AreAccepted state (entries_of batches)
+    → (posted_in_order state (entries_of batches) ≡ ledger_after state batches)
+    × IsLedger (ledger_after state batches)
 
 -- Nothing is taken that isn't there: what an account has in the end and all that went out of it are
 -- what it held and all that came in.
 abbrev pub NothingIsLostOrMade : Type 0
 NothingIsLostOrMade =
-    (state : LedgerState) (batches : List (List Entry)) (account : ℕ) → IsLedger state → AreAccepted state (entries_of batches) → IsAccount account
+    (state : LedgerState) (batches : List (List Entry)) (account : ℕ) → IsLedger state
+    → AreAccepted state (entries_of batches) → IsAccount account
     → balance_of (ledger_after state batches) account + sum_by (out_of account) (entries_of batches)
     ≡ balance_of state account + sum_by (into account) (entries_of batches)
 
 -- A sealed account keeps its balance and stays sealed, whatever is accepted.
 abbrev pub ASealedAccountStaysAsItIs : Type 0
 ASealedAccountStaysAsItIs =
-    (state : LedgerState) (batches : List (List Entry)) (account : ℕ) → IsLedger state → AreAccepted state (entries_of batches) → IsAccount account
+    (state : LedgerState) (batches : List (List Entry)) (account : ℕ) → IsLedger state
+    → AreAccepted state (entries_of batches) → IsAccount account
     → mark_of state account ≡ true
-    → (balance_of (ledger_after state batches) account ≡ balance_of state account) × (mark_of (ledger_after state batches) account ≡ true)
+    → (balance_of (ledger_after state batches) account ≡ balance_of state account)
+    × (mark_of (ledger_after state batches) account ≡ true)
 
 -- The ledger after more batches is that after the later ones, from that after the earlier ones.
 abbrev pub BatchesCompose : Type 0
 BatchesCompose =
-    (state : LedgerState) (first second : List (List Entry)) → IsLedger state → AreAccepted state (entries_of (first ++ second))
+    (state : LedgerState) (first second : List (List Entry)) → IsLedger state
+    → AreAccepted state (entries_of (first ++ second))
     → ledger_after state (first ++ second) ≡ ledger_after (ledger_after state first) second
 
 -- The accepted entries of a list are accepted again, in order, and posting them one after another
@@ -41,14 +47,17 @@ abbrev pub AcceptedEntriesArePosted : Type 0
 AcceptedEntriesArePosted =
     (state : LedgerState) (entries : List Entry) → IsLedger state
     → AreAccepted state (accepted state entries)
-    × (posted_in_order state (accepted state entries) ≡ ledger_after state (accepted state entries ∷ []))
+    × (posted_in_order state (accepted state entries)
+    ≡ ledger_after state (accepted state entries ∷ []))
 
 -- Later entries of a list are judged on the state that the accepted ones before them leave.
 abbrev pub LaterEntriesSeeTheAccepted : Type 0
 LaterEntriesSeeTheAccepted =
     (state : LedgerState) (first second : List Entry)
-    → screened state (first ++ second) ≡ screened state first ++ screened (posted_in_order state (accepted state first)) second
+    → screened state (first ++ second)
+    ≡ screened state first ++ screened (posted_in_order state (accepted state first)) second
 
 -- An entry is accepted exactly where it keeps all rules.
 abbrev pub AYesMeansAllRules : Type 0
-AYesMeansAllRules = (state : LedgerState) (entry : Entry) → (verdict state entry ≡ Ok tt) ↔ Passes state entry
+AYesMeansAllRules =
+    (state : LedgerState) (entry : Entry) → (verdict state entry ≡ Ok tt) ↔ Passes state entry

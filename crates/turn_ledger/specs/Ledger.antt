@@ -1,5 +1,6 @@
 -- The ledger after a list of batches: for each account a sum, and whether it is sealed.
-use Rattle.std.specs.Prelude.{ℕ, ◌+◌, ◌-◌, ◌==◌, ◌||◌, Bool, false, if◌then◌else◌, List, map, length, sum_by}
+use Rattle.std.specs.Prelude.{ℕ, ◌+◌, ◌-◌, ◌==◌, ◌||◌, Bool, false, if◌then◌else◌, List, map}
+use Rattle.std.specs.Prelude.{length, sum_by}
 use Rattle.std.specs.List.{range_with_len, flat_map, list_any}
 use Rattle.turn_ledger.specs.declared.entry.Entry.{Entry}
 use Rattle.turn_ledger.specs.declared.entry.Entry.TheVariants.{Deposit, Withdraw, Transfer, Seal}
@@ -36,11 +37,13 @@ entries_of batches = flat_map (λ batch. batch) batches
 
 -- what an account held, and the amounts of all entries into it, less those of all entries out of it
 abbrev pub balance_after : LedgerState → List Entry → ℕ → ℕ
-balance_after state entries account = balance_of state account + sum_by (into account) entries - sum_by (out_of account) entries
+balance_after state entries account =
+    balance_of state account + sum_by (into account) entries - sum_by (out_of account) entries
 
 -- the ledger after batches: each account has that balance and that mark
 unfoldable pub ledger_after : LedgerState → List (List Entry) → LedgerState
 ledger_after state batches = record {
-  balances = map (balance_after state (entries_of batches)) (range_with_len 1 (length state.balances));
+  balances = map (balance_after state (entries_of batches))
+      (range_with_len 1 (length state.balances));
   sealed = map (sealed_after state (entries_of batches)) (range_with_len 1 (length state.sealed));
 }

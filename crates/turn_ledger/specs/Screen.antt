@@ -17,7 +17,8 @@ screened state (entry ∷ entries) = verdict state entry ∷ screened (after_ent
 abbrev pub with_yes : List Entry → List Verdict → List Entry
 with_yes [] verdicts = []
 with_yes (entry ∷ entries) [] = []
-with_yes (entry ∷ entries) (answer ∷ verdicts) = if is_ok answer then entry ∷ with_yes entries verdicts else with_yes entries verdicts
+with_yes (entry ∷ entries) (answer ∷ verdicts) =
+    if is_ok answer then entry ∷ with_yes entries verdicts else with_yes entries verdicts
 
 -- the accepted entries of a list, in order
 abbrev pub accepted : LedgerState → List Entry → List Entry
@@ -26,7 +27,8 @@ accepted state entries = with_yes entries (screened state entries)
 -- each entry of the list is accepted, judged in order after those before it
 abbrev pub AreAccepted : LedgerState → List Entry → Type 0
 AreAccepted state [] = Unit {0}
-AreAccepted state (entry ∷ entries) = (verdict state entry ≡ Ok tt) × AreAccepted (posted state entry) entries
+AreAccepted state (entry ∷ entries) =
+    (verdict state entry ≡ Ok tt) × AreAccepted (posted state entry) entries
 
 -- the state after the entries were posted one after another
 abbrev pub posted_in_order : LedgerState → List Entry → LedgerState

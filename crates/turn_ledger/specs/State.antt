@@ -1,5 +1,6 @@
 -- What a ledger holds.
-use Rattle.std.specs.Prelude.{◌≡◌, ℕ, ◌-◌, ◌+◌, ◌≤◌, Bool, true, false, ◌&&◌, nat_le, List, length, sum, replicate, slice_index, slice_index_or, slice_set}
+use Rattle.std.specs.Prelude.{◌≡◌, ℕ, ◌-◌, ◌+◌, ◌≤◌, Bool, true, false, ◌&&◌, nat_le, List, length}
+use Rattle.std.specs.Prelude.{sum, replicate, slice_index, slice_index_or, slice_set}
 use Rattle.turn_ledger.specs.declared.limits.TheConstants.{ACCOUNTS, TOTAL_LIMIT}
 
 -- the balance of each account, account 1 first, and the mark of each: whether it is sealed
@@ -30,7 +31,8 @@ mark_of state account = slice_index_or state.sealed (account - 1) false
 abbrev pub total_of : LedgerState → ℕ
 total_of state = sum state.balances
 
--- a state of a ledger: it has all accounts and a mark for each, and they hold no more than the limit together
+-- a state of a ledger: it has all accounts and a mark for each, and they hold no more than the
+-- limit together
 pub record IsLedger (state : LedgerState) : Type 0 where
   pub accounts : length state.balances ≡ ACCOUNTS
   pub marks : length state.sealed ≡ ACCOUNTS
@@ -42,7 +44,8 @@ empty_ledger = state_of (replicate ACCOUNTS 0) (replicate ACCOUNTS false)
 
 -- the state with another balance of one account
 abbrev pub with_balance : LedgerState → ℕ → ℕ → LedgerState
-with_balance state account balance = record state { balances = slice_set state.balances (account - 1) balance }
+with_balance state account balance =
+    record state { balances = slice_set state.balances (account - 1) balance }
 
 -- the state with that account sealed
 abbrev pub sealed_at : LedgerState → ℕ → LedgerState

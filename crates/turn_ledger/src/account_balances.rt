@@ -3,8 +3,8 @@
 use crate::Ledger;
 use std::marker::Model;
 
-/// The accounts of a ledger with what each holds, account 1 first, seen as the list of those that are still to come.
-/// [`Ledger::accounts`] gives it.
+/// The accounts of a ledger with what each holds, account 1 first, seen as the list of those that
+/// are still to come. [`Ledger::accounts`] gives it.
 #[derive(Debug, Drop)]
 pub struct AccountBalances<'a> {
     pub(crate) ledger: &'a Ledger,

@@ -1,8 +1,12 @@
 //! Posting an entry, wherever the balances stand.
 ghost use Rattle.std.specs.Prelude.{◌≡◌, ℕ, ◌+◌, ◌≤◌, ◌<◌, true, Ok, OnOk, OnErr};
 ghost use Rattle.std.specs.List.{list_all};
-ghost use Rattle.turn_ledger.specs.State.{LedgerState, IsAccount, IsLedger, is_account as is_account_number, balance_of, total_of, credited, debited, mark_of, sealed_at};
-ghost use Rattle.turn_ledger.specs.Entry.{is_zero_amount, is_of_sealed, accounts_of, is_to_itself as is_transfer_to_itself, own_checks, state_checks, first_refusal, verdict, posted};
+ghost use Rattle.turn_ledger.specs.State.{LedgerState, IsAccount, IsLedger};
+ghost use Rattle.turn_ledger.specs.State.{is_account as is_account_number, balance_of, total_of};
+ghost use Rattle.turn_ledger.specs.State.{credited, debited, mark_of, sealed_at};
+ghost use Rattle.turn_ledger.specs.Entry.{is_zero_amount, is_of_sealed, accounts_of};
+ghost use Rattle.turn_ledger.specs.Entry.{is_to_itself as is_transfer_to_itself, own_checks};
+ghost use Rattle.turn_ledger.specs.Entry.{state_checks, first_refusal, verdict, posted};
 
 use crate::{ACCOUNTS, Entry, EntryRefusal, TOTAL_LIMIT};
 

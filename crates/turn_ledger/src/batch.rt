@@ -52,8 +52,8 @@ impl Batch {
         batch
     }
 
-    /// Puts entries, [`BATCH_LIMIT`] at most, into a batch that has none. A batch that is made so stands where it is
-    /// kept from the first on, where `of` has to bring it there.
+    /// Puts entries, [`BATCH_LIMIT`] at most, into a batch that has none. A batch that is made so
+    /// stands where it is kept from the first on, where `of` has to bring it there.
     #[inline]
     pub fn fill(&mut self, entries: &[Entry])
         requires none { self.old ≡ [] }

@@ -4,12 +4,16 @@ ghost use Rattle.turn_ledger.specs.State.{LedgerState, IsAccount, IsLedger};
 ghost use Rattle.turn_ledger.specs.Place.{place_bytes, IsInRange};
 ghost use Rattle.turn_ledger.specs.PlaceTable.{KeepsPlace};
 ghost use Rattle.turn_ledger.specs.declared.entry.Entry.{Entry};
-ghost use Rattle.turn_ledger.specs.Laws.{AYesMeansAllRules, PostingGivesTheSums, NothingIsLostOrMade, ASealedAccountStaysAsItIs, BatchesCompose, AcceptedEntriesArePosted, LaterEntriesSeeTheAccepted};
+ghost use Rattle.turn_ledger.specs.Laws.{AYesMeansAllRules, PostingGivesTheSums};
+ghost use Rattle.turn_ledger.specs.Laws.{NothingIsLostOrMade, ASealedAccountStaysAsItIs};
+ghost use Rattle.turn_ledger.specs.Laws.{BatchesCompose, AcceptedEntriesArePosted};
+ghost use Rattle.turn_ledger.specs.Laws.{LaterEntriesSeeTheAccepted};
 
 use crate::{BATCH_LIMIT, TOTAL_LIMIT};
 
-/// The limits in numbers: accounts are numbered 1 to 1,024, each has a balance and a mark, all of them together hold at
-/// most 10^18, a batch has at most 15 entries, and an entry is written in 32 bytes.
+/// The limits in numbers: accounts are numbered 1 to 1,024, each has a balance and a mark, all of
+/// them together hold at most 10^18, a batch has at most 15 entries, and an entry is written in 32
+/// bytes.
 pub fn limits_in_numbers()
     ensures accounts { (account : ℕ) → IsAccount account ↔ ((1 ≤ account) × (account ≤ 1024)) }
     ensures balances { (state : LedgerState) → IsLedger state → length state.balances ≡ 1024 }
@@ -19,8 +23,8 @@ pub fn limits_in_numbers()
     ensures place { (entry : Entry) → length (place_bytes entry) ≡ 32 }
 {}
 
-/// The table of a place says of bytes what the entries do: those of an entry keep it, and 32 bytes that keep it are
-/// those of an entry.
+/// The table of a place says of bytes what the entries do: those of an entry keep it, and 32 bytes
+/// that keep it are those of an entry.
 pub fn entries_keep_their_table()
     ensures keep { (entry : Entry) → KeepsPlace true (place_bytes entry) }
     ensures kept { (seals : Bool) (bytes : List ℕ) → length bytes ≡ 32
@@ -28,9 +32,9 @@ pub fn entries_keep_their_table()
         → (entry : Entry) × IsInRange entry × (bytes ≡ place_bytes entry) }
 {}
 
-/// An entry is accepted exactly if it keeps all rules: its amount isn't zero (a seal has none), the accounts that it
-/// names are accounts, a transfer names two, its source holds enough, the total stays within its limit, and no account
-/// that it names is sealed.
+/// An entry is accepted exactly if it keeps all rules: its amount isn't zero (a seal has none), the
+/// accounts that it names are accounts, a transfer names two, its source holds enough, the total
+/// stays within its limit, and no account that it names is sealed.
 pub fn a_yes_means_all_rules()
     ensures { AYesMeansAllRules }
 {}

@@ -1,6 +1,8 @@
 //! The ledger.
-ghost use Rattle.std.specs.Prelude.{◌≡◌, ◌<◌, ◌≤◌, ◌↔◌, true, false, length, replicate, sum, IfOk, Ok, OnOk, OnErr, SomeIff};
-ghost use Rattle.turn_ledger.specs.State.{IsAccount, IsLedger, balance_of, mark_of, total_of, state_of, empty_ledger};
+ghost use Rattle.std.specs.Prelude.{◌≡◌, ◌<◌, ◌≤◌, ◌↔◌, true, false, length, replicate, sum, IfOk};
+ghost use Rattle.std.specs.Prelude.{Ok, OnOk, OnErr, SomeIff};
+ghost use Rattle.turn_ledger.specs.State.{IsAccount, IsLedger, balance_of, mark_of, total_of};
+ghost use Rattle.turn_ledger.specs.State.{state_of, empty_ledger};
 ghost use Rattle.turn_ledger.specs.AccountList.{accounts_of};
 ghost use Rattle.turn_ledger.specs.Entry.{verdict, posted};
 ghost use Rattle.turn_ledger.specs.Screen.{screened};
@@ -30,7 +32,8 @@ impl Model for Ledger {
 
     ghost view = { λ ledger. state_of ledger.balances.items ledger.sealed.items };
 
-    ghost invariant = { λ ledger. IsLedger (state_of ledger.balances.items ledger.sealed.items) × (ledger.total ≡ sum ledger.balances.items) };
+    ghost invariant = { λ ledger. IsLedger (state_of ledger.balances.items ledger.sealed.items)
+        × (ledger.total ≡ sum ledger.balances.items) };
 }
 
 impl Ledger {
@@ -74,8 +77,8 @@ impl Ledger {
         whole_array(self.sealed.as_slice())
     }
 
-    /// Takes over these balances and these marks, account 1 first, and takes no memory. Where the balances are over the
-    /// limit together it answers false, and the ledger stays as it is.
+    /// Takes over these balances and these marks, account 1 first, and takes no memory. Where the
+    /// balances are over the limit together it answers false, and the ledger stays as it is.
     pub fn restore(&mut self, balances: &[u64; ALL_ACCOUNTS], sealed: &[bool; ALL_ACCOUNTS]) -> bool
         ensures refused { (result ≡ false) ↔ (TOTAL_LIMIT < sum balances.now) }
         ensures restored { result ≡ true → self.new ≡ state_of balances.now sealed.now }
@@ -155,8 +158,8 @@ impl Ledger {
         change_balances(self, entry);
     }
 
-    /// The verdicts of a list of at most [`BATCH_LIMIT`] entries, each judged after the accepted ones before it.
-    /// Nothing is posted.
+    /// The verdicts of a list of at most [`BATCH_LIMIT`] entries, each judged after the accepted
+    /// ones before it. Nothing is posted.
     pub fn screen(&self, entries: &[Entry]) -> Verdicts
         requires { length entries.now ≤ BATCH_LIMIT }
         ensures verdicts { result ≡ screened self.now entries.now }

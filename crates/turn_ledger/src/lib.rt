@@ -1,10 +1,10 @@
 //! A ledger of numbered accounts, and the rules of its entries.
 //!
 //! Accounts are numbered from 1 to [`ACCOUNTS`], and each has a balance and a mark, which says
-//! whether it is sealed. A sealed account keeps its balance for good. What all accounts hold together
-//! never exceeds [`TOTAL_LIMIT`]. An [`Entry`] is a deposit, a withdrawal, a transfer or the seal of
-//! an account; it is checked against the rules in their order, and either refused with the first
-//! [`EntryRefusal`] that holds, which changes nothing, or posted.
+//! whether it is sealed. A sealed account keeps its balance for good. What all accounts hold
+//! together never exceeds [`TOTAL_LIMIT`]. An [`Entry`] is a deposit, a withdrawal, a transfer or
+//! the seal of an account; it is checked against the rules in their order, and either refused with
+//! the first [`EntryRefusal`] that holds, which changes nothing, or posted.
 //!
 //! The test `an_example_of_a_turn` in `src/ledgers.rt` of the crate `test_examples` is an example.
 #![tactic(auto)]

@@ -18,8 +18,8 @@ pub(crate) struct Change {
     balance: u64,
 }
 
-/// A ledger, what was written over its balances, and the places of the marks that were set. It is as large as
-/// the changes of one batch, however many accounts there are.
+/// A ledger, what was written over its balances, and the places of the marks that were set. It is
+/// as large as the changes of one batch, however many accounts there are.
 #[derive(Drop)]
 pub(crate) struct Scratch<'a> {
     ledger: &'a Ledger,

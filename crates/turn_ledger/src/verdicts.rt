@@ -1,5 +1,6 @@
 //! The verdicts of the entries of one turn.
-ghost use Rattle.std.specs.Prelude.{◌≡◌, ◌↔◌, ◌≤◌, ◌<◌, [], ◌∷◌, ◌++◌, length, slice_get, IsTrue, count_by, is_ok};
+ghost use Rattle.std.specs.Prelude.{◌≡◌, ◌↔◌, ◌≤◌, ◌<◌, [], ◌∷◌, ◌++◌, length, slice_get, IsTrue};
+ghost use Rattle.std.specs.Prelude.{count_by, is_ok};
 ghost use Rattle.std.specs.Slice.Iter.{iter_rest};
 
 use crate::{BATCH_LIMIT, EntryRefusal};

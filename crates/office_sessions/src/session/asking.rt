@@ -1,11 +1,12 @@
 //! What a counter asks that is no entry: of its station, or of a recess.
 ghost use Rattle.std.specs.Prelude.{◌≡◌, IfSome, Some};
-ghost use Rattle.text_grammar.specs.declared.requests.Request.TheVariants.{Balance, Find, Archive, Copy, Status};
+ghost use Rattle.text_grammar.specs.declared.requests.Request.TheVariants.{Balance, Find, Archive};
+ghost use Rattle.text_grammar.specs.declared.requests.Request.TheVariants.{Copy, Status};
 ghost use Rattle.office_sessions.specs.declared.messages.Message.TheVariants.{Asked};
 ghost use Rattle.office_sessions.specs.Conversation.{IsOther, IsAskedBy, IsResponseTo};
 ghost use Rattle.office_sessions.specs.Session.{HasPlace, OnlyTells, TellsNothing};
 
-use crate::recess::{ArchiveState, Came, Wish};
+use crate::recess::{ArchiveState, Wish, WishOutcome};
 use crate::responses::Response;
 use crate::scheduler::Scheduler;
 use crate::search::{Search, Step};
@@ -15,7 +16,8 @@ use station_desk::{Question, Report};
 use std::sync::Wait;
 
 impl Session {
-    // What the station reports on a question, which is put to it once, behind all that was asked before.
+    // What the station reports on a question, which is put to it once, behind all that was asked
+    // before.
     pub(super) fn report<R: Wait>(
         &mut self,
         rt: &R,
@@ -56,7 +58,8 @@ impl Session {
         }
     }
 
-    // Tells under which numbers a reference was posted, one after another; false until the last is told.
+    // Tells under which numbers a reference was posted, one after another; false until the last is
+    // told.
     pub(super) fn tell_found<R: Wait>(
         &mut self,
         rt: &R,
@@ -89,7 +92,7 @@ impl Session {
         rt: &R,
         scheduler: &Scheduler,
         wish: Wish,
-    ) -> Option<Came>
+    ) -> Option<WishOutcome>
         requires behind { self.old.postings.unanswered ≡ 0 }
         ensures stays { TellsNothing self.old self.new }
     {
@@ -103,8 +106,8 @@ impl Session {
         Some(came)
     }
 
-    // Tells how far the archive is; false if that isn't known yet. Where it can't be kept the office closes, and tells
-    // that.
+    // Tells how far the archive is; false if that isn't known yet. Where it can't be kept the
+    // office closes, and tells that.
     pub(super) fn tell_archived<R: Wait>(&mut self, rt: &R, scheduler: &Scheduler) -> bool
         requires place { HasPlace self.old }
         requires behind { self.old.postings.unanswered ≡ 0 }
@@ -112,12 +115,18 @@ impl Session {
         ensures stays { OnlyTells self.old self.new }
     {
         match self.what_came(rt, scheduler, Wish::Archive) {
-            Some(Came::Archive(ArchiveState::UpTo(next))) => self.respond(Response::Archived {
-                next,
-            }),
-            Some(Came::Archive(ArchiveState::NoArchive)) => self.respond(Response::NoArchive),
-            Some(Came::Archive(ArchiveState::Failed) | Came::Copy(_) | Came::Last(_)) | None =>
-                false,
+            Some(WishOutcome::Archive(ArchiveState::UpTo(next))) => self.respond(
+                Response::Archived { next },
+            ),
+            Some(WishOutcome::Archive(ArchiveState::NoArchive)) => self.respond(
+                Response::NoArchive,
+            ),
+            Some(
+                WishOutcome::Archive(ArchiveState::Failed)
+                | WishOutcome::Copy(_)
+                | WishOutcome::Last(_),
+            )
+            | None => false,
         }
     }
 
@@ -129,9 +138,9 @@ impl Session {
         ensures stays { OnlyTells self.old self.new }
     {
         match self.what_came(rt, scheduler, Wish::Copy) {
-            Some(Came::Copy(Ok(next))) => self.respond(Response::Copied { next }),
-            Some(Came::Copy(Err(refusal))) => self.respond(Response::NoCopy(refusal)),
-            Some(Came::Archive(_) | Came::Last(_)) | None => false,
+            Some(WishOutcome::Copy(Ok(next))) => self.respond(Response::Copied { next }),
+            Some(WishOutcome::Copy(Err(refusal))) => self.respond(Response::NoCopy(refusal)),
+            Some(WishOutcome::Archive(_) | WishOutcome::Last(_)) | None => false,
         }
     }
 

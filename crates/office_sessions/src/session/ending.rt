@@ -10,8 +10,9 @@ use std::alloc::{AllocError, Global};
 use std::time::Clock;
 
 impl Session {
-    /// Ends the conversation: what the counter asks to post by now is listed, other questions are refused, and it is
-    /// told that the office closes. Nothing is answered behind an entry that isn't.
+    /// Ends the conversation: what the counter asks to post by now is listed, other questions are
+    /// refused, and it is told that the office closes. Nothing is answered behind an entry that
+    /// isn't.
     ///
     /// # Errors
     /// Out of memory.

@@ -10,7 +10,7 @@ ghost use Rattle.turn_ledger.specs.Entry.{reference_of};
 
 use crate::look::{Look, LookAnswer, farther, judge};
 use crate::postings::Submission;
-use crate::recess::{Came, Wish};
+use crate::recess::{Wish, WishOutcome};
 use crate::responses::{Judgement, Response};
 use crate::scheduler::Scheduler;
 use crate::session::{Earlier, Session};
@@ -20,8 +20,9 @@ use turn_clerk::FindRefusal;
 use turn_ledger::Entry;
 
 impl Session {
-    // Posts the entry that is asked for next, for whose response there is a place; false if that can't be done yet. One
-    // with a reference is submitted only if that is above all that were posted here or are under way.
+    // Posts the entry that is asked for next, for whose response there is a place; false if that
+    // can't be done yet. One with a reference is submitted only if that is above all that were
+    // posted here or are under way.
     pub(super) fn post<R: Wait>(&mut self, rt: &R, scheduler: &Scheduler, entry: Entry) -> bool
         requires place { HasPlace self.old }
         requires next { self.old.next ≡ Some (Asked (Post entry)) }
@@ -57,8 +58,8 @@ impl Session {
         }
     }
 
-    // Submits the entry, or, if its reference isn't above or is too far above, judges it behind all that was asked
-    // before.
+    // Submits the entry, or, if its reference isn't above or is too far above, judges it behind all
+    // that was asked before.
     fn submit<R: Wait>(&mut self, rt: &R, scheduler: &Scheduler, entry: Entry) -> bool
         requires known { 0 < reference_of entry → self.old.earlier ≡ Earlier.Known }
         requires place { HasPlace self.old }
@@ -133,7 +134,8 @@ impl Session {
         true
     }
 
-    // Looks at the counter's own postings up to that reference, step by step; None until that is done.
+    // Looks at the counter's own postings up to that reference, step by step; None until that is
+    // done.
     fn look<R: Wait>(
         &mut self,
         rt: &R,
@@ -158,7 +160,8 @@ impl Session {
         None
     }
 
-    // Looks which references were posted here before the office was opened, if that isn't known; None until it is.
+    // Looks which references were posted here before the office was opened, if that isn't known;
+    // None until it is.
     fn look_back<R: Wait>(
         &mut self,
         rt: &R,
@@ -180,8 +183,8 @@ impl Session {
         }
     }
 
-    // Looks at all of the counter's own postings: in the records in sight, and if none is there, in the archive, for
-    // which a recess is called; None until that is done.
+    // Looks at all of the counter's own postings: in the records in sight, and if none is there, in
+    // the archive, for which a recess is called; None until that is done.
     fn look_far<R: Wait>(
         &mut self,
         rt: &R,
@@ -202,8 +205,8 @@ impl Session {
         let came = self.what_came(rt, scheduler, Wish::Last)?;
         self.out_of_sight = None;
         let in_archive = match came {
-            Came::Last(seen) => seen,
-            Came::Archive(_) | Came::Copy(_) => None,
+            WishOutcome::Last(seen) => seen,
+            WishOutcome::Archive(_) | WishOutcome::Copy(_) => None,
         };
         Some(Ok(farther(since, in_archive)))
     }
@@ -245,8 +248,8 @@ impl Session {
         }
     }
 
-    // Lets references begin with that one, if it is above all that were posted here as far as one sees; false if that
-    // isn't known yet.
+    // Lets references begin with that one, if it is above all that were posted here as far as one
+    // sees; false if that isn't known yet.
     pub(super) fn begin_with<R: Wait>(
         &mut self,
         rt: &R,

@@ -15,7 +15,8 @@ use std::sync::Wait;
 use text_grammar::Request;
 
 impl Session {
-    /// Hands on the answers that have come, and takes what the counter has said, as far as there is room.
+    /// Hands on the answers that have come, and takes what the counter has said, as far as there is
+    /// room.
     pub(crate) fn attend<R: Wait, C: Clients>(
         &mut self,
         rt: &R,
@@ -160,8 +161,8 @@ impl Session {
         self.respond(Response::Closing)
     }
 
-    // Tells the counter something else than an answer: a response to the message that is handled, for which there is a
-    // place.
+    // Tells the counter something else than an answer: a response to the message that is handled,
+    // for which there is a place.
     pub(super) fn respond(&mut self, response: Response) -> bool
         requires place { HasPlace self.old }
         requires other { IsOther response }

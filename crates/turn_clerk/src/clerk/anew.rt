@@ -28,8 +28,8 @@ impl<D: Device> Clerk<D> {
         }
     }
 
-    /// Begins anew on that line, with its journal and its ledger as they stand: it is as one that was just opened here,
-    /// and has no history. It makes no device call and takes no memory.
+    /// Begins anew on that line, with its journal and its ledger as they stand: it is as one that
+    /// was just opened here, and has no history. It makes no device call and takes no memory.
     ///
     /// # Errors
     /// The clerk has met a fault of its device, and comes back as it was.
@@ -43,7 +43,8 @@ impl<D: Device> Clerk<D> {
         ensures settled { (D.state self.journal.device).honest
             → IfOk result (λ clerk. IsDurable (D.state clerk.journal.device)) }
         ensures recovers { (D.state self.journal.device).honest
-            → IfOk result (λ clerk. RecoversTo (present_state clerk) (D.state self.journal.device).reads) }
+            → IfOk result (λ clerk.
+            RecoversTo (present_state clerk) (D.state self.journal.device).reads) }
     {
         if self.is_faulted() {
             return Err(self);

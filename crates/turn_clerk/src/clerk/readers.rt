@@ -72,7 +72,8 @@ impl<D: Device> Clerk<D> {
         &self.ledger
     }
 
-    /// The accepted entries of the turn that ended by a fault of the device, which may stand or not.
+    /// The accepted entries of the turn that ended by a fault of the device, which may stand or
+    /// not.
     pub fn in_flight(&self) -> Option<Batch>
         ensures value { result ≡ self.now.in_flight }
         ensures only_faulted { self.now.journal.faulted ≡ false → result ≡ None }
@@ -103,12 +104,14 @@ impl<D: Device> Clerk<D> {
 
     /// How many slots of the live bank are free.
     pub fn room(&self) -> u64
-        ensures { self.now.journal.next + result ≡ self.now.journal.live.base + self.now.journal.slots }
+        ensures { self.now.journal.next + result
+            ≡ self.now.journal.live.base + self.now.journal.slots }
     {
         self.journal.room()
     }
 
-    /// Whether a device fault was met, so that every turn is refused until the device is opened again.
+    /// Whether a device fault was met, so that every turn is refused until the device is opened
+    /// again.
     pub fn is_faulted(&self) -> bool
         ensures { result ≡ self.now.journal.faulted }
     {
@@ -116,7 +119,8 @@ impl<D: Device> Clerk<D> {
     }
 }
 
-/// What the clerk tells of itself, with its ledger's total and the number of its turns, and nothing of its device.
+/// What the clerk tells of itself, with its ledger's total and the number of its turns, and nothing
+/// of its device.
 impl<D: Device> fmt::Debug for Clerk<D> {
     fn fmt<W: fmt::Write>(&self, f: &mut fmt::Formatter<W>) -> fmt::Result {
         f.debug_struct("Clerk")

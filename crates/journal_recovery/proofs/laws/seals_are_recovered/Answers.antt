@@ -9,4 +9,12 @@ pub returns-clause-sealed : goal.returns-clause-sealed
 returns-clause-sealed c = still_sealed c.one_reading.ensures.contents c.one_reading.ensures.refused
 
 pub returns-clause-damaged : goal.returns-clause-damaged
-returns-clause-damaged c image slots live contents reads wrong = inr (record { slots = slots; live = live; contents = contents; reads = reads; is = refl; wrong = wrong })
+returns-clause-damaged c image slots live contents reads wrong =
+    inr (record {
+      slots = slots;
+      live = live;
+      contents = contents;
+      reads = reads;
+      is = refl;
+      wrong = wrong;
+    })

@@ -1,7 +1,7 @@
 -- the device has been read alone, and no kind was that of a damage
 use Rattle.std.proofs.Common.{◌≢◌}
 use Rattle.sector_device.specs.Crash.{AreLooks}
-use Rattle.ledger_drawing.specs.declared.kind.Kind.TheVariants.{Damaged}
+use Rattle.ledger_drawing.specs.declared.kind.SectorKind.TheVariants.{Damaged}
 use Rattle.ledger_drawing.proofs.map.greatest_kind.Given as goal
 
 abbrev pub invariant-loop-sector : goal.invariant-loop-sector

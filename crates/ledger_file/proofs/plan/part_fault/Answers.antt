@@ -3,7 +3,8 @@ use Rattle.std.specs.Prelude.{Some}
 use Rattle.gate_journal.specs.declared.first_sector.FirstSector.TheVariants as says
 use Rattle.ledger_file.specs.declared.plan.PartFault.TheVariants.{OtherVersion}
 use Rattle.ledger_file.specs.Plan.{IsPart}
-use Rattle.ledger_file.proofs.Parts.{IsSaid, cause_of, part_of, other_one, same_fault, short_both, whole_none}
+use Rattle.ledger_file.proofs.Parts.{IsSaid, cause_of, part_of, other_one, same_fault, short_both}
+use Rattle.ledger_file.proofs.Parts.{whole_none}
 use Rattle.ledger_file.proofs.plan.part_fault.Goals as goal
 
 pub short_fault-requires : goal.short_fault-requires
@@ -20,8 +21,11 @@ returns-in-OtherVersion-clause-some c fault =
       unsound = told.unsound;
       journal = told.journal;
     } in (
-      λ e. subst (IsPart bytes c.args.found) (same_fault (OtherVersion version) fault e) (part_of bytes (says.OtherVersion version) said c.args.found (OtherVersion version) refl),
-      λ part. ap Some (other_one (says.OtherVersion version) c.args.found version fault refl (cause_of bytes (says.OtherVersion version) said c.args.found fault part)),
+      λ e. subst (IsPart bytes c.args.found) (same_fault (OtherVersion version) fault e)
+          (part_of bytes (says.OtherVersion version) said c.args.found (OtherVersion version) refl),
+      λ part. ap Some
+          (other_one (says.OtherVersion version) c.args.found version fault refl
+          (cause_of bytes (says.OtherVersion version) said c.args.found fault part)),
     )
 
 pub returns-in-Journal-clause-some : goal.returns-in-Journal-clause-some
@@ -33,7 +37,8 @@ returns-in-Journal-clause-some c =
       unsound = told.unsound;
       journal = told.journal;
     } in
-    short_both c.args.first.now c.in-Journal.slots c.args.found said c.short_fault.result c.short_fault.ensures.some c.short_fault.ensures.short c.short_fault.ensures.whole
+    short_both c.args.first.now c.in-Journal.slots c.args.found said c.short_fault.result
+    c.short_fault.ensures.some c.short_fault.ensures.short c.short_fault.ensures.whole
 
 pub returns-in-Journal-clause-none : goal.returns-in-Journal-clause-none
 returns-in-Journal-clause-none c =
@@ -44,4 +49,5 @@ returns-in-Journal-clause-none c =
       unsound = told.unsound;
       journal = told.journal;
     } in
-    whole_none c.args.first.now c.in-Journal.slots c.args.found said c.short_fault.result c.short_fault.ensures.whole
+    whole_none c.args.first.now c.in-Journal.slots c.args.found said c.short_fault.result
+    c.short_fault.ensures.whole

@@ -7,5 +7,8 @@ returns-in-Ok-print_sound-clause-sound g c = λ honest.
 
 pub returns-in-Err-clause-refused : goal.returns-in-Err-clause-refused
 returns-in-Err-clause-refused g c = λ honest told.
-    let denied = c.print_unsound.ensures.refused told in
-    (c.in-Err.refusal, c.in-Err.ensures.refused honest (not_of_memory c.in-Err.refusal denied) (not_of_device c.in-Err.refusal denied))
+    let denied = c.print_unsound.ensures.refused told in (
+      c.in-Err.refusal,
+      c.in-Err.ensures.refused honest (not_of_memory c.in-Err.refusal denied)
+          (not_of_device c.in-Err.refusal denied),
+    )

@@ -18,5 +18,7 @@ returns g c =
       sweeps = said.sweeps;
       comes_round = said.comes_round;
     } in
-    subst (λ (start : Configuration). IsAuditOf start (moves_of c.args.clerk.now.history) c.in-Ok.audit) c.opening.ensures
-    (subst (λ (moves : List Move). IsAuditOf c.opening.result moves c.in-Ok.audit) c.moves.ensures.value told)
+    subst (λ (start : Configuration).
+    IsAuditOf start (moves_of c.args.clerk.now.history) c.in-Ok.audit) c.opening.ensures
+    (subst (λ (moves : List Move). IsAuditOf c.opening.result moves c.in-Ok.audit)
+    c.moves.ensures.value told)

@@ -15,9 +15,12 @@ make_move-requires g c =
     let clerk = c.args.clerk.now in
     let moves = take c.args.turns c.moves.result.now in
     let first : Move = record { station = 0; rule = Bottom } in
-    let run : IsRun clerk.opening.line moves = subst (λ ms. IsRun clerk.opening.line (take c.args.turns ms)) (sym c.moves.ensures.value)
+    let run : IsRun clerk.opening.line moves =
+    subst (λ ms. IsRun clerk.opening.line (take c.args.turns ms)) (sym c.moves.ensures.value)
     (IsRun-take c.args.turns (moves_of clerk.history) clerk.opening.line c.moves.ensures.run) in
-    subst (λ (line : Configuration). IsPrivilege line (get_or moves c.loop-step.step-index first).station (get_or moves c.loop-step.step-index first).rule) (sym c.loop-step.invariant)
+    subst (λ (line : Configuration).
+    IsPrivilege line (get_or moves c.loop-step.step-index first).station
+    (get_or moves c.loop-step.step-index first).rule) (sym c.loop-step.invariant)
     (privileged moves clerk.opening.line c.loop-step.step-index first run (search rules))
 
 pub loop-step-preserved : goal.loop-step-preserved
@@ -25,12 +28,18 @@ loop-step-preserved g c =
     let clerk = c.args.clerk.now in
     let moves = take c.args.turns c.moves.result.now in
     let first : Move = record { station = 0; rule = Bottom } in
-    c.make_move.ensures.moved ∙ ap (λ (line : Configuration). next line (get_or moves c.loop-step.step-index first)) c.loop-step.invariant
-    ∙ sym (configuration_at-more clerk.opening.line moves c.loop-step.step-index first (search rules))
+    c.make_move.ensures.moved
+    ∙ ap (λ (line : Configuration). next line (get_or moves c.loop-step.step-index first))
+    c.loop-step.invariant
+    ∙ sym (configuration_at-more clerk.opening.line moves c.loop-step.step-index first
+    (search rules))
 
 pub returns : goal.returns
 returns g c =
     let clerk = c.args.clerk.now in
     let moves = take c.args.turns c.moves.result.now in
     c.loop-step.invariant
-    ∙ ap (after clerk.opening.line) (take_all c.loop-step.step-index moves (search rules) ∙ ap (take c.args.turns) c.moves.ensures.value ∙ take-map move_of c.args.turns clerk.history)
+    ∙ ap (after clerk.opening.line)
+    (take_all c.loop-step.step-index moves (search rules)
+    ∙ ap (take c.args.turns) c.moves.ensures.value
+    ∙ take-map move_of c.args.turns clerk.history)

@@ -13,14 +13,21 @@ returns-in-Some c =
     let place = c.args.place in
     let found = c.in-Some.there.now in
     let looked = c.in-Some.ensures.lookup in
-    let is : slice_get turns place ≡ Some found = slice_get-get_or turns place found looked.3.0 ∙ ap (λ (t : Turn). Some t) (sym looked.1) in
-    let decides : Decides c.eq.result (found ≡ c.args.turn.now) = Decides-at c.eq.result _ c.eq.ensures (Turn-decides found c.args.turn.now) in
+    let is : slice_get turns place ≡ Some found =
+    slice_get-get_or turns place found looked.3.0 ∙ ap (λ (t : Turn). Some t) (sym looked.1) in
+    let decides : Decides c.eq.result (found ≡ c.args.turn.now) =
+    Decides-at c.eq.result _ c.eq.ensures (Turn-decides found c.args.turn.now) in
     Decides-like c.eq.result
     (λ same. is ∙ ap (λ (t : Turn). Some t) same)
-    (λ there. sym (get_or_from_slice_get turns place found found is) ∙ get_or_from_slice_get turns place c.args.turn.now found there)
+    (λ there. sym (get_or_from_slice_get turns place found found is)
+    ∙ get_or_from_slice_get turns place c.args.turn.now found there)
     decides
 
 pub returns-in-None : goal.returns-in-None
 returns-in-None c =
-    let past : length c.args.turns.now ≤ c.args.place = c.in-None.ensures.lookup.3 in
-    (λ yes. absurd (cc), λ there. absurd (omega (arith, past, slice_get_within c.args.turns.now c.args.place c.args.turn.now there)))
+    let past : length c.args.turns.now ≤ c.args.place = c.in-None.ensures.lookup.3 in (
+      λ yes. absurd (cc),
+      λ there. absurd
+          (omega
+          (arith, past, slice_get_within c.args.turns.now c.args.place c.args.turn.now there)),
+    )

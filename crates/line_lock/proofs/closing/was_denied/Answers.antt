@@ -10,5 +10,6 @@ privilege-requires g c =
     let same : stations c.line_at.result ≡ stations clerk.line =
     ap stations c.line_at.ensures
     ∙ stations-after (moves_of (take c.args.turns clerk.history)) clerk.opening.line
-    ∙ sym (ap stations c.history.ensures.legal.line ∙ stations-after (moves_of clerk.history) clerk.opening.line) in
+    ∙ sym (ap stations c.history.ensures.legal.line
+    ∙ stations-after (moves_of clerk.history) clerk.opening.line) in
     omega (arith, same, c.requires)

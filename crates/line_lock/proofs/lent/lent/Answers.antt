@@ -11,7 +11,9 @@ returns-in-Ok-close-clause-worked g c =
     let closing = c.in-Ok-close.ensures in
     let clerk = c.in-Ok-close.closing.clerk in
     let seats = c.in-Ok-work.worked.0.items in
-    let makes = λ (lent : List SeatState). g.W.OfficeWork.makes c.args.work g.L.OpenedOn.device g.L.OpenedOn.line lent seats c.in-Ok-work.worked.1 in (
+    let makes = λ (lent : List SeatState).
+    g.W.OfficeWork.makes c.args.work g.L.OpenedOn.device g.L.OpenedOn.line lent seats
+    c.in-Ok-work.worked.1 in (
       seats,
       subst makes c.in-Ok.ensures.seats c.in-Ok-work.ensures.made,
       subst (λ (count : ℕ). AccountFor count seats clerk) c.requires.named.one_each (record {
@@ -28,7 +30,9 @@ returns-in-Ok-close-clause-closed g c =
     let closing = c.in-Ok-close.ensures in
     let clerk = c.in-Ok-close.closing.clerk in
     record {
-      stations = ap stations closing.legal.line ∙ stations-after (moves_of clerk.history) clerk.opening.line ∙ closing.stations ∙ c.requires.named.one_each ∙ sym (ap stations c.requires.named.line);
+      stations = ap stations closing.legal.line
+          ∙ stations-after (moves_of clerk.history) clerk.opening.line ∙ closing.stations
+          ∙ c.requires.named.one_each ∙ sym (ap stations c.requires.named.line);
       opened = closing.opened;
       legal = closing.legal;
       run = closing.run;

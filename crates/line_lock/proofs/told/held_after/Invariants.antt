@@ -8,4 +8,6 @@ use Rattle.line_lock.proofs.told.held_after.Given as goal
 -- what the account held after the turns so far
 abbrev pub invariant-loop-turn : goal.invariant-loop-turn
 invariant-loop-turn g l =
-    l.balance ≡ balance_of (posted_in_order l.clerk.opening.ledger (entries_of (batches_of (take l.turn-index l.turn-items)))) l.account
+    l.balance ≡ balance_of
+    (posted_in_order l.clerk.opening.ledger
+    (entries_of (batches_of (take l.turn-index l.turn-items)))) l.account

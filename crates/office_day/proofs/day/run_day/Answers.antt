@@ -21,25 +21,33 @@ use Rattle.office_day.proofs.day.run_day.Goals as goal
 
 -- there is a desk for each station
 desk_for_each : (held : List (List Entry)) (feeds : List FeedState) (desks : List DeskState) (n : ℕ)
-    → AllZip HasHandedIn held feeds → AllZip AreTogether feeds desks → length held ≡ n → length desks ≡ n
+    → AllZip HasHandedIn held feeds → AllZip AreTogether feeds desks → length held ≡ n
+    → length desks ≡ n
 desk_for_each held feeds desks n handed together many =
     AllZip-long AreTogether feeds desks together ∙ AllZip-long HasHandedIn held feeds handed ∙ many
 
 pub run_office-run-requires-clause-as_many : goal.run_office-run-requires-clause-as_many
 run_office-run-requires-clause-as_many g c = λ κs within.
-    desk_for_each c.args.held.now c.in-Ok.feeds.items c.in-Ok.desks.items (stations c.args.line) c.in-Ok.ensures.handed_in c.in-Ok.ensures.together c.requires.held
+    desk_for_each c.args.held.now c.in-Ok.feeds.items c.in-Ok.desks.items (stations c.args.line)
+    c.in-Ok.ensures.handed_in c.in-Ok.ensures.together c.requires.held
 
 pub returns-in-Err-clause-refused : goal.returns-in-Err-clause-refused
 returns-in-Err-clause-refused g c honest =
-    let told = refused_day g.D.Device.state c.args.device c.in-Err.device c.in-Err.refusal honest c.in-Err.ensures.opening in
-    subst (λ (told : DayRefusal). IfOpening told (λ refusal. refusal ≢ Device → RecoveryRefuses (g.D.Device.state c.args.device).reads refusal)) (sym c.of_office.ensures) told
+    let told = refused_day g.D.Device.state c.args.device c.in-Err.device c.in-Err.refusal honest
+    c.in-Err.ensures.opening in
+    subst (λ (told : DayRefusal).
+    IfOpening told (λ refusal. refusal ≢ Device
+    → RecoveryRefuses (g.D.Device.state c.args.device).reads refusal)) (sym c.of_office.ensures)
+    told
 
 pub all_reconciled-requires : goal.all_reconciled-requires
 all_reconciled-requires g c =
     let ran = c.in-Ok-run.ensures.ran in
     let count = stations c.args.line in
-    let alike = desk_for_each c.args.held.now c.in-Ok.feeds.items c.in-Ok.desks.items count c.in-Ok.ensures.handed_in c.in-Ok.ensures.together c.requires.held in
-    stay_together c.in-Ok.feeds.items (new_seats count) c.in-Ok.desks.items ran.0 c.in-Ok-run.run'.1.items c.args.moves ⊥
+    let alike = desk_for_each c.args.held.now c.in-Ok.feeds.items c.in-Ok.desks.items count
+    c.in-Ok.ensures.handed_in c.in-Ok.ensures.together c.requires.held in
+    stay_together c.in-Ok.feeds.items (new_seats count) c.in-Ok.desks.items ran.0
+    c.in-Ok-run.run'.1.items c.args.moves ⊥
     c.in-Ok.ensures.together (alike ∙ sym (length-new_seats count)) ran.1
 
 -- the lists of the day
@@ -54,14 +62,17 @@ parts g c = record {
 }
 
 went : (g : given.Over) (c : goal.In-Ok-all_reconciled g) → let clerk = c.in-Ok-run.run'.0.clerk in
-    Went g.D.Device.state (g.D.Device.state c.args.device) c.args.line clerk c.args.moves (parts g c)
+    Went g.D.Device.state (g.D.Device.state c.args.device) c.args.line clerk c.args.moves
+    (parts g c)
 went g c =
     let ran = c.in-Ok-run.ensures.ran in
     record {
       handed = c.in-Ok.ensures.handed_in;
       together = c.in-Ok.ensures.together;
       fresh = c.in-Ok.ensures.fresh;
-      served = subst (λ (count : ℕ). HaveServed g.D.Device.state (g.D.Device.state c.args.device) c.args.line (new_seats count) c.in-Ok.desks.items ran.0 c.in-Ok-run.run'.1.items c.args.moves ⊥)
+      served = subst (λ (count : ℕ).
+          HaveServed g.D.Device.state (g.D.Device.state c.args.device) c.args.line (new_seats count)
+          c.in-Ok.desks.items ran.0 c.in-Ok-run.run'.1.items c.args.moves ⊥)
           (sym c.requires.held) ran.1;
       borne_out = ran.2.borne_out;
       reconciled = c.in-Ok-all_reconciled.ensures;
@@ -75,11 +86,13 @@ returns-in-Ok-all_reconciled-clause-within g c =
     let clerk = c.in-Ok-run.run'.0.clerk in
     no_more clerk c.args.moves c.args.held.now c.in-Ok-all_reconciled.stations.items
     (had_their_day (went g c))
-    (subst (λ (n : ℕ). All (λ turn. turn.station < n) clerk.history) (sym c.requires.held) c.in-Ok-run.ensures.ran.2.there)
+    (subst (λ (n : ℕ). All (λ turn. turn.station < n) clerk.history) (sym c.requires.held)
+    c.in-Ok-run.ensures.ran.2.there)
     c.in-Ok-run.ensures.closed.legal
 
 pub returns-in-Ok-all_reconciled-clause-failed : goal.returns-in-Ok-all_reconciled-clause-failed
-returns-in-Ok-all_reconciled-clause-failed g c = sym (failures_counted (went g c)) ∙ c.in-Ok-run.ensures.ran.2.failed
+returns-in-Ok-all_reconciled-clause-failed g c =
+    sym (failures_counted (went g c)) ∙ c.in-Ok-run.ensures.ran.2.failed
 
 pub returns-in-Err-all_reconciled-clause-left : goal.returns-in-Err-all_reconciled-clause-left
 returns-in-Err-all_reconciled-clause-left g c =

@@ -15,7 +15,9 @@ pub returns-in-Ok-close-clause-ran : goal.returns-in-Ok-close-clause-ran
 returns-in-Ok-close-clause-ran g c =
     let closing = c.in-Ok-close.ensures in
     let seats = c.in-Ok.both.0.items in
-    let makes = λ (lent : List SeatState). HaveServed g.D.Device.state g.L.OpenedOn.device g.L.OpenedOn.line lent c.args.desks.items seats c.in-Ok.both.1.items c.args.moves
+    let makes = λ (lent : List SeatState).
+    HaveServed g.D.Device.state g.L.OpenedOn.device g.L.OpenedOn.line lent c.args.desks.items
+    seats c.in-Ok.both.1.items c.args.moves
     (g.G.Gate.closes c.args.gate.now) in (
       seats,
       subst makes c.requires.seats c.in-Ok.ensures,
@@ -33,7 +35,9 @@ returns-in-Ok-close-clause-closed g c =
     let closing = c.in-Ok-close.ensures in
     let clerk = c.in-Ok-close.closing.clerk in
     record {
-      stations = ap stations closing.legal.line ∙ stations-after (moves_of clerk.history) clerk.opening.line ∙ closing.stations ∙ c.requires.one_each;
+      stations = ap stations closing.legal.line
+          ∙ stations-after (moves_of clerk.history) clerk.opening.line ∙ closing.stations
+          ∙ c.requires.one_each;
       opened = closing.opened;
       legal = closing.legal;
       run = closing.run;

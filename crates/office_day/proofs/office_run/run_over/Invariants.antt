@@ -6,4 +6,9 @@ abbrev pub ghosts-named_over-L-Ledger : goal.ghosts-named_over-L-Ledger
 ghosts-named_over-L-Ledger g a = record { name = a.blank.name; parts = a.blank.parts }
 
 abbrev pub ghosts-named_over-L-OpenedOn : goal.ghosts-named_over-L-OpenedOn
-ghosts-named_over-L-OpenedOn g a = record { device = g.D.Device.state a.clerk.journal.device; line = a.clerk.line; begins = λ found. found ≡ present_state a.clerk }
+ghosts-named_over-L-OpenedOn g a =
+    record {
+      device = g.D.Device.state a.clerk.journal.device;
+      line = a.clerk.line;
+      begins = λ found. found ≡ present_state a.clerk;
+    }

@@ -10,5 +10,6 @@ invariant-loop-feed l = record {
   done : AllZip (λ pair day. IsReconciled pair.0 pair.1 day) l.yielded l.days.items;
   feeds : map (λ pair. pair.0) l.yielded ++ l.feed-iterator.a.rest.items ≡ l.fn.feeds.items;
   left : map (λ pair. pair.1) l.yielded ++ l.feed-iterator.b.rest.items ≡ l.fn.left.items;
-  together : AllZip (λ feed part. AreTogether feed part.desk) l.feed-iterator.a.rest.items l.feed-iterator.b.rest.items;
+  together : AllZip (λ feed part. AreTogether feed part.desk) l.feed-iterator.a.rest.items
+      l.feed-iterator.b.rest.items;
 }

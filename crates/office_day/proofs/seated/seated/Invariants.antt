@@ -4,7 +4,9 @@ use Rattle.office_day.proofs.seated.seated.Given as goal
 
 abbrev pub invariant-loop-seat : goal.invariant-loop-seat
 invariant-loop-seat g l = record {
-  seats : map (λ station. station.seat) l.stations.items ++ l.seat-iterator.a.rest.items ≡ l.fn.seats.items;
-  desks : map (λ station. station.desk) l.stations.items ++ l.seat-iterator.b.rest.items ≡ l.fn.desks.items;
+  seats : map (λ station. station.seat) l.stations.items ++ l.seat-iterator.a.rest.items
+      ≡ l.fn.seats.items;
+  desks : map (λ station. station.desk) l.stations.items ++ l.seat-iterator.b.rest.items
+      ≡ l.fn.desks.items;
   alike : length l.seat-iterator.b.rest.items ≡ length l.seat-iterator.a.rest.items;
 }

@@ -6,5 +6,7 @@ returns-clause-archived g c =
     let recess = c.lend.new.borrower in
     record {
       is = g.met.P.Recess.keeps c.args.recess.now recess c.lend.ensures.changed;
-      caught_up = λ honest. g.met.P.Recess.catches_up left.reads c.args.recess.now recess (c.lend.ensures.learned honest);
+      caught_up = λ honest.
+          g.met.P.Recess.catches_up left.reads c.args.recess.now recess
+          (c.lend.ensures.learned honest);
     }

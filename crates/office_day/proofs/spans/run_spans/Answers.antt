@@ -1,6 +1,6 @@
 use Rattle.std.proofs.Common.{All, List, ap, sym, subst}
 use Rattle.turn_clerk.specs.Clerk.{ClerkState, present_state}
-use Rattle.office_day.specs.declared.seated.Left.{Left}
+use Rattle.office_day.specs.declared.seated.StationRemains.{StationRemains}
 use Rattle.office_day.specs.Spans.{adjourned_to, span_of, IsGoodEnd, IsLeftBy}
 use Rattle.office_day.proofs.Archived.{nothing_archived, archived-more}
 use Rattle.office_day.proofs.SpanLaws.{nothing_lived, lived, come-further, desks_enough}
@@ -9,9 +9,11 @@ use Rattle.office_day.proofs.spans.run_spans.Goals as goal
 pub loop-init : goal.loop-init
 unfolding nothing_lived
 loop-init g c = (
-  nothing_lived g.D.Device.state c.args.moves (adjourned_to c.args.office.clerk c.args.office.desks.items),
+  nothing_lived g.D.Device.state c.args.moves
+      (adjourned_to c.args.office.clerk c.args.office.desks.items),
   c.requires.as_many,
-  nothing_archived g.D.Device.state c.args.office.clerk.journal.device (g.P.Recess.archive c.args.recess.now),
+  nothing_archived g.D.Device.state c.args.office.clerk.journal.device
+      (g.P.Recess.archive c.args.recess.now),
 )
 
 pub run_span-requires-clause-as_many : goal.run_span-requires-clause-as_many
@@ -30,10 +32,13 @@ returns-then-not-goes_on-clause-lived g c =
     let from = adjourned_to c.args.office.clerk c.args.office.desks.items in
     let before = adjourned_to c.loop.office.clerk c.loop.office.desks.items in
     let life = c.in-Ok.life in
-    lived g.D.Device.state c.args.moves _ from before c.loop.invariant.0 (span_of life.clerk life.audit) life.left.items _ _ c.in-Ok.ensures.closed c.in-Ok.ensures.left
+    lived g.D.Device.state c.args.moves _ from before c.loop.invariant.0
+    (span_of life.clerk life.audit) life.left.items _ _ c.in-Ok.ensures.closed
+    c.in-Ok.ensures.left
     c.loop.invariant.2
 
-pub returns-in-Err-between_spans-clause-broken_off : goal.returns-in-Err-between_spans-clause-broken_off
+pub returns-in-Err-between_spans-clause-broken_off
+    : goal.returns-in-Err-between_spans-clause-broken_off
 returns-in-Err-between_spans-clause-broken_off g c =
     let closed = c.in-Ok.ensures.closed.closed in
     record {
@@ -65,9 +70,15 @@ loop-preserved g c =
       line = ap (λ (k : ClerkState _). k.line) made.clerk;
       held = ap present_state made.clerk;
     } in (
-      come-further g.D.Device.state c.args.moves _ from before after c.loop.invariant.0 span life.left.items c.in-Ok.ensures.closed c.in-Ok.ensures.left
-          (subst (λ (l : List Left). All (λ (part : Left). IsGoodEnd part.end) l) c.as_slice.ensures.value (c.goes_on.ensures.well c.if-not-goes_on.false)) rests made.desks,
-      desks_enough g.D.Device.state c.args.moves _ before after span life.left.items c.loop.invariant.1 c.in-Ok.ensures.closed c.in-Ok.ensures.left rests.line made.desks,
-      archived-more g.D.Device.state c.args.moves from.rest.device c.loop.invariant.0.spans before.rest span after.rest.device _ _ _
+      come-further g.D.Device.state c.args.moves _ from before after c.loop.invariant.0 span
+          life.left.items c.in-Ok.ensures.closed c.in-Ok.ensures.left
+          (subst (λ (l : List StationRemains).
+          All (λ (part : StationRemains). IsGoodEnd part.end) l)
+          c.as_slice.ensures.value (c.goes_on.ensures.well c.if-not-goes_on.false)) rests
+          made.desks,
+      desks_enough g.D.Device.state c.args.moves _ before after span life.left.items
+          c.loop.invariant.1 c.in-Ok.ensures.closed c.in-Ok.ensures.left rests.line made.desks,
+      archived-more g.D.Device.state c.args.moves from.rest.device c.loop.invariant.0.spans
+          before.rest span after.rest.device _ _ _
           c.loop.invariant.2 c.in-Ok.ensures.closed made.sound made.looked made.archived,
     )

@@ -18,9 +18,12 @@ pub loop-day-preserved : goal.loop-day-preserved
 loop-day-preserved c =
     let day = c.day-item.result in
     let none : reason_of day.end ≡ None = search rules in
-    All-more (λ (d : StationDay). reason_of d.end ≡ None) c.args.stations.now c.loop-day.day-index day c.loop-day-test.true c.loop-day.invariant
+    All-more (λ (d : StationDay). reason_of d.end ≡ None) c.args.stations.now c.loop-day.day-index
+    day c.loop-day-test.true c.loop-day.invariant
     (subst (λ (d : StationDay). reason_of d.end ≡ None) c.day-item.is none)
 
 pub returns-clause-none : goal.returns-clause-none
 returns-clause-none c =
-    subst (λ (days : List StationDay). NoneWasRefused days) (take_all c.loop-day.day-index c.args.stations.now c.loop-day-test.false) c.loop-day.invariant
+    subst (λ (days : List StationDay). NoneWasRefused days)
+    (take_all c.loop-day.day-index c.args.stations.now c.loop-day-test.false)
+    c.loop-day.invariant

@@ -11,7 +11,8 @@ invariant-loop g l = record {
   kept : l.journal ≡ after_reads l.initial.journal l.journal.device;
   works : l.journal.faulted ≡ false;
   fits : FitsSlots l.journal.slots l.journal.live l.back;
-  honest : (g.D.Device.state l.initial.journal.device).honest → (g.D.Device.state l.journal.device).honest;
+  honest : (g.D.Device.state l.initial.journal.device).honest
+      → (g.D.Device.state l.journal.device).honest;
   looks : LooksOnly (g.D.Device.state l.initial.journal.device) (g.D.Device.state l.journal.device);
   above : IsAbove l.look.posting;
 }

@@ -14,10 +14,17 @@ loop-session-preserved g c =
     let feed : FeedState = c.in_ok-feed.feed in
     let conversation : ConversationState = c.in_ok-feed.conversation in
     let own : feed ≡ c.in-Some.session.postings.feed = c.in_ok-feed.ensures.feed in
-    let more : map feed_of at.yielded ++ c.in-Some.session.postings.feed ∷ [] ≡ map feed_of (at.yielded ++ c.in-Some.session ∷ []) = sym (map-append feed_of at.yielded (c.in-Some.session ∷ [])) in
-    let over : IsOver c.in-Some.session.postings.feed conversation = subst (λ (f : FeedState). IsOver f conversation) own c.in_ok-feed.ensures.over in (
+    let more : map feed_of at.yielded ++ c.in-Some.session.postings.feed ∷ []
+    ≡ map feed_of (at.yielded ++ c.in-Some.session ∷ []) =
+    sym (map-append feed_of at.yielded (c.in-Some.session ∷ [])) in
+    let over : IsOver c.in-Some.session.postings.feed conversation =
+    subst (λ (f : FeedState). IsOver f conversation) own c.in_ok-feed.ensures.over in (
       c.in_ok-push.ensures.items ∙ (λ i. at.invariant.0 i ++ own i ∷ []) ∙ more,
-      subst (λ (l : List ConversationState). AllZip IsOver (map feed_of (at.yielded ++ c.in-Some.session ∷ [])) l) (sym c.in_ok-push-2.ensures.items)
-          (subst (λ (l : List FeedState). AllZip IsOver l (at.conversations.items ++ conversation ∷ [])) more
-          (AllZip-more IsOver (map feed_of at.yielded) at.conversations.items c.in-Some.session.postings.feed conversation at.invariant.1 over)),
+      subst (λ (l : List ConversationState).
+          AllZip IsOver (map feed_of (at.yielded ++ c.in-Some.session ∷ [])) l)
+          (sym c.in_ok-push-2.ensures.items)
+          (subst (λ (l : List FeedState).
+          AllZip IsOver l (at.conversations.items ++ conversation ∷ [])) more
+          (AllZip-more IsOver (map feed_of at.yielded) at.conversations.items
+          c.in-Some.session.postings.feed conversation at.invariant.1 over)),
     )

@@ -7,4 +7,6 @@ use Rattle.office_sessions.proofs.open_office.all_ended.Given as goal
 -- the feeds of the sessions so far, and their conversations
 abbrev pub invariant-loop-session : goal.invariant-loop-session
 invariant-loop-session g l =
-    (l.feeds.items ≡ map (λ (session : Session). session.postings.feed) l.yielded) × AllZip IsOver (map (λ (session : Session). session.postings.feed) l.yielded) l.conversations.items
+    (l.feeds.items ≡ map (λ (session : Session). session.postings.feed) l.yielded)
+    × AllZip IsOver (map (λ (session : Session). session.postings.feed) l.yielded)
+    l.conversations.items

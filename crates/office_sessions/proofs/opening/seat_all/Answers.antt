@@ -15,15 +15,25 @@ loop-station-preserved g c =
     let desk = c.in_ok-feed.desk in
     let feed_of : Session → FeedState = λ s. s.postings.feed in
     let own : session.postings.feed ≡ c.in_ok-feed.feed = c.in_ok-session.ensures.feed in
-    let feeds : map feed_of c.add.new.self.sessions.items ≡ map feed_of at.all.sessions.items ++ session.postings.feed ∷ [] =
-    ap (map feed_of) c.in_ok-add.ensures.sessions ∙ map-append feed_of at.all.sessions.items (session ∷ []) in
-    let desks : c.add.new.self.desks.items ≡ at.all.desks.items ++ desk ∷ [] = c.in_ok-add.ensures.desks in
-    let near : AreTogether session.postings.feed desk = subst (λ (f : FeedState). AreTogether f desk) (sym own) c.in_ok-feed.ensures.together in
+    let feeds : map feed_of c.add.new.self.sessions.items
+    ≡ map feed_of at.all.sessions.items ++ session.postings.feed ∷ [] =
+    ap (map feed_of) c.in_ok-add.ensures.sessions
+    ∙ map-append feed_of at.all.sessions.items (session ∷ []) in
+    let desks : c.add.new.self.desks.items ≡ at.all.desks.items ++ desk ∷ [] =
+    c.in_ok-add.ensures.desks in
+    let near : AreTogether session.postings.feed desk =
+    subst (λ (f : FeedState). AreTogether f desk) (sym own) c.in_ok-feed.ensures.together in
     record {
-      together = subst (λ (l : List FeedState). AllZip AreTogether l c.add.new.self.desks.items) (sym feeds)
-          (subst (λ (l : List DeskState). AllZip AreTogether (map feed_of at.all.sessions.items ++ session.postings.feed ∷ []) l) (sym desks)
-          (AllZip-more AreTogether (map feed_of at.all.sessions.items) at.all.desks.items session.postings.feed desk at.invariant.together near));
+      together = subst (λ (l : List FeedState). AllZip AreTogether l c.add.new.self.desks.items)
+          (sym feeds)
+          (subst (λ (l : List DeskState).
+          AllZip AreTogether (map feed_of at.all.sessions.items ++ session.postings.feed ∷ [])
+          l) (sym desks)
+          (AllZip-more AreTogether (map feed_of at.all.sessions.items) at.all.desks.items
+          session.postings.feed desk at.invariant.together near));
       fresh = subst (λ (l : List DeskState). All IsFresh l) (sym desks)
-          (All-push IsFresh at.all.desks.items desk at.invariant.fresh (ap (λ (d : DeskState). d.given) c.in_ok-feed.ensures.desk));
-      many = ap length desks ∙ length-append at.all.desks.items (desk ∷ []) ∙ ap (λ n. n + 1) at.invariant.many;
+          (All-push IsFresh at.all.desks.items desk at.invariant.fresh
+          (ap (λ (d : DeskState). d.given) c.in_ok-feed.ensures.desk));
+      many = ap length desks ∙ length-append at.all.desks.items (desk ∷ [])
+          ∙ ap (λ n. n + 1) at.invariant.many;
     }

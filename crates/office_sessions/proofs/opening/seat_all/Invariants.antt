@@ -7,7 +7,8 @@ use Rattle.office_sessions.proofs.opening.seat_all.Given as goal
 -- the stations so far: each session's feed is together with its desk, which is fresh
 abbrev pub invariant-loop-station : goal.invariant-loop-station
 invariant-loop-station g l = record {
-  together : AllZip AreTogether (map (λ session. session.postings.feed) l.all.sessions.items) l.all.desks.items;
+  together : AllZip AreTogether (map (λ session. session.postings.feed) l.all.sessions.items)
+      l.all.desks.items;
   fresh : All IsFresh l.all.desks.items;
   many : length l.all.desks.items ≡ l.station;
 }

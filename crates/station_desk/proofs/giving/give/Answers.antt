@@ -23,7 +23,8 @@ loop-place-preserved c =
     } in
     record {
       ring = search rules;
-      given = given-next (sent c.args.answers.now) (sent now) (sent after) asks outcomes place next c.loop-place.invariant.given
+      given = given-next (sent c.args.answers.now) (sent now) (sent after) asks outcomes place next
+          c.loop-place.invariant.given
           (rw (← c.answered.ensures) c.push_reserved.ensures.sent.0);
       free = omega (arith, c.loop-place.invariant.free, c.push_reserved.ensures.sent.1);
     }

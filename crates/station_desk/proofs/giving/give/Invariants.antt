@@ -8,6 +8,7 @@ use Rattle.station_desk.proofs.giving.give.Given as goal
 abbrev pub invariant-loop-place : goal.invariant-loop-place
 invariant-loop-place l = record {
   ring : SameProducer l.initial.answers l.answers;
-  given : sent l.answers ≡ sent l.initial.answers ++ answers_to (take l.place l.asks) (outcomes_of l.turn);
+  given : sent l.answers
+      ≡ sent l.initial.answers ++ answers_to (take l.place l.asks) (outcomes_of l.turn);
   free : known_free l.initial.answers ≡ known_free l.answers + l.place;
 }

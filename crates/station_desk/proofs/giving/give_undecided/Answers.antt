@@ -21,11 +21,13 @@ loop-ask-preserved c =
       ask = get_or asks place filler;
       outcome = Undecided;
       here = here;
-      there = slice_get-map (λ (ask : Ask). Undecided) asks place ∙ ap (option_map (λ (ask : Ask). Undecided)) here;
+      there = slice_get-map (λ (ask : Ask). Undecided) asks place
+          ∙ ap (option_map (λ (ask : Ask). Undecided)) here;
     } in
     record {
       ring = search rules;
-      given = given-next (sent c.args.answers.now) (sent now) (sent after) asks (undecided asks) place next c.loop-ask.invariant.given
+      given = given-next (sent c.args.answers.now) (sent now) (sent after) asks (undecided asks)
+          place next c.loop-ask.invariant.given
           (rw (← c.answered.ensures) c.push_reserved.ensures.sent.0);
       free = omega (arith, c.loop-ask.invariant.free, c.push_reserved.ensures.sent.1);
     }

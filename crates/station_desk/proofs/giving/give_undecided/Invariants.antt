@@ -8,6 +8,7 @@ use Rattle.station_desk.proofs.giving.give_undecided.Given as goal
 abbrev pub invariant-loop-ask : goal.invariant-loop-ask
 invariant-loop-ask l = record {
   ring : SameProducer l.initial.answers l.answers;
-  given : sent l.answers ≡ sent l.initial.answers ++ answers_to (take l.ask-index l.asks) (undecided l.asks);
+  given : sent l.answers
+      ≡ sent l.initial.answers ++ answers_to (take l.ask-index l.asks) (undecided l.asks);
   free : known_free l.initial.answers ≡ known_free l.answers + l.ask-index;
 }

@@ -14,15 +14,22 @@ pub loop-preserved : goal.loop-preserved
 loop-preserved c =
     let ask : Ask = c.in-Ok.ask in
     record {
-      taking = one_more_taken c.args.asks.now c.loop.asks c.pop.new.self c.args.held.now c.loop.held c.push.new.self ask c.loop.invariant.taking
+      taking = one_more_taken c.args.asks.now c.loop.asks c.pop.new.self c.args.held.now c.loop.held
+          c.push.new.self ask c.loop.invariant.taking
           (record { ring = c.pop.ensures.ring; taken = c.in-Ok.ensures.ok.0 }) c.push.ensures;
-      count = omega (arith, ap length c.push.ensures, length_push c.loop.held ask, c.loop.invariant.count);
+      count = omega (
+        arith,
+        ap length c.push.ensures,
+        length_push c.loop.held ask,
+        c.loop.invariant.count,
+      );
     }
 
 pub returns-in_default : goal.returns-in_default
 returns-in_default c =
     let far : Taking c.args.asks.now c.pop.new.self c.args.held.now c.loop.held =
-    still_taken c.args.asks.now c.loop.asks c.pop.new.self c.args.held.now c.loop.held c.loop.invariant.taking c.pop.ensures.ring c.in_default.ensures.empty.0 in
+    still_taken c.args.asks.now c.loop.asks c.pop.new.self c.args.held.now c.loop.held
+    c.loop.invariant.taking c.pop.ensures.ring c.in_default.ensures.empty.0 in
     record {
       more = far.more;
       ring = far.ring;
@@ -35,7 +42,15 @@ returns-in_default c =
 pub returns : goal.returns
 returns c =
     let far = c.loop.invariant.taking in
-    let full : length c.loop.held ≡ c.args.room = omega (arith, c.loop.invariant.count, c.loop-test.false, c.loop.auto.counter-end, c.len-counter.ensures, c.requires.room) in
+    let full : length c.loop.held ≡ c.args.room =
+    omega (
+      arith,
+      c.loop.invariant.count,
+      c.loop-test.false,
+      c.loop.auto.counter-end,
+      c.len-counter.ensures,
+      c.requires.room,
+    ) in
     record {
       more = far.more;
       ring = far.ring;

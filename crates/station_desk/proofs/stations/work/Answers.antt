@@ -14,20 +14,25 @@ pub returns-in-Some-end_of-clause-worked : goal.returns-in-Some-end_of-clause-wo
 returns-in-Some-end_of-clause-worked g c =
     let refusal = c.in-Err.refusal in
     let end = c.in-Some-end_of.end in
-    worked-joined c.args.seat.now c.loop.seat c.round.new.seat c.args.desk.now c.loop.desk c.round.new.desk c.args.moves (end ≡ Refused Device) c.loop.invariant
-    (worked-where c.loop.seat c.round.new.seat c.loop.desk c.round.new.desk c.args.moves (Err refusal ≡ Err (Turn Device)) (end ≡ Refused Device)
+    worked-joined c.args.seat.now c.loop.seat c.round.new.seat c.args.desk.now c.loop.desk
+    c.round.new.desk c.args.moves (end ≡ Refused Device) c.loop.invariant
+    (worked-where c.loop.seat c.round.new.seat c.loop.desk c.round.new.desk c.args.moves
+    (Err refusal ≡ Err (Turn Device)) (end ≡ Refused Device)
     (λ failed.
     let device : refusal ≡ Turn Device = cc in
     let told : c.end_of.result ≡ Some (Refused Device) = c.end_of.ensures.device.1 device in
     let is = c.in-Some-end_of.is in
     cc)
-    (λ ended. ap (λ (r : WithinRefusal). Err r) (c.end_of.ensures.device.0 (c.in-Some-end_of.is ∙ ap (λ (e : End). Some e) ended)))
+    (λ ended. ap (λ (r : WithinRefusal). Err r)
+    (c.end_of.ensures.device.0 (c.in-Some-end_of.is ∙ ap (λ (e : End). Some e) ended)))
     c.in-Err.ensures.worked)
 
 pub loop-preserved-in_default : goal.loop-preserved-in_default
 loop-preserved-in_default g c =
-    worked-joined c.args.seat.now c.loop.seat c.round.new.seat c.args.desk.now c.loop.desk c.round.new.desk c.args.moves ⊥ c.loop.invariant
-    (worked-where c.loop.seat c.round.new.seat c.loop.desk c.round.new.desk c.args.moves (c.round.result ≡ Err (Turn Device)) ⊥
+    worked-joined c.args.seat.now c.loop.seat c.round.new.seat c.args.desk.now c.loop.desk
+    c.round.new.desk c.args.moves ⊥ c.loop.invariant
+    (worked-where c.loop.seat c.round.new.seat c.loop.desk c.round.new.desk c.args.moves
+    (c.round.result ≡ Err (Turn Device)) ⊥
     (λ failed. c.in_default.not-Err (Turn Device) failed)
     (λ never. absurd never)
     c.round.ensures.worked)
@@ -35,8 +40,10 @@ loop-preserved-in_default g c =
 pub returns-then-refused-tries-clause-worked : goal.returns-then-refused-tries-clause-worked
 returns-then-refused-tries-clause-worked g c =
     let refusal = c.in-Err.refusal in
-    worked-joined c.args.seat.now c.loop.seat c.round.new.seat c.args.desk.now c.loop.desk c.round.new.desk c.args.moves (Tries ≡ Refused Device) c.loop.invariant
-    (worked-where c.loop.seat c.round.new.seat c.loop.desk c.round.new.desk c.args.moves (Err refusal ≡ Err (Turn Device)) (Tries ≡ Refused Device)
+    worked-joined c.args.seat.now c.loop.seat c.round.new.seat c.args.desk.now c.loop.desk
+    c.round.new.desk c.args.moves (Tries ≡ Refused Device) c.loop.invariant
+    (worked-where c.loop.seat c.round.new.seat c.loop.desk c.round.new.desk c.args.moves
+    (Err refusal ≡ Err (Turn Device)) (Tries ≡ Refused Device)
     (λ failed.
     let device : refusal ≡ Turn Device = cc in
     let told : c.end_of.result ≡ Some (Refused Device) = c.end_of.ensures.device.1 device in
@@ -48,8 +55,10 @@ returns-then-refused-tries-clause-worked g c =
 pub loop-preserved : goal.loop-preserved
 loop-preserved g c =
     let refusal = c.in-Err.refusal in
-    worked-joined c.args.seat.now c.loop.seat c.round.new.seat c.args.desk.now c.loop.desk c.round.new.desk c.args.moves ⊥ c.loop.invariant
-    (worked-where c.loop.seat c.round.new.seat c.loop.desk c.round.new.desk c.args.moves (Err refusal ≡ Err (Turn Device)) ⊥
+    worked-joined c.args.seat.now c.loop.seat c.round.new.seat c.args.desk.now c.loop.desk
+    c.round.new.desk c.args.moves ⊥ c.loop.invariant
+    (worked-where c.loop.seat c.round.new.seat c.loop.desk c.round.new.desk c.args.moves
+    (Err refusal ≡ Err (Turn Device)) ⊥
     (λ failed.
     let device : refusal ≡ Turn Device = cc in
     let told : c.end_of.result ≡ Some (Refused Device) = c.end_of.ensures.device.1 device in

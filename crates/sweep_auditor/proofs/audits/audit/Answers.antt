@@ -7,7 +7,8 @@ use Rattle.sweep_auditor.specs.declared.moves.Move.{Move}
 use Rattle.sweep_auditor.specs.Run.{next}
 use Rattle.sweep_auditor.specs.RunLaws.{configuration_at-more, IsRun-more}
 use Rattle.sweep_auditor.specs.Stabilization.{top_of, LegitimateFrom, IsStretch, ComesRound, Sweeps}
-use Rattle.sweep_auditor.proofs.First.{reached, reached_from_any, reached_in_cube, first_sweeps, some_part}
+use Rattle.sweep_auditor.proofs.First.{reached, reached_from_any, reached_in_cube, first_sweeps}
+use Rattle.sweep_auditor.proofs.First.{some_part}
 use Rattle.sweep_auditor.proofs.Runs.{first_more, privilege_at}
 use Rattle.sweep_auditor.proofs.audits.audit.Goals as goal
 
@@ -19,7 +20,8 @@ pub returns-then-not-enabled-clause-ok : goal.returns-then-not-enabled-clause-ok
 returns-then-not-enabled-clause-ok c = (
   λ e. absurd (false≢true e),
   λ run. absurd (
-      let p = privilege_at c.args.moves.now c.args.start c.loop-index.index no_move run c.loop-index-test.true in
+      let p = privilege_at c.args.moves.now c.args.start c.loop-index.index no_move run
+      c.loop-index-test.true in
       let q = rw (← c.loop-index.invariant.here) at p in
       false≢true (sym c.if-not-enabled.true ∙ c.enabled.ensures.1 q)),
 )
@@ -28,7 +30,8 @@ pub returns-then-not-enabled-clause-refused : goal.returns-then-not-enabled-clau
 returns-then-not-enabled-clause-refused c = record {
   run_before = c.loop-index.invariant.run;
   move = get_or c.args.moves.now c.loop-index.index no_move;
-  stands_there = slice_get-get_or c.args.moves.now c.loop-index.index no_move c.loop-index-test.true;
+  stands_there = slice_get-get_or c.args.moves.now c.loop-index.index no_move
+      c.loop-index-test.true;
   no_privilege = λ p.
       let q = rw (← c.loop-index.invariant.here) at p in
       false≢true (sym c.if-not-enabled.true ∙ c.enabled.ensures.1 q);
@@ -42,12 +45,17 @@ loop-index-preserved c =
     let here = c.loop-index.invariant.here in
     let test = c.loop-index-test.true in
     let more = c.noted-first_legitimate-in-loop-index.ensures in
-    let now = c.make_move.ensures.moved ∙ ap (λ (d : Configuration). next d (get_or moves i no_move)) here ∙ sym (configuration_at-more start moves i no_move test) in
+    let now = c.make_move.ensures.moved
+    ∙ ap (λ (d : Configuration). next d (get_or moves i no_move)) here
+    ∙ sym (configuration_at-more start moves i no_move test) in
     record {
       line = c.make_move.ensures.line;
       here = now;
-      run = IsRun-more start moves i no_move test c.loop-index.invariant.run (rw here at c.make_move.ensures.a_move.privilege);
-      first = first_more start moves i c.loop-index.first_legitimate c.noted-first_legitimate-in-loop-index.result c.loop-index.invariant.first more.found (rw now at more.here)
+      run = IsRun-more start moves i no_move test c.loop-index.invariant.run
+          (rw here at c.make_move.ensures.a_move.privilege);
+      first = first_more start moves i c.loop-index.first_legitimate
+          c.noted-first_legitimate-in-loop-index.result c.loop-index.invariant.first more.found
+          (rw now at more.here)
           (rw now at more.not_here);
     }
 
@@ -56,40 +64,48 @@ start_is : (c : goal.After-loop-index) → IsConfiguration c.args.start
 start_is c = (c.noted-first_legitimate.ensures.line refl).configuration
 
 -- after the first legitimate configuration the stations sweep
-all_sweep : (c : goal.After-loop-index) → IfSome c.loop-index.first_legitimate (Sweeps c.args.start c.args.moves.now)
+all_sweep : (c : goal.After-loop-index)
+    → IfSome c.loop-index.first_legitimate (Sweeps c.args.start c.args.moves.now)
 all_sweep c =
     let known = c.loop-index.invariant in
-    first_sweeps c.args.start c.args.moves.now c.loop-index.index c.loop-index.first_legitimate (start_is c) known.run known.first c.loop-index-test.false c.loop-index.auto.index-end
+    first_sweeps c.args.start c.args.moves.now c.loop-index.index c.loop-index.first_legitimate
+    (start_is c) known.run known.first c.loop-index-test.false c.loop-index.auto.index-end
 
 pub returns-clause-stabilizes : goal.returns-clause-stabilizes
 returns-clause-stabilizes c =
     let known = c.loop-index.invariant in
-    reached c.args.start c.args.moves.now c.loop-index.index c.loop-index.first_legitimate (start_is c) known.run known.first c.loop-index-test.false c.loop-index.auto.index-end
+    reached c.args.start c.args.moves.now c.loop-index.index c.loop-index.first_legitimate
+    (start_is c) known.run known.first c.loop-index-test.false c.loop-index.auto.index-end
 
 pub returns-clause-stabilizes_from_any : goal.returns-clause-stabilizes_from_any
 returns-clause-stabilizes_from_any c =
     let known = c.loop-index.invariant in
-    reached_from_any c.args.start c.args.moves.now c.loop-index.index c.loop-index.first_legitimate (start_is c) known.run known.first c.loop-index-test.false c.loop-index.auto.index-end
+    reached_from_any c.args.start c.args.moves.now c.loop-index.index c.loop-index.first_legitimate
+    (start_is c) known.run known.first c.loop-index-test.false c.loop-index.auto.index-end
 
 pub returns-clause-stabilizes_in_cube : goal.returns-clause-stabilizes_in_cube
 returns-clause-stabilizes_in_cube c =
     let known = c.loop-index.invariant in
-    reached_in_cube c.args.start c.args.moves.now c.loop-index.index c.loop-index.first_legitimate (start_is c) known.run known.first c.loop-index-test.false c.loop-index.auto.index-end
+    reached_in_cube c.args.start c.args.moves.now c.loop-index.index c.loop-index.first_legitimate
+    (start_is c) known.run known.first c.loop-index-test.false c.loop-index.auto.index-end
 
 pub returns-clause-stays_legitimate : goal.returns-clause-stays_legitimate
 returns-clause-stays_legitimate c =
     let start = c.args.start in
     let moves = c.args.moves.now in
-    some_part (Sweeps start moves) (LegitimateFrom start moves) c.loop-index.first_legitimate (λ i h. h.legitimate) (all_sweep c)
+    some_part (Sweeps start moves) (LegitimateFrom start moves) c.loop-index.first_legitimate
+    (λ i h. h.legitimate) (all_sweep c)
 
 pub returns-clause-sweeps : goal.returns-clause-sweeps
 returns-clause-sweeps c =
     let start = c.args.start in
     let moves = c.args.moves.now in
-    some_part (Sweeps start moves) (λ i. IsStretch (top_of start) (drop i moves)) c.loop-index.first_legitimate (λ i h. h.stretch) (all_sweep c)
+    some_part (Sweeps start moves) (λ i. IsStretch (top_of start) (drop i moves))
+    c.loop-index.first_legitimate (λ i h. h.stretch) (all_sweep c)
 
 pub returns-clause-comes_round : goal.returns-clause-comes_round
 returns-clause-comes_round c =
     let start = c.args.start in
     let moves = c.args.moves.now in
-    some_part (Sweeps start moves) (ComesRound start moves) c.loop-index.first_legitimate (λ i h. h.round) (all_sweep c)
+    some_part (Sweeps start moves) (ComesRound start moves) c.loop-index.first_legitimate
+    (λ i h. h.round) (all_sweep c)

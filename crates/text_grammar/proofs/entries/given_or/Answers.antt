@@ -10,5 +10,6 @@ pub returns-in_ok-given : goal.returns-in_ok-given
 unfolding FillsEntry Fills
 returns-in_ok-given g c =
     let long : length g.P.Places.fields + 1 ≡ length c.args.words = grind (arith, nat_tests) in
-    let both = then_taken g.P.Places.fields (Number ∷ []) _ _ _ (omega (arith, long)) c.in_ok-places.ensures _ _ c.in_ok-given.ensures in
+    let both = then_taken g.P.Places.fields (Number ∷ []) _ _ _ (omega (arith, long))
+    c.in_ok-places.ensures _ _ c.in_ok-given.ensures in
     (is_given _ _ long ∙ both.0, inr (sym (one_longer _ ∙ long), both.0, both.1.0))

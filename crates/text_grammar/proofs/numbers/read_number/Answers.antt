@@ -4,4 +4,5 @@ use Rattle.text_grammar.proofs.numbers.read_number.Goals as goal
 
 -- digits are text
 pub returns-in-Err : goal.returns-in-Err
-returns-in-Err c = λ number. c.in-Err.ensures.cases.0 (IsUtf8-from_ascii _ (IsAscii-from_digits _ number.0.1))
+returns-in-Err c =
+    λ number. c.in-Err.ensures.cases.0 (IsUtf8-from_ascii _ (IsAscii-from_digits _ number.0.1))

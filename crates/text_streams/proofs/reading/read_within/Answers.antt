@@ -8,7 +8,8 @@ use Rattle.text_streams.proofs.reading.read_within.Goals as goal
 pub loop-init : goal.loop-init
 loop-init g c = record {
   limit = omega (arith, c.new-script.ensures.len);
-  taken = subst (λ (l : List ℕ). Consumes (g.R.Read.remaining c.args.reader.now) (g.R.Read.remaining c.args.reader.now) l)
+  taken = subst (λ (l : List ℕ).
+      Consumes (g.R.Read.remaining c.args.reader.now) (g.R.Read.remaining c.args.reader.now) l)
       (sym c.new-script.ensures.items) (none_taken (g.R.Read.remaining c.args.reader.now));
 }
 
@@ -20,9 +21,12 @@ loop-preserved g c = record {
 
 pub returns-in_err-read_piece-clause-too_long : goal.returns-in_err-read_piece-clause-too_long
 returns-in_err-read_piece-clause-too_long g c =
-    let size : vec_len c.loop.script ≡ length c.loop.script.items = omega (arith, c.loop.script.ok.0) in
-    let more : c.in_err-read_piece.field-0.0 ≡ TooLong → IfSome (g.R.Read.remaining c.args.reader.now) (λ bytes. 16777216 < length bytes) =
-    λ is. more_from_start _ _ c.loop.script.items 16777216 (vec_len c.loop.script) size c.loop.invariant.taken (c.in_err-read_piece.ensures.too_long is) in
+    let size : vec_len c.loop.script ≡ length c.loop.script.items =
+    omega (arith, c.loop.script.ok.0) in
+    let more : c.in_err-read_piece.field-0.0 ≡ TooLong
+    → IfSome (g.R.Read.remaining c.args.reader.now) (λ bytes. 16777216 < length bytes) =
+    λ is. more_from_start _ _ c.loop.script.items 16777216 (vec_len c.loop.script) size
+    c.loop.invariant.taken (c.in_err-read_piece.ensures.too_long is) in
     search (rules, more)
 
 pub returns-then-branch-clause-whole : goal.returns-then-branch-clause-whole

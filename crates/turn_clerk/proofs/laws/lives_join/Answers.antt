@@ -4,4 +4,5 @@ use Rattle.turn_clerk.proofs.laws.lives_join.Goals as goal
 
 pub returns : goal.returns
 returns c image opened found batches least prefix recovers =
-    c.one_recovery.ensures.state image found (state_after opened (take prefix.count batches)) recovers prefix.recovers
+    c.one_recovery.ensures.state image found (state_after opened (take prefix.count batches))
+    recovers prefix.recovers

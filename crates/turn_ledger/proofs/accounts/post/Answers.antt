@@ -11,11 +11,15 @@ returns-in_err-check_alone-clause-answer g c =
 
 pub returns-in_err-check_on-clause-answer : goal.returns-in_err-check_on-clause-answer
 returns-in_err-check_on-clause-answer g c =
-    let p = err_from_is_err_and c.from_residual-in_err-check_on.result c.from_residual-in_err-check_on.ensures.1 in
-    rw (p.1, p.2) (c.in_err-check_on.ensures.answer ∙ sym (verdict-own_ok _ _ (sym c.in_ok-check_alone.ensures)))
+    let p = err_from_is_err_and c.from_residual-in_err-check_on.result
+    c.from_residual-in_err-check_on.ensures.1 in
+    rw (p.1, p.2) (c.in_err-check_on.ensures.answer
+    ∙ sym (verdict-own_ok _ _ (sym c.in_ok-check_alone.ensures)))
 
 pub change_balances-requires-clause-accepted : goal.change_balances-requires-clause-accepted
-change_balances-requires-clause-accepted g c = verdict-own_ok _ _ (sym c.in_ok-check_alone.ensures) ∙ sym c.in_ok-check_on.ensures.answer
+change_balances-requires-clause-accepted g c =
+    verdict-own_ok _ _ (sym c.in_ok-check_alone.ensures) ∙ sym c.in_ok-check_on.ensures.answer
 
 pub returns-clause-answer : goal.returns-clause-answer
-returns-clause-answer g c = c.in_ok-check_on.ensures.answer ∙ sym (verdict-own_ok _ _ (sym c.in_ok-check_alone.ensures))
+returns-clause-answer g c =
+    c.in_ok-check_on.ensures.answer ∙ sym (verdict-own_ok _ _ (sym c.in_ok-check_alone.ensures))

@@ -3,4 +3,5 @@ use Rattle.turn_ledger.specs.LedgerLaws.{posted_in_order-is-ledger_after, IsLedg
 use Rattle.turn_ledger.proofs.laws.posting_gives_the_sums.Goals as goal
 
 pub returns : goal.returns
-returns c = λ state batches l a. (posted_in_order-is-ledger_after state batches l a, IsLedger-ledger_after state batches l a)
+returns c = λ state batches l a.
+    (posted_in_order-is-ledger_after state batches l a, IsLedger-ledger_after state batches l a)

@@ -8,8 +8,14 @@ pub loop-place-preserved : goal.loop-place-preserved
 loop-place-preserved c =
     let sealed = c.args.ledger.now.sealed in
     let own = c.args.account - 1 in
-    let within : own < length sealed = omega (arith, c.requires.account.0, c.requires.account.1, c.requires.marks) in
+    let within : own < length sealed =
+    omega (arith, c.requires.account.0, c.requires.account.1, c.requires.marks) in
     elim c.if-place-own.branch [
-      | then-place-own w ↦ w.is_marked-is ∙ marked_more_same sealed c.args.places.now c.loop-place.place-index own _ c.loop-place-test.true within w.if-place-own.true
-      | else-place-own w ↦ w.is_marked-is ∙ c.loop-place.invariant ∙ marked_more_other sealed c.args.places.now c.loop-place.place-index own _ c.loop-place-test.true w.if-place-own.false
+      | then-place-own w ↦
+          w.is_marked-is ∙ marked_more_same sealed c.args.places.now c.loop-place.place-index own _
+          c.loop-place-test.true within w.if-place-own.true
+      | else-place-own w ↦
+          w.is_marked-is ∙ c.loop-place.invariant
+          ∙ marked_more_other sealed c.args.places.now c.loop-place.place-index own _
+          c.loop-place-test.true w.if-place-own.false
     ]

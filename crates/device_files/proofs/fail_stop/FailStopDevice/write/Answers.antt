@@ -10,4 +10,6 @@ returns-in_err-ready-clause-torn g c honest =
     let old = with_failures inner c.args.self.now.refused in
     let new = with_failures (g.D.Device.state c.ready.new.self.inner) c.ready.new.self.refused in
     let same : IsLook old new = search rules in
-    torn_nothing c.args.at old new (sound_with_failures inner c.args.self.now.refused (g.met.D.Device.sound c.args.self.now.inner honest)) c.requires same
+    torn_nothing c.args.at old new
+    (sound_with_failures inner c.args.self.now.refused
+    (g.met.D.Device.sound c.args.self.now.inner honest)) c.requires same

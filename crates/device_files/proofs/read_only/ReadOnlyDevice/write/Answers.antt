@@ -8,6 +8,9 @@ pub returns-clause-torn : goal.returns-clause-torn
 returns-clause-torn g c honest =
     let inner = g.D.Device.state c.args.self.now.inner in
     let old = with_failures inner c.args.self.now.refused in
-    let new = with_failures (g.D.Device.state c.self.inside.inner) c.saturating_add-self-inside.result in
+    let new = with_failures (g.D.Device.state c.self.inside.inner)
+    c.saturating_add-self-inside.result in
     let same : IsLook old new = search rules in
-    torn_nothing c.args.at old new (sound_with_failures inner c.args.self.now.refused (g.met.D.Device.sound c.args.self.now.inner honest)) c.requires same
+    torn_nothing c.args.at old new
+    (sound_with_failures inner c.args.self.now.refused
+    (g.met.D.Device.sound c.args.self.now.inner honest)) c.requires same

@@ -9,7 +9,9 @@ use Rattle.device_files.proofs.read_run.MemoryDeviceReadRun.read_run.Given as go
 abbrev pub invariant-loop-index : goal.invariant-loop-index
 invariant-loop-index l = record {
   call : AreCalls (memory_device_state l.initial.self) (memory_device_state l.self) ⊥;
-  same : (memory_device_state l.initial.self).honest → IsLook (memory_device_state l.initial.self) (memory_device_state l.self);
-  bytes : (memory_device_state l.initial.self).honest → Shows l.into l.index (memory_device_state l.initial.self).reads l.at;
+  same : (memory_device_state l.initial.self).honest
+      → IsLook (memory_device_state l.initial.self) (memory_device_state l.self);
+  bytes : (memory_device_state l.initial.self).honest
+      → Shows l.into l.index (memory_device_state l.initial.self).reads l.at;
   fits : l._sectors ≡ length (memory_device_state l.initial.self).reads;
 }

@@ -8,4 +8,6 @@ returns-then-fails-clause-torn g c honest =
     let old = with_failures (g.D.Device.state c.args.self.now.inner) c.args.self.now.failures in
     let new = with_failures (g.D.Device.state c.fails.new.self.inner) c.fails.new.self.failures in
     let same : IsLook old new = search rules in
-    torn_nothing c.args.at old new (sound_with_failures (g.D.Device.state c.args.self.now.inner) c.args.self.now.failures (g.met.D.Device.sound c.args.self.now.inner honest)) c.requires same
+    torn_nothing c.args.at old new
+    (sound_with_failures (g.D.Device.state c.args.self.now.inner) c.args.self.now.failures
+    (g.met.D.Device.sound c.args.self.now.inner honest)) c.requires same

@@ -8,7 +8,8 @@ use Rattle.four_state.proofs.Words.{word-bit}
 use Rattle.four_state.proofs.lines.Line.falls.Goals as goal
 
 pub is_set-requires : goal.is_set-requires
-is_set-requires c = let most = c.falling.ensures.line.at_most_64 in let stands = c.requires in omega arith
+is_set-requires c = let most = c.falling.ensures.line.at_most_64 in let stands = c.requires in
+    omega arith
 
 pub returns : goal.returns
 returns c =
@@ -18,4 +19,5 @@ returns c =
     c.is_set.ensures
     ∙ ap (λ word. bit_at word c.args.below == 1) c.falling.ensures.marks
     ∙ word-bit marks c.args.below
-    ∙ get_or-map-range_with_len (falls c.args.self.now) 0 n c.args.below c.args.below false (omega arith) (omega arith)
+    ∙ get_or-map-range_with_len (falls c.args.self.now) 0 n c.args.below c.args.below false
+    (omega arith) (omega arith)

@@ -4,7 +4,8 @@ use Rattle.four_state.proofs.lines.Line.flip_x.Goals as goal
 
 pub overflow_shl-self : goal.overflow_shl-self
 overflow_shl-self c =
-    let line = says c.self.inside.stations c.self.inside.words c.args.self.now c.self.invariant c.self.view_is in
+    let line = says c.self.inside.stations c.self.inside.words c.args.self.now c.self.invariant
+    c.self.view_is in
     let most = line.line.at_most_64 in
     omega arith
 

@@ -13,7 +13,8 @@ invariant_of-result c =
     let same = length-set up 0 true in
     let bottom = c.with_bit-bottom_set.ensures up (omega arith) (omega arith) c.packed.ensures in
     let ends = c.with_bit.ensures (set up 0 true) (omega arith) (omega arith) bottom in
-    keeps (length x) _ _ (says-ends x up c.packed-2.result c.with_bit.result long two most c.packed-2.ensures ends)
+    keeps (length x) _ _
+    (says-ends x up c.packed-2.result c.with_bit.result long two most c.packed-2.ensures ends)
 
 pub returns-clause-bits : goal.returns-clause-bits
 returns-clause-bits c =
@@ -25,8 +26,10 @@ returns-clause-bits c =
     let same = length-set up 0 true in
     let bottom = c.with_bit-bottom_set.ensures up (omega arith) (omega arith) c.packed.ensures in
     let ends = c.with_bit.ensures (set up 0 true) (omega arith) (omega arith) bottom in
-    shows (length x) _ _ (says-ends x up c.packed-2.result c.with_bit.result long two most c.packed-2.ensures ends)
+    shows (length x) _ _
+    (says-ends x up c.packed-2.result c.with_bit.result long two most c.packed-2.ensures ends)
 
 pub returns-clause-line : goal.returns-clause-line
 returns-clause-line c =
-    rw (returns-clause-bits c) (ends_line c.args.x.now c.args.up.now c.requires.as_long c.requires.two c.requires.at_most)
+    rw (returns-clause-bits c)
+    (ends_line c.args.x.now c.args.up.now c.requires.as_long c.requires.two c.requires.at_most)

@@ -5,7 +5,8 @@ use Rattle.four_state.proofs.lines.Line.privileges.Goals as goal
 
 pub returns-clause-number : goal.returns-clause-number
 returns-clause-number c =
-    ap₂ (λ r f. count_ones r + count_ones f) c.rising.ensures.marks c.falling.ensures.marks ∙ ones-privileges c.args.self.now c.rising.ensures.line
+    ap₂ (λ r f. count_ones r + count_ones f) c.rising.ensures.marks c.falling.ensures.marks
+    ∙ ones-privileges c.args.self.now c.rising.ensures.line
 
 pub returns-clause-at_least_one : goal.returns-clause-at_least_one
 returns-clause-at_least_one c =

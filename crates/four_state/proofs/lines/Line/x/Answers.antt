@@ -6,5 +6,8 @@ use Rattle.four_state.proofs.lines.Line.x.Goals as goal
 
 pub returns : goal.returns
 returns c =
-    let line = says c.self.inside.stations c.self.inside.words c.args.self.now c.self.invariant c.self.view_is in
-    c.is_set.ensures ∙ ap (λ words. bit_at (slice_index_or words 0 0) c.args.station == 1) line.same_words ∙ word-bit c.args.self.now.x c.args.station
+    let line = says c.self.inside.stations c.self.inside.words c.args.self.now c.self.invariant
+    c.self.view_is in
+    c.is_set.ensures
+    ∙ ap (λ words. bit_at (slice_index_or words 0 0) c.args.station == 1) line.same_words
+    ∙ word-bit c.args.self.now.x c.args.station

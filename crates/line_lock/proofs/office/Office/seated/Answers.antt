@@ -9,8 +9,10 @@ loop-station-preserved g c = (
   search rules,
   c.push_reserved.ensures.items
       ∙ ap (λ (seat : SeatState). c.loop-station.seats.items ++ seat ∷ []) c.new.ensures
-      ∙ ap (λ (seats : List SeatState). seats ++ new_seat c.loop-station.station ∷ []) c.loop-station.invariant.2
-      ∙ sym (map-range_with_len_more new_seat 0 c.loop-station.station c.loop-station.station (omega arith)),
+      ∙ ap (λ (seats : List SeatState). seats ++ new_seat c.loop-station.station ∷ [])
+      c.loop-station.invariant.2
+      ∙ sym (map-range_with_len_more new_seat 0 c.loop-station.station c.loop-station.station
+      (omega arith)),
   search rules,
   search rules,
 )

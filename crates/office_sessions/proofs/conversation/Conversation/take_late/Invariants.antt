@@ -7,6 +7,7 @@ use Rattle.office_sessions.proofs.conversation.Conversation.take_late.Given as g
 abbrev pub invariant-loop : goal.invariant-loop
 invariant-loop g l = record {
   over : (feed : FeedState) → IsOver feed l.initial.self → IsOver feed l.self;
-  silent : IsBehindUnanswered l.is_answered l.initial.self.unheard → l.self.told ≡ l.initial.self.told;
+  silent : IsBehindUnanswered l.is_answered l.initial.self.unheard
+      → l.self.told ≡ l.initial.self.told;
   listed : length l.initial.self.unheard ≤ length l.self.unheard;
 }

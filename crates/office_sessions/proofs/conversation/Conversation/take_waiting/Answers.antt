@@ -9,11 +9,17 @@ pub loop-preserved : goal.loop-preserved
 loop-preserved c =
     let was = c.loop.invariant in
     let first = c.args.self.now.unheard in
-    let long = subst (λ (k : ConversationState). length first ≤ length k.unheard) (sym c.self.view_is) was.listed in
+    let long = subst (λ (k : ConversationState). length first ≤ length k.unheard)
+    (sym c.self.view_is) was.listed in
     let more = listed-more first _ c.in-Ok.message _ long c.in_ok-list.ensures in
     record {
       over = λ feed before.
-          c.refuse.ensures.over feed (over-said feed _ c.in-Ok.message _ _ c.in-Ok.ensures.ok.0 c.in_ok-list.ensures (subst (IsOver feed) (sym c.self.view_is) (was.over feed before)));
-      silent = λ behind. c.refuse.ensures.silent (behind-more c.args.is_answered first _ more behind) ∙ ap (λ (k : ConversationState). k.told) c.self.view_is ∙ was.silent behind;
-      listed = subst (λ (l : List Entry). length first ≤ length l) (sym c.refuse.ensures.unheard) more;
+          c.refuse.ensures.over feed
+          (over-said feed _ c.in-Ok.message _ _ c.in-Ok.ensures.ok.0 c.in_ok-list.ensures
+          (subst (IsOver feed) (sym c.self.view_is) (was.over feed before)));
+      silent = λ behind.
+          c.refuse.ensures.silent (behind-more c.args.is_answered first _ more behind)
+          ∙ ap (λ (k : ConversationState). k.told) c.self.view_is ∙ was.silent behind;
+      listed = subst (λ (l : List Entry). length first ≤ length l) (sym c.refuse.ensures.unheard)
+          more;
     }

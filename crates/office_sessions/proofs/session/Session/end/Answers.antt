@@ -12,10 +12,15 @@ pub returns-clause-over : goal.returns-clause-over
 returns-clause-over g c =
     let old = c.args.self in
     let feed = old.postings.feed in
-    let begun : IsOver feed c.new-conversation.result = subst (IsOver feed) (sym c.new-conversation.ensures) (record {
+    let begun : IsOver feed c.new-conversation.result =
+    subst (IsOver feed) (sym c.new-conversation.ensures) (record {
       told = old.told;
-      said = subst (λ (unheard : List Entry). ∥ WereTakenUp (received old.messages) (sent old.responses) (entries_of feed.asked) unheard ∥₁) (sym c.in_ok-unheard.ensures) old.said;
-      above = subst (λ (one : FeedState). AreAbove one.asked one.collected) c.into_feed.ensures.feed c.into_feed.ensures.above;
+      said = subst (λ (unheard : List Entry).
+          ∥ WereTakenUp (received old.messages) (sent old.responses) (entries_of feed.asked) unheard
+          ∥₁) (sym c.in_ok-unheard.ensures) old.said;
+      above = subst (λ (one : FeedState). AreAbove one.asked one.collected) c.into_feed.ensures.feed
+          c.into_feed.ensures.above;
     }) in
     subst (λ (one : FeedState). IsOver one c.tell_closing.new.self) (sym c.into_feed.ensures.feed)
-    (c.tell_closing.ensures.over feed (c.in_ok-take_late.ensures.over feed (c.refuse_next.ensures.over feed begun)))
+    (c.tell_closing.ensures.over feed
+    (c.in_ok-take_late.ensures.over feed (c.refuse_next.ensures.over feed begun)))

@@ -13,9 +13,14 @@ pub invariant_of-self-clause-said : goal.invariant_of-self-clause-said
 invariant_of-self-clause-said c =
     let old = c.args.self.now in
     ∥∥₁_map old.said (λ taken.
-    subst (λ (asked : List Entry). WereTakenUp (received old.messages) (sent old.responses) asked []) (sym (c.submit-submission.ensures.submitted c.in-Submitted.is).0)
+    subst (λ (asked : List Entry).
+    WereTakenUp (received old.messages) (sent old.responses) asked [])
+    (sym (c.submit-submission.ensures.submitted c.in-Submitted.is).0)
     (taken-submitted c.args.entry
-    (subst (λ (next : Option Message). WereTakenUp (received old.messages) (sent old.responses) (entries_of old.postings.feed.asked) (pending next)) c.requires.next taken)))
+    (subst (λ (next : Option Message).
+    WereTakenUp (received old.messages) (sent old.responses)
+    (entries_of old.postings.feed.asked) (pending next)) c.requires.next taken)))
 
 pub invariant_of-self-clause-told : goal.invariant_of-self-clause-told
-invariant_of-self-clause-told c = c.args.self.now.told ∙ ap (map response_of) (sym c.submit-submission.ensures.collected)
+invariant_of-self-clause-told c =
+    c.args.self.now.told ∙ ap (map response_of) (sym c.submit-submission.ensures.collected)

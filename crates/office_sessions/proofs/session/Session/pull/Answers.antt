@@ -12,6 +12,10 @@ pub invariant_of-self-clause-said : goal.invariant_of-self-clause-said
 invariant_of-self-clause-said c =
     let old = c.args.self.now in
     ∥∥₁_map old.said (λ taken.
-    subst (λ (said : List Message). WereTakenUp said (sent old.responses) (entries_of old.postings.feed.asked) (pending (Some c.in-Ok.message))) (sym c.in-Ok.ensures.ok.0)
+    subst (λ (said : List Message).
+    WereTakenUp said (sent old.responses) (entries_of old.postings.feed.asked)
+    (pending (Some c.in-Ok.message))) (sym c.in-Ok.ensures.ok.0)
     (taken-said c.in-Ok.message
-    (subst (λ (next : Option Message). WereTakenUp (received old.messages) (sent old.responses) (entries_of old.postings.feed.asked) (pending next)) c.requires.none taken)))
+    (subst (λ (next : Option Message).
+    WereTakenUp (received old.messages) (sent old.responses)
+    (entries_of old.postings.feed.asked) (pending next)) c.requires.none taken)))

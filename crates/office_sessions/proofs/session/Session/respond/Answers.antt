@@ -12,8 +12,12 @@ pub invariant_of-self-clause-said : goal.invariant_of-self-clause-said
 invariant_of-self-clause-said c =
     let old = c.args.self.now in
     ∥∥₁_map old.said (λ taken.
-    subst (λ (told : List Response). WereTakenUp (received old.messages) told (entries_of old.postings.feed.asked) (pending old.next)) (sym c.push_reserved.ensures.sent.0)
+    subst (λ (told : List Response).
+    WereTakenUp (received old.messages) told (entries_of old.postings.feed.asked)
+    (pending old.next)) (sym c.push_reserved.ensures.sent.0)
     (taken-told c.args.response c.requires.other.1 taken))
 
 pub invariant_of-self-clause-told : goal.invariant_of-self-clause-told
-invariant_of-self-clause-told c = other-answers (sent c.args.self.now.responses) c.args.response c.push_reserved.ensures.sent.0 c.requires.other.0 ∙ c.args.self.now.told
+invariant_of-self-clause-told c =
+    other-answers (sent c.args.self.now.responses) c.args.response c.push_reserved.ensures.sent.0
+    c.requires.other.0 ∙ c.args.self.now.told

@@ -14,9 +14,15 @@ pub invariant_of-self-clause-said : goal.invariant_of-self-clause-said
 invariant_of-self-clause-said c =
     let old = c.args.self.now in
     ∥∥₁_map old.said (λ taken.
-    subst (λ (told : List Response). WereTakenUp (received old.messages) told (entries_of old.postings.feed.asked) []) (sym c.push_reserved.ensures.sent.0)
+    subst (λ (told : List Response).
+    WereTakenUp (received old.messages) told (entries_of old.postings.feed.asked) [])
+    (sym c.push_reserved.ensures.sent.0)
     (taken-judged c.args.entry c.args.judgement
-    (subst (λ (next : Option Message). WereTakenUp (received old.messages) (sent old.responses) (entries_of old.postings.feed.asked) (pending next)) c.requires.next taken)))
+    (subst (λ (next : Option Message).
+    WereTakenUp (received old.messages) (sent old.responses)
+    (entries_of old.postings.feed.asked) (pending next)) c.requires.next taken)))
 
 pub invariant_of-self-clause-told : goal.invariant_of-self-clause-told
-invariant_of-self-clause-told c = other-answers (sent c.args.self.now.responses) (response.Judged c.args.entry c.args.judgement) c.push_reserved.ensures.sent.0 refl ∙ c.args.self.now.told
+invariant_of-self-clause-told c =
+    other-answers (sent c.args.self.now.responses) (response.Judged c.args.entry c.args.judgement)
+    c.push_reserved.ensures.sent.0 refl ∙ c.args.self.now.told

@@ -12,7 +12,11 @@ pub invariant_of-self : goal.invariant_of-self
 invariant_of-self c =
     let desk = c.self.inside in
     let asks = c.asks.result.now in
-    let each : length desk.held ≡ length (undecided desk.held) = sym (length-map desk.held (λ (ask : Ask). Undecided)) in
-    let taken : received desk.asks ≡ asks_of (sent desk.answers ++ answers_to asks (undecided asks)) ++ [] =
-    rw c.asks.ensures (all_answered (received desk.asks) (sent desk.answers) desk.held (undecided desk.held) each c.self.invariant.0) in
+    let each : length desk.held ≡ length (undecided desk.held) =
+    sym (length-map desk.held (λ (ask : Ask). Undecided)) in
+    let taken : received desk.asks
+    ≡ asks_of (sent desk.answers ++ answers_to asks (undecided asks)) ++ [] =
+    rw c.asks.ensures
+    (all_answered (received desk.asks) (sent desk.answers) desk.held (undecided desk.held) each
+    c.self.invariant.0) in
     rw (c.clear.ensures, c.give_undecided.ensures.given) (taken, omega arith, omega arith)

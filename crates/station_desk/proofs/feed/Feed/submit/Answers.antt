@@ -11,6 +11,8 @@ invariant_of-self c =
     let asked = sent c.self.inside.asks in
     let ask : Ask = record { ticket = c.self.inside.next; entry = c.args.entry } in
     let more = asked ++ ask ∷ [] in
-    let count : c.self.inside.next + 1 ≡ length more = omega (arith, length_push asked ask, c.self.invariant.0) in
-    let numbered : AreNumberedFrom 0 more = numbered-one_more 0 asked ask c.self.invariant.1 (omega (arith, c.self.invariant.0)) in
+    let count : c.self.inside.next + 1 ≡ length more =
+    omega (arith, length_push asked ask, c.self.invariant.0) in
+    let numbered : AreNumberedFrom 0 more =
+    numbered-one_more 0 asked ask c.self.invariant.1 (omega (arith, c.self.invariant.0)) in
     rw c.in-Ok.ensures.ok.0 (count, numbered)

@@ -3,11 +3,21 @@ use Rattle.text_grammar.proofs.GrammarLemmas.{then_taken, then_told, wrong_first
 use Rattle.text_grammar.proofs.places.TwoPlaces.take.Goals as goal
 
 pub returns-in_err-next : goal.returns-in_err-next
-returns-in_err-next g c = search (rules, wrong_first (g.A.Place.field ∷ []) (g.B.Place.field ∷ []) _ _ (omega (arith, c.requires)) c.in_err-next.ensures)
+returns-in_err-next g c =
+    search (
+      rules,
+      wrong_first (g.A.Place.field ∷ []) (g.B.Place.field ∷ []) _ _
+          (omega (arith, c.requires)) c.in_err-next.ensures,
+    )
 
 pub returns-in_err-next-2 : goal.returns-in_err-next-2
 returns-in_err-next-2 g c =
-    search (rules, then_told (g.A.Place.field ∷ []) (g.B.Place.field ∷ []) _ _ _ (omega (arith, c.requires)) c.in_ok-next.ensures _ c.in_err-next-2.ensures)
+    search (
+      rules,
+      then_told (g.A.Place.field ∷ []) (g.B.Place.field ∷ []) _ _ _
+          (omega (arith, c.requires)) c.in_ok-next.ensures _ c.in_err-next-2.ensures,
+    )
 
 pub returns : goal.returns
-returns g c = then_taken (g.A.Place.field ∷ []) (g.B.Place.field ∷ []) _ _ _ (omega (arith, c.requires)) c.in_ok-next.ensures _ _ c.in_ok-next-2.ensures
+returns g c = then_taken (g.A.Place.field ∷ []) (g.B.Place.field ∷ []) _ _ _
+    (omega (arith, c.requires)) c.in_ok-next.ensures _ _ c.in_ok-next-2.ensures

@@ -18,16 +18,25 @@ loop-place-preserved c =
           let pushed = w.batch-is ∙ w.push.ensures in
           let accepted = sym c.is_ok.ensures.value ∙ w.if-is_ok.true in
           record {
-            told = ap (λ (batch : List Entry). batch ++ with_yes (drop (i + 1) entries) (drop (i + 1) verdicts)) pushed
-                ∙ gathered_yes c.loop-place.batch entries verdicts i (Deposit 0 0 0) c.unwrap-verdict.result c.loop-place-test.true here accepted
+            told = ap (λ (batch : List Entry). batch
+                ++ with_yes (drop (i + 1) entries) (drop (i + 1) verdicts)) pushed
+                ∙ gathered_yes c.loop-place.batch entries verdicts i (Deposit 0 0 0)
+                c.unwrap-verdict.result c.loop-place-test.true here accepted
                 ∙ c.loop-place.invariant.told;
-            count = omega (arith, ap length pushed, length_push c.loop-place.batch (get_or entries i (Deposit 0 0 0)), c.loop-place.invariant.count);
+            count = omega (
+              arith,
+              ap length pushed,
+              length_push c.loop-place.batch (get_or entries i (Deposit 0 0 0)),
+              c.loop-place.invariant.count,
+            );
           }
       | else-is_ok w ↦
           let refused = sym c.is_ok.ensures.value ∙ w.if-is_ok.false in
           record {
-            told = ap (λ (batch : List Entry). batch ++ with_yes (drop (i + 1) entries) (drop (i + 1) verdicts)) w.batch-is
-                ∙ gathered_no c.loop-place.batch entries (with_yes entries verdicts) verdicts i c.unwrap-verdict.result here refused c.loop-place.invariant.told;
+            told = ap (λ (batch : List Entry). batch
+                ++ with_yes (drop (i + 1) entries) (drop (i + 1) verdicts)) w.batch-is
+                ∙ gathered_no c.loop-place.batch entries (with_yes entries verdicts) verdicts i
+                c.unwrap-verdict.result here refused c.loop-place.invariant.told;
             count = omega (arith, ap length w.batch-is, c.loop-place.invariant.count);
           }
     ]

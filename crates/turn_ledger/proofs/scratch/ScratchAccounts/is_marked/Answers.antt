@@ -5,4 +5,5 @@ use Rattle.turn_ledger.proofs.scratch.ScratchAccounts.is_marked.Goals as goal
 
 pub has_mark-requires-clause-marks : goal.has_mark-requires-clause-marks
 has_mark-requires-clause-marks c =
-    sym (length-marked c.args.self.now.ledger.now.sealed c.args.self.now.seals.items) ∙ c.args.self.now.kept.is_ledger.marks
+    sym (length-marked c.args.self.now.ledger.now.sealed c.args.self.now.seals.items)
+    ∙ c.args.self.now.kept.is_ledger.marks

@@ -7,4 +7,9 @@ use Rattle.turn_ledger.proofs.verdicts.Verdicts.push.Goals as goal
 pub invariant_of-self : goal.invariant_of-self
 invariant_of-self c =
     IsFilled-push UNUSED c.args.verdict c.self.inside.verdicts c.self.inside.count c.self.invariant
-    (omega (arith, c.requires, ap length c.self.view_is, (filled-take UNUSED c.self.inside.verdicts c.self.inside.count c.self.invariant).1))
+    (omega (
+      arith,
+      c.requires,
+      ap length c.self.view_is,
+      (filled-take UNUSED c.self.inside.verdicts c.self.inside.count c.self.invariant).1,
+    ))

@@ -8,7 +8,7 @@ use std::num::NonZeroU64;
 
 /// What the words of `derbyfig` ask for.
 #[derive(Debug, Drop)]
-pub enum Request<'a> {
+pub enum Invocation<'a> {
     /// To run a script.
     Run(ScriptOptions<'a>),
     /// To keep an office open.

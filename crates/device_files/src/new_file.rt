@@ -22,13 +22,14 @@ impl FileNumber {
 
 /// A file that an opening made.
 #[derive(Clone, Copy, Debug)]
-pub struct MadeFile<'a> {
+pub struct NewFile<'a> {
     pub(crate) path: &'a str,
     pub(crate) number: FileNumber,
 }
 
-impl MadeFile<'_> {
-    /// Removes it, if its name is still its own: it is to be locked until then. What becomes of this isn't told.
+impl NewFile<'_> {
+    /// Removes it, if its name is still its own: it is to be locked until then. What becomes of
+    /// this isn't told.
     pub fn remove<R: Files>(self, rt: &R) {
         if let Ok(named) = fs::symlink_metadata(rt, self.path) {
             if FileNumber::of(&named) == self.number {

@@ -5,7 +5,7 @@ use crate::journals::read_record;
 use crate::said::Said;
 use crate::scene::{Hand, Scene};
 use crate::told::Told;
-use gate_journal::Filling;
+use gate_journal::JournalBuilder;
 
 /// `fill SLOTS BASE`: begins a journal on the device, with the accounts in hand.
 pub fn begin(device: Bench, hand: &mut Hand, said: &mut Said<'_>, told: &mut Told) -> Scene {
@@ -14,48 +14,48 @@ pub fn begin(device: Bench, hand: &mut Hand, said: &mut Said<'_>, told: &mut Tol
         told.line("not asked: no slots");
         return Scene::Device(device);
     }
-    match Filling::begin(device, slots, base, &hand.snapshot) {
-        Ok(filling) => Scene::Filling(filling),
+    match JournalBuilder::begin(device, slots, base, &hand.snapshot) {
+        Ok(builder) => Scene::JournalBuilder(builder),
         Err(refused) => Scene::Device(told.handed_back(refused)),
     }
 }
 
 /// A word of a journal that is being filled: `put STATION COUNT HEX`, `numbers`, `finish`.
 pub fn run(
-    filling: Filling<Bench>,
+    builder: JournalBuilder<Bench>,
     hand: &mut Hand,
     name: &str,
     said: &mut Said<'_>,
     told: &mut Told,
 ) -> Scene {
     match name {
-        "put" => return put(filling, said, told),
-        "finish" => return finish(filling, told),
-        "numbers" => told.named("next, room", &(filling.next(), filling.room())),
+        "put" => return put(builder, said, told),
+        "finish" => return finish(builder, told),
+        "numbers" => told.named("next, room", &(builder.next(), builder.room())),
         "fault" => set_fault(hand, said, told),
-        _ => told.line("no such word of a filling"),
+        _ => told.line("no such word of a builder"),
     }
-    Scene::Filling(filling)
+    Scene::JournalBuilder(builder)
 }
 
-fn finish(filling: Filling<Bench>, told: &mut Told) -> Scene {
-    match filling.finish() {
+fn finish(builder: JournalBuilder<Bench>, told: &mut Told) -> Scene {
+    match builder.finish() {
         Ok(device) => Scene::Device(device),
         Err(refused) => Scene::Device(told.handed_back(refused)),
     }
 }
 
-fn put(filling: Filling<Bench>, said: &mut Said<'_>, told: &mut Told) -> Scene {
+fn put(builder: JournalBuilder<Bench>, said: &mut Said<'_>, told: &mut Told) -> Scene {
     let Some(record) = read_record(said) else {
         told.line("no record");
-        return Scene::Filling(filling);
+        return Scene::JournalBuilder(builder);
     };
-    if filling.room() == 0 || filling.next() == u64::MAX {
+    if builder.room() == 0 || builder.next() == u64::MAX {
         told.line("not asked: no room");
-        return Scene::Filling(filling);
+        return Scene::JournalBuilder(builder);
     }
-    match filling.put(&record) {
-        Ok(filling) => Scene::Filling(filling),
+    match builder.put(&record) {
+        Ok(builder) => Scene::JournalBuilder(builder),
         Err(refused) => Scene::Device(told.handed_back(refused)),
     }
 }
