@@ -48,6 +48,26 @@ pub fn run_some<L: Count + OpenedOn + Send + Sync, R: Threads + Wait + Sync>(
 ) -> Result<Vec<Seat<L>>, AllocError> {
     let alloc = supply.hand.alloc;
     let (mut stations, mut idle) = (Vec::new(alloc), Vec::new(alloc));
+    seat_all(alloc, seats, supply, first, (&mut stations, &mut idle))?;
+    supply.held.clear();
+    let gate = Rounds {
+        count: AtomicU64::new(0),
+    };
+    run_stations(rt, office, stations.as_mut_slice(), &gate, moves, tries);
+    rise_all(stations, &mut idle, told)?;
+    told.named("gathered", &gate.count.load(Ordering::SeqCst));
+    Ok(idle)
+}
+
+// Makes stations of the seats from the first one on, as many as hold something. The others are
+// idle.
+fn seat_all<L: Count + OpenedOn>(
+    alloc: Global,
+    seats: Vec<Seat<L>>,
+    supply: &Supply,
+    first: u64,
+    (stations, idle): (&mut Vec<Station<L>>, &mut Vec<Seat<L>>),
+) -> Result<(), AllocError> {
     let mut held = supply.held.iter();
     for seat in seats {
         let next = if seat.station() as u64 >= first {
@@ -55,24 +75,37 @@ pub fn run_some<L: Count + OpenedOn + Send + Sync, R: Threads + Wait + Sync>(
         } else {
             None
         };
-        match next {
-            Some(held) => stations.push(Station {
-                seat,
-                desk: desk_of(alloc, held)?,
-                end: End::NotStarted,
-            })?,
-            None => idle.push(seat)?,
-        }
+        seat_one(alloc, seat, next, stations, idle)?;
     }
-    supply.held.clear();
-    let gate = Rounds {
-        count: AtomicU64::new(0),
+    Ok(())
+}
+
+fn seat_one<L: Count + OpenedOn>(
+    alloc: Global,
+    seat: Seat<L>,
+    held: Option<&HeldEntries>,
+    stations: &mut Vec<Station<L>>,
+    idle: &mut Vec<Seat<L>>,
+) -> Result<(), AllocError> {
+    let Some(held) = held else {
+        idle.push(seat)?;
+        return Ok(());
     };
-    run_stations(rt, office, stations.as_mut_slice(), &gate, moves, tries);
+    let desk = desk_of(alloc, held)?;
+    let end = End::NotStarted;
+    stations.push(Station { seat, desk, end })?;
+    Ok(())
+}
+
+// The seats of the stations, behind those that are idle, and how each station ended.
+fn rise_all<L: Count + OpenedOn>(
+    stations: Vec<Station<L>>,
+    idle: &mut Vec<Seat<L>>,
+    told: &mut Told,
+) -> Result<(), AllocError> {
     for Station { seat, end, .. } in stations {
         told.value(&(end, seat.turns().len(), seat.denied()));
         idle.push(seat)?;
     }
-    told.named("gathered", &gate.count.load(Ordering::SeqCst));
-    Ok(idle)
+    Ok(())
 }

@@ -1,7 +1,7 @@
 //! An office in memory that stays open for one counter, whose lines are written out and whose
 //! answers come by a pipe.
 use crate::clerks::opened;
-use crate::scenes::line;
+use crate::scenes::{line, needed, needed_of};
 use gate_journal::Journal;
 use office_day::{End, Line};
 use office_sessions::{
@@ -13,8 +13,8 @@ use std::alloc::Global;
 use std::fs::Files;
 use std::io;
 use std::io::{PipeReader, PipeWriter, Read};
+use std::process::Abort;
 use std::sync::Wait;
-use std::test::Fail;
 use std::thread::Threads;
 use std::time::Clock;
 
@@ -136,10 +136,11 @@ closing
 
 // The one counter, at station 0. Its answers come by this pipe.
 fn north(
+    rt: &impl Abort,
     alloc: Global,
     output: PipeWriter,
-) -> Result<Vec<Counter<&'static [u8], PipeWriter>>, Fail> {
-    let name = "north".to_owned(alloc).or(Err("no memory for a name"))?;
+) -> Vec<Counter<&'static [u8], PipeWriter>> {
+    let name = needed(rt, "north".to_owned(alloc));
     let counter = Counter {
         station: 0,
         since: 0,
@@ -149,37 +150,34 @@ fn north(
         kind: CounterKind::Pipes,
         awaits_hello: false,
     };
-    let mut counters = Vec::new(alloc);
-    counters.push(counter).or(Err("no memory for a counter"))?;
-    Ok(counters)
+    needed(rt, vec![in alloc; counter])
 }
 
 // An office of these stations with that counter, which is closed and opened again after so many
 // turns, and whether it is over then.
-fn kept<R: Files + Threads + Wait + Clock + Sync + Send + Clone + Drop + 'static>(
+fn kept<R: Files + Threads + Wait + Clock + Abort + Sync + Send + Clone + Drop + 'static>(
     rt: &R,
     alloc: Global,
     line: Line,
     moves: u64,
     output: PipeWriter,
-) -> Result<bool, Fail> {
-    let counters = north(alloc, output)?;
-    let clerk = opened(alloc, line)?;
-    match keep_open(rt, alloc, clerk, counters, Two, moves, Sample { copies: 0 }) {
-        Ok((closed, _)) => Ok(is_over(&closed, line.stations() as usize, moves)),
-        Err((_, refusal)) => Err(Fail::from(refusal)),
-    }
+) -> bool {
+    let counters = north(rt, alloc, output);
+    let clerk = opened(rt, alloc, line);
+    let kept = keep_open(rt, alloc, clerk, counters, Two, moves, Sample { copies: 0 });
+    let (closed, _) = needed_of(rt, kept);
+    is_over(&closed, line.stations() as usize, moves)
 }
 
 // Whether the counter is answered in such an office.
-fn is_answered<R: Files + Threads + Wait + Clock + Sync + Send + Clone + Drop + 'static>(
+fn is_answered<R: Files + Threads + Wait + Clock + Abort + Sync + Send + Clone + Drop + 'static>(
     rt: &R,
     alloc: Global,
     line: Line,
     moves: u64,
-) -> Result<bool, Fail> {
-    let (mut answers, output) = io::pipe(rt)?;
-    Ok(kept(rt, alloc, line, moves, output)? && are_told(&mut answers, RESPONSES)?)
+) -> bool {
+    let (mut answers, output) = needed(rt, io::pipe(rt));
+    kept(rt, alloc, line, moves, output) && needed(rt, are_told(&mut answers, RESPONSES))
 }
 
 // Whether these are the next bytes of the answers.
@@ -210,14 +208,13 @@ fn is_over(closed: &ClosedOffice<MemoryDevice>, stations: usize, moves: u64) -> 
 
 // In one span, and in an office that is closed and opened again after each second turn.
 #[test]
-fn a_counter_is_answered_in_order(rt: HostRuntime) -> Result<(), Fail> {
+fn a_counter_is_answered_in_order(rt: HostRuntime) {
     let alloc = rt.alloc();
     let offices = [
-        (line([0, 0], [1, 0])?, 1_000),
-        (line([1, 0, 1], [1, 1, 0])?, 2),
+        (line(&rt, [0, 0], [1, 0]), 1_000),
+        (line(&rt, [1, 0, 1], [1, 1, 0]), 2),
     ];
     for (line, moves) in offices {
-        assert!(rt; is_answered(&rt, alloc, line, moves)?);
+        assert!(rt; is_answered(&rt, alloc, line, moves));
     }
-    Ok(())
 }

@@ -1,10 +1,10 @@
 //! The two sides of a desk: a feed at which a client asks, and the desk from which a station
 //! answers.
 use crate::clerks::opened;
-use crate::scenes::{deposit, line, withdrawal};
+use crate::scenes::{deposit, line, needed, withdrawal};
 use sector_device::MemoryDevice;
-use station_desk::{Answer, Desk, Entry, EntryRefusal, Feed, Outcome, TurnRefusal, desk};
-use std::test::Fail;
+use station_desk::{Answer, Desk, Entry, EntryRefusal, Feed, Outcome, desk};
+use std::process::Abort;
 use turn_clerk::Clerk;
 
 fn answer(ticket: u64, entry: Entry, outcome: Outcome) -> Answer {
@@ -27,22 +27,22 @@ fn tells_of_three(feed: &mut Feed) -> bool {
 
 // Whether a turn answers three requests.
 fn are_answered(
+    rt: &impl Abort,
     clerk: &mut Clerk<MemoryDevice>,
     feed: &mut Feed,
     desk: &mut Desk,
-) -> Result<bool, TurnRefusal> {
+) -> bool {
     for entry in [deposit(1, 100), withdrawal(1, 500), deposit(1, 20)] {
         let _ = feed.submit(entry);
     }
-    let turn = clerk.turn(0, desk.gather())?;
+    let turn = needed(rt, clerk.turn(0, desk.gather()));
     desk.settle(&turn);
-    Ok(desk.gather().is_empty() && tells_of_three(feed))
+    desk.gather().is_empty() && tells_of_three(feed)
 }
 
 #[test]
-fn a_turn_answers_what_was_gathered(rt: HostRuntime) -> Result<(), Fail> {
-    let (mut feed, mut desk) = desk(rt.alloc(), 4)?;
-    let mut clerk = opened(rt.alloc(), line([0, 0], [1, 0])?)?;
-    assert!(rt; are_answered(&mut clerk, &mut feed, &mut desk)?);
-    Ok(())
+fn a_turn_answers_what_was_gathered(rt: HostRuntime) {
+    let (mut feed, mut desk) = needed(&rt, desk(rt.alloc(), 4));
+    let mut clerk = opened(&rt, rt.alloc(), line(&rt, [0, 0], [1, 0]));
+    assert!(rt; are_answered(&rt, &mut clerk, &mut feed, &mut desk));
 }

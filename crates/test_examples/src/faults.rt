@@ -1,7 +1,7 @@
 //! A device that fails on demand.
+use crate::scenes::needed;
 use fault_injector::{Fuse, Op};
 use sector_device::{Device, MemoryDevice, SECTOR};
-use std::test::Fail;
 
 // Which of four calls fail: a write, a read, a write and a sync. Without a sector all do.
 fn failures<D: Device>(device: &mut D) -> [bool; 4] {
@@ -16,15 +16,14 @@ fn failures<D: Device>(device: &mut D) -> [bool; 4] {
 }
 
 #[test]
-fn a_fuse_fails_from_its_call_on(rt: HostRuntime) -> Result<(), Fail> {
+fn a_fuse_fails_from_its_call_on(rt: HostRuntime) {
     let table = [
         (Op::Any, 2, [false, false, true, true]),
         (Op::Read, 0, [false, true, true, true]),
         (Op::Sync, 1, [false, false, false, false]),
     ];
     for (op, at, expected) in table {
-        let mut device = Fuse::new(MemoryDevice::new(rt.alloc(), 1)?, op, at);
+        let mut device = Fuse::new(needed(&rt, MemoryDevice::new(rt.alloc(), 1)), op, at);
         assert!(rt; failures(&mut device) == expected);
     }
-    Ok(())
 }

@@ -1,6 +1,6 @@
 //! Worked examples: what is expected was worked out by hand from the rules.
 
-use std::test::Fail;
+use crate::scenes::needed;
 use turn_ledger::{Batch, Entry, EntryRefusal, Ledger, Verdicts};
 
 fn deposit(to: u32, amount: u64) -> Entry {
@@ -51,15 +51,14 @@ fn is_posted(ledger: &Ledger) -> bool {
 }
 
 #[test]
-fn an_example_of_a_turn(rt: HostRuntime) -> Result<(), Fail> {
-    let mut ledger = Ledger::new(rt.alloc())?;
+fn an_example_of_a_turn(rt: HostRuntime) {
+    let mut ledger = needed(&rt, Ledger::new(rt.alloc()));
     let entries = [deposit(1, 100), withdraw(1, 150), transfer(1, 2, 40)];
     let verdicts = ledger.screen(&entries);
     let batch = Batch::of_accepted(&entries, &verdicts);
     assert!(rt; are_told(&verdicts) && is_accepted(&batch, entries[2]));
     for entry in &batch {
-        ledger.post(entry)?;
+        needed(&rt, ledger.post(entry));
     }
     assert!(rt; is_posted(&ledger));
-    Ok(())
 }

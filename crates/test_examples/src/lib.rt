@@ -1,6 +1,6 @@
 //! An example for each library, as its user would write it. Beside them stands what a console can't
-//! show: a device of 8,000,000 sectors, and the texts of refusals. Each test holds whatever thread
-//! runs when.
+//! show: a device of 8,000,000 sectors, the texts of refusals, and threads whose order matters.
+//! Each test holds whatever thread runs when.
 #![tactic(auto)]
 
 #[cfg(test)]
@@ -51,3 +51,5 @@ mod scripts;
 mod streams;
 #[cfg(test)]
 mod sweeps;
+#[cfg(test)]
+mod threads;

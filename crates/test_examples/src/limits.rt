@@ -5,7 +5,6 @@ use crate::journals::PLACE;
 use crate::recovery::recovered;
 use gate_journal::format;
 use sector_device::{Device, DeviceFault, SECTOR, Sector};
-use std::test::Fail;
 
 // A device of so many sectors: a journal with 1,000,000 slots in each bank and one record, and
 // behind its gate zeros alone. It counts what is written, and keeps nothing of it.
@@ -67,13 +66,12 @@ fn a_million_slots() -> Sparse {
 }
 
 #[test]
-fn a_device_of_8_000_000_sectors_is_recovered(rt: HostRuntime) -> Result<(), Fail> {
-    let found = recovered(rt.alloc(), a_million_slots())?;
+fn a_device_of_8_000_000_sectors_is_recovered(rt: HostRuntime) {
+    let found = recovered(&rt, rt.alloc(), a_million_slots());
     assert!(rt;
         found.ledger.balance(1) == Some(500)
             && (found.journal.next(), found.journal.room()) == (1, 999_999)
     );
-    Ok(())
 }
 
 // A head, seventeen sectors of a snapshot, the gates of the slots and of both banks, and the

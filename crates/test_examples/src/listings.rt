@@ -1,11 +1,11 @@
 //! What is listed of a ledger.
-use crate::journals::opened;
-use crate::scenes::{deposit, formatted, withdrawal};
-use gate_journal::{PAYLOAD, Record};
-use ledger_reading::{Entry, ListedRecord, Listing, ReadRefusal, Sound, look};
+use crate::scenes::{deposit, formatted, needed, needed_of, withdrawal};
+use gate_journal::{Journal, PAYLOAD, Record};
+use ledger_reading::{Entry, ListedRecord, Listing, Sound, look};
 use sector_device::{Device, MemoryDevice};
 use std::alloc::Global;
-use std::test::Fail;
+use std::panic::Expect;
+use std::process::Abort;
 
 // A record of a station with two entries.
 fn record_of(by: u16, [first, second]: [Entry; 2]) -> Option<Record> {
@@ -16,53 +16,49 @@ fn record_of(by: u16, [first, second]: [Entry; 2]) -> Option<Record> {
 }
 
 // The device of a ledger with these records, each of a station.
-fn with_records(alloc: Global, records: [(u16, [Entry; 2]); 2]) -> Result<MemoryDevice, Fail> {
-    let mut journal = opened(formatted(alloc, 2)?)?;
+fn with_records(rt: &impl Abort, alloc: Global, records: [(u16, [Entry; 2]); 2]) -> MemoryDevice {
+    let mut journal = needed_of(rt, Journal::open(formatted(rt, alloc, 2)));
     for (by, entries) in records {
-        journal.append(&record_of(by, entries).ok_or("a record")?)?;
+        let record = record_of(by, entries).expect(rt, "a record");
+        needed(rt, journal.append(&record));
     }
-    Ok(journal.into_device())
+    journal.into_device()
 }
 
-pub fn listing_of<D: Device + Drop>(sound: Sound<D>) -> Result<Listing<D>, ReadRefusal> {
-    match sound.journal.list(sound.ledger) {
-        Ok(listing) => Ok(listing),
-        Err((_, refusal)) => Err(refusal),
-    }
+pub fn listing_of<D: Device + Drop>(rt: &impl Abort, sound: Sound<D>) -> Listing<D> {
+    needed_of(rt, sound.journal.list(sound.ledger))
 }
+
 // The next record is this one, and after it the first two accounts hold so much.
 fn is_next<D: Device>(
     listing: &mut Listing<D>,
     (by, wanted): (u16, &[Entry]),
     amounts: (u64, u64),
-) -> Result<bool, ReadRefusal> {
-    let Some(
-        ListedRecord {
-            record,
-            entries,
-            ..
-        },
-    ) = listing.next()?
+) -> bool {
+    let Ok(
+        Some(
+            ListedRecord {
+                record,
+                entries,
+                ..
+            },
+        ),
+    ) = listing.next()
     else {
-        return Ok(false);
+        return false;
     };
     let (first, second) = (listing.ledger().balance(1), listing.ledger().balance(2));
-    Ok(
-        (record.station(), entries.as_slice()) == (by, wanted)
-            && (first, second) == (Some(amounts.0), Some(amounts.1)),
-    )
+    (record.station(), entries.as_slice()) == (by, wanted)
+        && (first, second) == (Some(amounts.0), Some(amounts.1))
 }
 
 // The ledger's listing.
-fn listed(alloc: Global, device: MemoryDevice) -> Result<Listing<MemoryDevice>, Fail> {
-    match look(alloc, device) {
-        Ok(sound) => Ok(listing_of(sound)?),
-        Err((_, refusal)) => Err(Fail::from(refusal)),
-    }
+fn listed(rt: &impl Abort, alloc: Global, device: MemoryDevice) -> Listing<MemoryDevice> {
+    listing_of(rt, needed_of(rt, look(alloc, device)))
 }
 
 #[test]
-fn records_are_listed_with_the_balances_after_them(rt: HostRuntime) -> Result<(), Fail> {
+fn records_are_listed_with_the_balances_after_them(rt: HostRuntime) {
     let alloc = rt.alloc();
     let first = [deposit(1, 500), withdrawal(1, 200)];
     let second = [
@@ -72,11 +68,11 @@ fn records_are_listed_with_the_balances_after_them(rt: HostRuntime) -> Result<()
             reference: 4,
         },
     ];
-    let mut listing = listed(alloc, with_records(alloc, [(5, first), (0, second)])?)?;
+    let device = with_records(&rt, alloc, [(5, first), (0, second)]);
+    let mut listing = listed(&rt, alloc, device);
     assert!(rt;
-        is_next(&mut listing, (5, &first), (300, 0))?
-            && is_next(&mut listing, (0, &second), (300, 150))?
-            && listing.next()?.is_none()
+        is_next(&mut listing, (5, &first), (300, 0))
+            && is_next(&mut listing, (0, &second), (300, 150))
+            && needed(&rt, listing.next()).is_none()
     );
-    Ok(())
 }

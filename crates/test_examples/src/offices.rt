@@ -1,5 +1,5 @@
 //! An office that is opened, takes two turns and is closed: what its seats are answered.
-use crate::scenes::{deposit, formatted, line};
+use crate::scenes::{deposit, formatted, line, needed, needed_of};
 use line_lock::{
     BalanceRefusal, Closing, Count, FindRefusal, Office, OfficeWork, OpenedOn, Reached, Rule,
     SearchStep, SearchTarget, Seat, ToldBalance, Turn, TurnRefusal, WithinRefusal, with_office,
@@ -8,7 +8,6 @@ use sector_device::MemoryDevice;
 use std::alloc::Global;
 use std::process::Abort;
 use std::sync::Wait;
-use std::test::Fail;
 
 // Two turns, which are the answer, and what the seats are told before, between and after them.
 #[derive(Drop)]
@@ -28,7 +27,7 @@ impl<'a, R: Abort + Wait> OfficeWork<MemoryDevice> for OneTurnAfterTheOther<'a, 
     ) -> Result<(Vec<Seat<L>>, [Turn; 2]), WithinRefusal> {
         let OneTurnAfterTheOther { rt } = self;
         let alloc = *seats.allocator();
-        let turns = one_turn_each(rt, alloc, office, seats.as_mut_slice())?;
+        let turns = one_turn_each(rt, alloc, office, seats.as_mut_slice());
         // in whatever order the seats are handed in
         seats.as_mut_slice().reverse();
         Ok((seats, turns))
@@ -40,16 +39,16 @@ fn one_turn_each<L: Count + OpenedOn, R: Abort + Wait>(
     alloc: Global,
     office: &Office<MemoryDevice, L>,
     seats: &mut [Seat<L>],
-) -> Result<[Turn; 2], WithinRefusal> {
+) -> [Turn; 2] {
     let [bottom, top] = seats else {
         panic!(rt; "two seats");
     };
     assert!(rt; is_new(bottom, 0) && is_new(top, 1) && is_denied(rt, office, top, 0));
-    let first = bottom_turn(rt, office, bottom)?;
-    let second = top_turn(rt, office, top)?;
+    let first = bottom_turn(rt, office, bottom);
+    let second = top_turn(rt, office, top);
     assert!(rt; is_listed(bottom, &first, 0) && is_listed(top, &second, 1));
     assert!(rt; is_shown(alloc, office, top));
-    Ok([first, second])
+    [first, second]
 }
 
 // The seat of this station has no turn, and was denied none.
@@ -125,15 +124,15 @@ fn bottom_turn<L: Count + OpenedOn, R: Abort + Wait>(
     rt: &R,
     office: &Office<MemoryDevice, L>,
     bottom: &mut Seat<L>,
-) -> Result<Turn, WithinRefusal> {
+) -> Turn {
     let sixteen = office.turn(rt, bottom, &[deposit(1, 5); 16]);
     assert!(rt; sixteen == Err(TurnRefusal::TooMany) && is_told(rt, office, bottom, 0, 0));
-    let first = office.turn(rt, bottom, &[deposit(1, 5)])?;
+    let first = needed(rt, office.turn(rt, bottom, &[deposit(1, 5)]));
     assert!(rt;
         (first.index, first.rule, first.posted) == (0, Rule::Bottom, Some(0))
             && is_denied(rt, office, bottom, 1)
     );
-    Ok(first)
+    first
 }
 
 // The second turn is the top station's, where two are wanted and not where one is; it is denied a
@@ -142,9 +141,9 @@ fn top_turn<L: Count + OpenedOn, R: Abort + Wait>(
     rt: &R,
     office: &Office<MemoryDevice, L>,
     top: &mut Seat<L>,
-) -> Result<Turn, WithinRefusal> {
+) -> Turn {
     assert!(rt; is_refused_within(rt, office, top, 1, WithinRefusal::Reached));
-    let second = office.turn_within(rt, top, &[], 2)?;
+    let second = needed(rt, office.turn_within(rt, top, &[], 2));
     let denied = WithinRefusal::Turn(TurnRefusal::NotPrivileged);
     assert!(rt;
         (second.index, second.rule, second.posted) == (1, Rule::Top, None)
@@ -152,7 +151,7 @@ fn top_turn<L: Count + OpenedOn, R: Abort + Wait>(
             && is_told(rt, office, top, 5, 2)
             && is_nowhere(office.search(rt, top, SearchTarget::Reference(9), 0, u64::MAX))
     );
-    Ok(second)
+    second
 }
 
 // Whether a search came to its end, and found nothing.
@@ -166,29 +165,23 @@ fn is_nowhere(answer: Result<SearchStep, FindRefusal>) -> bool {
 }
 
 // An office of two stations over an empty ledger, closed behind its turns.
-fn closed<R: Abort + Wait>(
-    rt: &R,
-    alloc: Global,
-) -> Result<(Closing<MemoryDevice>, [Turn; 2]), Fail> {
+fn closed<R: Abort + Wait>(rt: &R, alloc: Global) -> (Closing<MemoryDevice>, [Turn; 2]) {
+    let (device, line) = (formatted(rt, alloc, 4), line(rt, [0, 0], [1, 0]));
     let work = OneTurnAfterTheOther { rt };
-    match with_office(alloc, formatted(alloc, 4)?, line([0, 0], [1, 0])?, work) {
-        Ok(closed) => Ok(closed),
-        Err((_, refusal)) => Err(Fail::from(refusal)),
-    }
+    needed_of(rt, with_office(alloc, device, line, work))
 }
 
 // The clerk lists these turns, of which the first posted a deposit of 5, and both stations moved.
-fn are_closed(closing: &Closing<MemoryDevice>, turns: &[Turn]) -> bool {
+fn are_closed(rt: &impl Abort, closing: &Closing<MemoryDevice>, turns: &[Turn]) -> bool {
     let Closing { clerk, audit } = closing;
     clerk.history() == turns
         && clerk.ledger().balance(1) == Some(5)
-        && line([1, 1], [1, 0]) == Ok(audit.last)
+        && line(rt, [1, 1], [1, 0]) == audit.last
         && audit.first_legitimate == Some(0)
 }
 
 #[test]
-fn turns_are_listed_and_refusals_noted(rt: HostRuntime) -> Result<(), Fail> {
-    let (closing, turns) = closed(&rt, rt.alloc())?;
-    assert!(rt; are_closed(&closing, &turns));
-    Ok(())
+fn turns_are_listed_and_refusals_noted(rt: HostRuntime) {
+    let (closing, turns) = closed(&rt, rt.alloc());
+    assert!(rt; are_closed(&rt, &closing, &turns));
 }

@@ -3,12 +3,12 @@
 ghost use Rattle.sector_device.specs.MemoryDevice.{memory_device_state};
 ghost use Rattle.sector_device.specs.MemoryLaws.{memory_sound};
 
+use crate::scenes::needed;
 use front_scripts::{Device, MemoryDevice, PowerLoss, run_script};
 use sector_device::{DeviceFault, Sector};
 use std::alloc::Global;
 use std::sync::Arc;
 use std::sync::atomic::{AtomicU64, Ordering};
-use std::test::Fail;
 
 // A device that counts how often it lost its power.
 #[derive(Drop)]
@@ -58,16 +58,18 @@ const DEPOSIT_PRINTS: &str =
 
 // The power is cut once, and by the line `crash` alone.
 #[test]
-fn a_deposit_survives_a_power_loss(rt: HostRuntime) -> Result<(), Fail> {
+fn a_deposit_survives_a_power_loss(rt: HostRuntime) {
     let alloc = rt.alloc();
-    let losses = Arc::new(alloc, AtomicU64::new(0))?;
+    let losses = needed(&rt, Arc::new(alloc, AtomicU64::new(0)));
     let device = Counted {
-        inner: MemoryDevice::new(alloc, 64)?,
-        losses: Arc::try_clone(&losses)?,
+        inner: needed(&rt, MemoryDevice::new(alloc, 64)),
+        losses: needed(&rt, Arc::try_clone(&losses)),
     };
     let (mut reader, mut output) = (DEPOSIT.as_bytes(), Vec::new(alloc));
-    run_script(&rt, alloc, &mut reader, &mut output, device)?;
+    needed(
+        &rt,
+        run_script(&rt, alloc, &mut reader, &mut output, device),
+    );
     assert!(rt; output.as_slice() == DEPOSIT_PRINTS.as_bytes());
     assert!(rt; losses.load(Ordering::SeqCst) == 1);
-    Ok(())
 }

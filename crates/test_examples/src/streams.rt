@@ -1,8 +1,8 @@
 //! What is printed is gathered.
+use crate::scenes::needed;
 use std::alloc::Global;
 use std::io;
 use std::io::Write;
-use std::test::Fail;
 use text_streams::{Output, StreamFault};
 
 // A writer that remembers what each call brought.
@@ -52,17 +52,16 @@ fn are_two(pieces: &[Vec<u8>]) -> bool {
 
 // 64 lines of 1,024 bytes are 65,536.
 #[test]
-fn lines_are_gathered_to_65536_bytes(rt: HostRuntime) -> Result<(), Fail> {
+fn lines_are_gathered_to_65536_bytes(rt: HostRuntime) {
     let alloc = rt.alloc();
     let mut text = String::new(alloc);
     for _ in 0..1_023 {
-        text.push('x')?;
+        needed(&rt, text.push('x'));
     }
     let mut writer = Taking {
         alloc,
         pieces: Vec::new(alloc),
     };
-    print_lines(alloc, &mut writer, text.as_str(), 65)?;
+    needed(&rt, print_lines(alloc, &mut writer, text.as_str(), 65));
     assert!(rt; are_two(writer.pieces.as_slice()));
-    Ok(())
 }

@@ -1,6 +1,6 @@
 //! Audits of lists of moves: a worked example.
+use crate::scenes::needed;
 use four_state::{Line, Rule};
-use std::test::Fail;
 use sweep_auditor::{Audit, Move, audit};
 
 fn by(station: u8, rule: Rule) -> Move {
@@ -8,9 +8,9 @@ fn by(station: u8, rule: Rule) -> Move {
 }
 
 #[test]
-fn a_legitimate_line_sweeps_up_and_down(rt: HostRuntime) -> Result<(), Fail> {
+fn a_legitimate_line_sweeps_up_and_down(rt: HostRuntime) {
     let up = [true, false, false];
-    let start = Line::from_bits(3, &[false; 3], &up)?;
+    let start = needed(&rt, Line::from_bits(3, &[false; 3], &up));
     let moves = [
         by(0, Rule::Bottom),
         by(1, Rule::Raise),
@@ -19,8 +19,7 @@ fn a_legitimate_line_sweeps_up_and_down(rt: HostRuntime) -> Result<(), Fail> {
     ];
     let told = Audit {
         first_legitimate: Some(0),
-        last: Line::from_bits(3, &[true; 3], &up)?,
+        last: needed(&rt, Line::from_bits(3, &[true; 3], &up)),
     };
     assert!(rt; audit(start, &moves) == Ok(told));
-    Ok(())
 }

@@ -1,15 +1,8 @@
 //! What neither a console nor a single thread shows: stations whose threads take their steps in an
 //! order that matters, as what is done beside a sync that is under way, or between two steps of a
 //! station.
-#![tactic(auto)]
-
-#[cfg(test)]
 mod beside;
-#[cfg(test)]
 mod clients;
-#[cfg(test)]
 mod moments;
-#[cfg(test)]
 mod runs;
-#[cfg(test)]
 mod waiting;

@@ -1,12 +1,12 @@
 //! What a station does when, as a gate sees it.
-use crate::runs::{Remains, deposit, feeds_and_desks, played_in_memory};
-use crate::waiting::{TRIES, wait_for};
+use crate::scenes::deposit;
+use crate::threads::runs::{Remains, feeds_and_desks, played_in_memory};
+use crate::threads::waiting::{TRIES, wait_for};
 use station_desk::{End, Feed, Gate, Turn};
 use std::alloc::Global;
 use std::process::Abort;
 use std::sync::atomic::{AtomicU64, Ordering};
 use std::sync::{Mutex, Wait};
-use std::test::Fail;
 use std::thread::Threads;
 
 // Stands at the feed of the bottom station: submits one more deposit each time that this station
@@ -66,8 +66,8 @@ fn is_in_time<R: Abort + Threads + Wait + Sync>(
     rt: &R,
     alloc: Global,
     looks_at_the_turn: bool,
-) -> Result<bool, Fail> {
-    let (mut feed, _, desks) = feeds_and_desks(alloc)?;
+) -> bool {
+    let (mut feed, _, desks) = feeds_and_desks(rt, alloc);
     let _ = feed.submit(deposit(1, 5));
     let _ = feed.submit(deposit(1, 6));
     let gate = AtTheFeed {
@@ -76,22 +76,21 @@ fn is_in_time<R: Abort + Threads + Wait + Sync>(
         before: AtomicU64::new(0),
         after: AtomicU64::new(0),
     };
-    let left = played_in_memory(rt, alloc, 4, desks, &gate, 1, TRIES)?;
+    let left = played_in_memory(rt, alloc, 4, desks, &gate, 1, TRIES);
     let wanted = Remains {
         ends: [End::Reached; 2],
         turns: [1, 0],
         balance: Some(11),
     };
     let before = gate.before.load(Ordering::SeqCst);
-    Ok(left == wanted && before == 0 && gate.after.load(Ordering::SeqCst) == 2)
+    left == wanted && before == 0 && gate.after.load(Ordering::SeqCst) == 2
 }
 
 #[test]
 fn answers_are_there_when_a_gate_hears_of_them_and_what_comes_after_gathering_waits(
     rt: HostRuntime,
-) -> Result<(), Fail> {
-    assert!(rt; is_in_time(&rt, rt.alloc(), true)? && is_in_time(&rt, rt.alloc(), false)?);
-    Ok(())
+) {
+    assert!(rt; is_in_time(&rt, rt.alloc(), true) && is_in_time(&rt, rt.alloc(), false));
 }
 
 // How the top station of two ends behind refusals, and the bottom one behind it: it was privileged
@@ -151,16 +150,15 @@ impl Gate for AfterRefusals {
 // Station 1 is refused twice, takes a turn, is refused twice, takes a turn, and is refused three
 // times.
 #[test]
-fn tries_begin_anew_with_a_turn(rt: HostRuntime) -> Result<(), Fail> {
+fn tries_begin_anew_with_a_turn(rt: HostRuntime) {
     let alloc = rt.alloc();
     let gate = AfterRefusals {
         gathered: AtomicU64::new(0),
         answered: AtomicU64::new(0),
     };
-    let (_, _, desks) = feeds_and_desks(alloc)?;
-    let left = played_in_memory(&rt, alloc, 4, desks, &gate, 100, 2)?;
+    let (_, _, desks) = feeds_and_desks(&rt, alloc);
+    let left = played_in_memory(&rt, alloc, 4, desks, &gate, 100, 2);
     assert!(rt; left == gave_up([3, 2]) && gate.gathered.load(Ordering::SeqCst) == 9 + ENDED);
-    Ok(())
 }
 
 // After a turn of station 0 station 1 takes one, which gives station 0 the privilege anew, and asks
@@ -193,14 +191,13 @@ impl Gate for PrivilegedAnew {
 }
 
 #[test]
-fn a_station_that_gives_up_stops_one_that_is_privileged(rt: HostRuntime) -> Result<(), Fail> {
+fn a_station_that_gives_up_stops_one_that_is_privileged(rt: HostRuntime) {
     let alloc = rt.alloc();
     let gate = PrivilegedAnew {
         answers: AtomicU64::new(0),
         ends: AtomicU64::new(0),
     };
-    let (_, _, desks) = feeds_and_desks(alloc)?;
-    let left = played_in_memory(&rt, alloc, 4, desks, &gate, 100, 0)?;
+    let (_, _, desks) = feeds_and_desks(&rt, alloc);
+    let left = played_in_memory(&rt, alloc, 4, desks, &gate, 100, 0);
     assert!(rt; left == gave_up([1, 1]));
-    Ok(())
 }

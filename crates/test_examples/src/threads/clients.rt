@@ -1,12 +1,12 @@
 //! Clients that submit and collect while the stations take turns.
-use crate::runs::{PLACES, Remains, deposit, feeds_and_desks, played_in_memory};
-use crate::waiting::TRIES;
+use crate::scenes::deposit;
+use crate::threads::runs::{PLACES, Remains, feeds_and_desks, played_in_memory};
+use crate::threads::waiting::TRIES;
 use station_desk::{Desk, End, Errand, Feed, Gate, Outcome, Turn};
 use std::alloc::Global;
 use std::process::Abort;
 use std::sync::Wait;
 use std::sync::atomic::{AtomicBool, AtomicU64, Ordering};
-use std::test::Fail;
 use std::thread::{Parker, Threads, join, yield_now};
 
 const REQUESTS: u64 = 200;
@@ -179,16 +179,16 @@ fn run<R: Abort + Threads + Wait + Sync>(
     alloc: Global,
     desks: Vec<Desk>,
     pace: &Pace,
-) -> Result<Remains, Fail> {
+) -> Remains {
     let left = played_in_memory(rt, alloc, 400, desks, pace, MOVES, TRIES);
     pace.has_returned.store(true, Ordering::SeqCst);
     left
 }
 
 #[test]
-fn clients_beside_stations(rt: HostRuntime) -> Result<(), Fail> {
+fn clients_beside_stations(rt: HostRuntime) {
     let alloc = rt.alloc();
-    let (bottom, top, desks) = feeds_and_desks(alloc)?;
+    let (bottom, top, desks) = feeds_and_desks(&rt, alloc);
     let pace = Pace::new();
     let (rt, pace) = (&rt, &pace);
     let (tallies, left) = join(
@@ -196,6 +196,5 @@ fn clients_beside_stations(rt: HostRuntime) -> Result<(), Fail> {
         move || both_work(rt, bottom, top, pace),
         move || run(rt, alloc, desks, pace),
     );
-    assert!(rt; are_told(tallies, &left?));
-    Ok(())
+    assert!(rt; are_told(tallies, &left));
 }

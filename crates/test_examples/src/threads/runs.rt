@@ -1,43 +1,18 @@
 //! A run of the two stations of an office, with a gate that a test gives.
 ghost use Rattle.std.specs.Prelude.{◌≤◌};
 
-use four_state::Line;
-use gate_journal::{format, sectors_needed};
+use crate::scenes::{formatted, line, needed, needed_of};
 use line_lock::Turn;
-use office_day::{Closing, StationEnd, run_office};
+use office_day::{Closing, StationRemains, run_office};
 use sector_device::{Device, MemoryDevice};
 use station_desk::{Desk, End, Feed, Gate, desk};
 use std::alloc::Global;
 use std::process::Abort;
 use std::sync::Wait;
-use std::test::Fail;
 use std::thread::Threads;
-use turn_ledger::Entry;
 
 /// How many requests a feed has room for.
 pub const PLACES: u64 = 4;
-
-/// A deposit to an account, with the reference 1.
-pub fn deposit(to: u32, amount: u64) -> Entry {
-    Entry::Deposit {
-        to,
-        amount,
-        reference: 1,
-    }
-}
-
-/// An empty journal in memory, with so many slots in each bank.
-///
-/// # Errors
-/// Out of memory.
-pub fn formatted(alloc: Global, slots: u64) -> Result<MemoryDevice, Fail>
-    requires some { 1 ≤ slots }
-    requires few { slots ≤ 1000000 }
-{
-    let mut device = MemoryDevice::new(alloc, sectors_needed(slots))?;
-    format(&mut device, slots)?;
-    Ok(device)
-}
 
 /// What a run leaves: how each station ended, how many turns it took, and what account 1 holds.
 #[derive(Clone, Copy, PartialEq, Eq)]
@@ -56,13 +31,12 @@ pub fn played<D: Device + Send + Drop, G: Gate + Sync, R: Abort + Threads + Wait
     gate: &G,
     moves: u64,
     tries: u64,
-) -> Result<Remains, Fail> {
-    let line = Line::from_bits(2, &[false, false], &[true, false])?;
+) -> Remains {
+    let line = line(rt, [0, 0], [1, 0]);
     assert!(rt; desks.len() == line.stations() as usize);
-    match run_office(rt, alloc, device, line, desks, gate, moves, tries) {
-        Ok((closing, left)) => Ok(of_run(&closing, left.as_slice())),
-        Err((_, refusal)) => Err(Fail::from(refusal)),
-    }
+    let run = run_office(rt, alloc, device, line, desks, gate, moves, tries);
+    let (closing, left) = needed_of(rt, run);
+    of_run(&closing, left.as_slice())
 }
 
 /// The same on an empty journal in memory, with so many slots in each bank.
@@ -74,22 +48,15 @@ pub fn played_in_memory<G: Gate + Sync, R: Abort + Threads + Wait + Sync>(
     gate: &G,
     moves: u64,
     tries: u64,
-) -> Result<Remains, Fail>
+) -> Remains
     requires some { 1 ≤ slots }
     requires few { slots ≤ 1000000 }
 {
-    played(
-        rt,
-        alloc,
-        formatted(alloc, slots)?,
-        desks,
-        gate,
-        moves,
-        tries,
-    )
+    let device = formatted(rt, alloc, slots);
+    played(rt, alloc, device, desks, gate, moves, tries)
 }
 
-fn of_run<D: Device>(closing: &Closing<D>, left: &[StationEnd]) -> Remains {
+fn of_run<D: Device>(closing: &Closing<D>, left: &[StationRemains]) -> Remains {
     let history = closing.clerk.history();
     Remains {
         ends: [end_of(left, 0), end_of(left, 1)],
@@ -98,7 +65,7 @@ fn of_run<D: Device>(closing: &Closing<D>, left: &[StationEnd]) -> Remains {
     }
 }
 
-fn end_of(left: &[StationEnd], station: usize) -> End {
+fn end_of(left: &[StationRemains], station: usize) -> End {
     match left.get(station) {
         Some(station) => station.end,
         None => End::NotStarted,
@@ -116,8 +83,12 @@ fn turns_of(history: &[Turn], station: u8) -> u64 {
 }
 
 /// The feed of the bottom station, that of the top one, and both desks.
-pub fn feeds_and_desks(alloc: Global) -> Result<(Feed, Feed, Vec<Desk>), Fail> {
-    let (bottom_feed, bottom) = desk(alloc, PLACES as usize)?;
-    let (top_feed, top) = desk(alloc, PLACES as usize)?;
-    Ok((bottom_feed, top_feed, vec![in alloc; bottom, top]?))
+pub fn feeds_and_desks(rt: &impl Abort, alloc: Global) -> (Feed, Feed, Vec<Desk>) {
+    let (bottom_feed, bottom) = needed(rt, desk(alloc, PLACES as usize));
+    let (top_feed, top) = needed(rt, desk(alloc, PLACES as usize));
+    (
+        bottom_feed,
+        top_feed,
+        needed(rt, vec![in alloc; bottom, top]),
+    )
 }

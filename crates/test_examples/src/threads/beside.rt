@@ -1,13 +1,13 @@
 //! Threads at once: a station gathers while another one's sync is under way.
-use crate::runs::{Remains, deposit, feeds_and_desks, formatted, played};
-use crate::waiting::{TRIES, wait_for};
+use crate::scenes::{deposit, formatted, needed};
+use crate::threads::runs::{Remains, feeds_and_desks, played};
+use crate::threads::waiting::{TRIES, wait_for};
 use fault_injector::{Held, HeldFlags};
 use station_desk::{Desk, Errand, Gate, Outcome};
 use std::alloc::Global;
 use std::process::Abort;
 use std::sync::atomic::{AtomicBool, AtomicU64, Ordering};
 use std::sync::{Arc, Wait};
-use std::test::Fail;
 use std::thread::{Threads, yield_now};
 
 // How often the gate looks at most, once the sync has its leave. It lets other threads run each
@@ -71,13 +71,13 @@ impl Gate for BesideSync {
 }
 
 // Flags that aren't up, and nobody who has arrived.
-fn beside_sync(alloc: Global) -> Result<BesideSync, Fail> {
-    Ok(BesideSync {
-        flags: Arc::new(alloc, HeldFlags::new())?,
+fn beside_sync(rt: &impl Abort, alloc: Global) -> BesideSync {
+    BesideSync {
+        flags: needed(rt, Arc::new(alloc, HeldFlags::new())),
         arrived: AtomicU64::new(0),
         asked: AtomicBool::new(false),
         seen: AtomicBool::new(false),
-    })
+    }
 }
 
 // One turn on a device whose second sync is held.
@@ -86,31 +86,26 @@ fn run_held<R: Abort + Threads + Wait + Sync>(
     alloc: Global,
     desks: Vec<Desk>,
     gate: &BesideSync,
-) -> Result<Remains, Fail> {
-    let flags = Arc::try_clone(&gate.flags)?;
-    let device = Held::new(formatted(alloc, 4)?, 1, flags);
+) -> Remains {
+    let flags = needed(rt, Arc::try_clone(&gate.flags));
+    let device = Held::new(formatted(rt, alloc, 4), 1, flags);
     played(rt, alloc, device, desks, gate, 1, TRIES)
 }
 
 // Whether that turn posts what the bottom station's client asked for.
-fn is_posted<R: Abort + Threads + Wait + Sync>(
-    rt: &R,
-    alloc: Global,
-    gate: &BesideSync,
-) -> Result<bool, Fail> {
-    let (mut feed, _, desks) = feeds_and_desks(alloc)?;
+fn is_posted<R: Abort + Threads + Wait + Sync>(rt: &R, alloc: Global, gate: &BesideSync) -> bool {
+    let (mut feed, _, desks) = feeds_and_desks(rt, alloc);
     let _ = feed.submit(deposit(1, 5));
-    let left = run_held(rt, alloc, desks, gate)?;
-    Ok(match feed.answer() {
+    let left = run_held(rt, alloc, desks, gate);
+    match feed.answer() {
         Some(answer) => left.balance == Some(5) && answer.outcome == Outcome::Posted(0),
         None => false,
-    })
+    }
 }
 
 #[test]
-fn gather_runs_beside_sync(rt: HostRuntime) -> Result<(), Fail> {
-    let gate = beside_sync(rt.alloc())?;
+fn gather_runs_beside_sync(rt: HostRuntime) {
+    let gate = beside_sync(&rt, rt.alloc());
     assert!(rt; !gate.has_begun() && !gate.flags.go.load(Ordering::SeqCst));
-    assert!(rt; is_posted(&rt, rt.alloc(), &gate)? && gate.seen.load(Ordering::SeqCst));
-    Ok(())
+    assert!(rt; is_posted(&rt, rt.alloc(), &gate) && gate.seen.load(Ordering::SeqCst));
 }
