@@ -1,3 +1,1 @@
 pub mod Damage
-pub mod Places
-pub mod Refused

@@ -4,10 +4,9 @@ ghost use Rattle.sector_device.specs.Crash.{AreLooks};
 ghost use Rattle.ledger_drawing.specs.Damage.{HasDamage};
 
 use crate::kind::SectorKind;
-use crate::place::Place;
 use crate::section::{COLUMNS, Heading, Section};
-use crate::sectors::{find_live, find_plan, read_gate};
 use gate_journal::{Bank, Plan};
+use ledger_damage::{Place, find_live_bank, find_plan, read_gate};
 use sector_device::{Device, DeviceFault};
 use std::fmt;
 
@@ -32,7 +31,7 @@ impl Map {
     {
         let plan = find_plan(device)?;
         let live = match plan {
-            Some(plan) => find_live(device, plan)?,
+            Some(plan) => find_live_bank(device, plan)?,
             None => None,
         };
         Ok(Map {

@@ -23,7 +23,7 @@ pub use device_files::{FileFault, LockMode};
 pub use faults::InspectionFault;
 pub use inspecting::{inspect, inspect_device};
 pub use inspection::{Inspection, Task};
-pub use ledger_drawing::Place;
+pub use ledger_damage::Place;
 pub use ledger_folder::Part;
 pub use ledger_printing::{Date, Format, JournalWish, Progress, Selection};
 pub use ledger_reading::{Cause, Device, OpenRefusal};

@@ -1,6 +1,6 @@
 //! What is wrong with a ledger that isn't sound.
 use journal_recovery::OpenRefusal;
-use ledger_drawing::Place;
+use ledger_damage::Place;
 use std::fmt;
 
 /// What is wrong, and where.

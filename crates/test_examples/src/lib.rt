@@ -10,13 +10,13 @@ mod clerks;
 #[cfg(test)]
 mod counters;
 #[cfg(test)]
+mod damages;
+#[cfg(test)]
 mod days;
 #[cfg(test)]
 mod desks;
 #[cfg(test)]
 mod devices;
-#[cfg(test)]
-mod drawings;
 #[cfg(test)]
 mod example;
 #[cfg(test)]

@@ -11,7 +11,7 @@ use gate_journal::OldJournal;
 use journal_recovery::{
     MigrateRefusal, OpenRefusal, Recovered, copy, may_hold_postings, migrate, recover,
 };
-use ledger_drawing::locate;
+use ledger_damage::locate;
 use ledger_reading::{Listing, Sound};
 use std::alloc::Global;
 

@@ -3,7 +3,7 @@ ghost use Rattle.std.specs.Prelude.{◌<◌};
 
 use crate::scenes::{formatted, needed};
 use journal_recovery::{Cause, OpenRefusal, recover};
-use ledger_drawing::{Place, locate};
+use ledger_damage::{Place, locate};
 use sector_device::{Device, MemoryDevice, SECTOR};
 use std::alloc::Global;
 use std::process::Abort;
