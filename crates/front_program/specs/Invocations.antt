@@ -3,8 +3,9 @@ use Rattle.std.specs.Prelude.{◌≤◌, ℕ, Option, IfSome}
 use Rattle.std.specs.Int.NonZero.{non_zero_u64_get}
 use Rattle.front_program.specs.declared.invocation.Invocation.{Invocation}
 use Rattle.front_program.specs.declared.invocation.Invocation.TheVariants.{Run, Serve, Close}
-use Rattle.front_program.specs.declared.invocation.Invocation.TheVariants.{Status, Inspect, Format}
-use Rattle.front_program.specs.declared.invocation.Invocation.TheVariants.{Copy, Archive}
+use Rattle.front_program.specs.declared.invocation.Invocation.TheVariants.{Status}
+use Rattle.front_program.specs.declared.invocation.Invocation.TheVariants.{Inspect, Format, Copy}
+use Rattle.front_program.specs.declared.invocation.Invocation.TheVariants.{Archive}
 
 -- as many sectors as a ledger of the most slots has, and one at least
 abbrev pub AreSectors : Option ℕ → Type 0

@@ -78,10 +78,10 @@ pub fn options<'a>(alloc: Global, words: &'a [&'a str]) -> Result<Options<'a>, E
     let migrate = matches.get_str("migrate");
     let overwrite = matches.get_flag("overwrite");
     let Ok(slots) = SLOTS.given(&matches) else {
-        return Err(command.error(ErrorKind::InvalidValue, OUT_OF_RANGE)?);
+        return Err(out_of_range(&mut command));
     };
     let Some(sectors) = SECTORS.number(&matches) else {
-        return Err(command.error(ErrorKind::InvalidValue, OUT_OF_RANGE)?);
+        return Err(out_of_range(&mut command));
     };
     Ok(Options {
         device,
@@ -92,29 +92,34 @@ pub fn options<'a>(alloc: Global, words: &'a [&'a str]) -> Result<Options<'a>, E
     })
 }
 
+// What is told of a number out of range.
+fn out_of_range(command: &mut Command<'_>) -> Error {
+    command
+        .error(ErrorKind::InvalidValue, OUT_OF_RANGE)
+        .unwrap_or_else(Error::from)
+}
+
 /// The command line of `turn_console`.
 pub(crate) fn console_command<'a>(alloc: Global) -> Result<Command<'a>, Error>
     ensures words { IfOk result (λ command. app_of command ≡ console) }
     ensures memory { IfErr result (λ error. kind_of error ≡ OutOfMemory) }
 {
-    let device = option(
-        alloc,
-        "device",
-        "PATH",
-        "The file that is the device; made and grown where it is smaller. Or a disk. Without it the device is in memory",
-    );
-    let migrate = option(
-        alloc,
-        "migrate",
-        "OLD",
-        "A file of layout 1 or 2, whose ledger is copied onto the device before the script is read; it stays as it is",
-    );
     let command = Command::new(alloc, "turn_console")
         .about("A ledger that stations in a row share, on a device that can lose its power")
         .after_help(SCRIPT)
-        .arg(device)?
+        .arg(option(
+            alloc,
+            "device",
+            "PATH",
+            "The file that is the device; made and grown where it is smaller. Or a disk. Without it the device is in memory",
+        ))?
         .arg(sectors_of(alloc))?
-        .arg(migrate)?
+        .arg(option(
+            alloc,
+            "migrate",
+            "OLD",
+            "A file of layout 1 or 2, whose ledger is copied onto the device before the script is read; it stays as it is",
+        ))?
         .arg(SLOTS.arg(
             alloc,
             "How many slots each bank of the device then has, 1 to 1000000",

@@ -10,7 +10,7 @@ use crate::option_table::{
 };
 use crate::wrong_words::WrongWords;
 use clap::error::ErrorKind;
-use clap::{ArgMatches, Error};
+use clap::{ArgMatches, Command, Error};
 use device_files::LockMode;
 use ledger_counters::{is_name, name_of};
 use ledger_file::FormatOptions;
@@ -31,12 +31,21 @@ pub fn read_invocation<'a>(alloc: Global, words: &'a [&'a str]) -> Result<Invoca
     let matches = command.try_get_matches_from_mut(words)?;
     match requested(alloc, &matches) {
         Ok(request) => Ok(request),
-        Err(WrongWords::Memory) => Err(Error::from(AllocError)),
-        Err(wrong) => {
-            let sentence = format!(in alloc; "{wrong}")?;
-            Err(command.error(ErrorKind::InvalidValue, sentence.as_str())?)
-        }
+        Err(wrong) => Err(told_of(alloc, wrong, &mut command).unwrap_or_else(Error::from)),
     }
+}
+
+// What is told of wrong words.
+fn told_of(
+    alloc: Global,
+    wrong: WrongWords,
+    command: &mut Command<'_>,
+) -> Result<Error, AllocError> {
+    if wrong == WrongWords::Memory {
+        return Err(AllocError);
+    }
+    let sentence = format!(in alloc; "{wrong}")?;
+    command.error(ErrorKind::InvalidValue, sentence.as_str())
 }
 
 fn requested<'a>(alloc: Global, matches: &ArgMatches<'a>) -> Result<Invocation<'a>, WrongWords>

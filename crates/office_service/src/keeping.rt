@@ -1,11 +1,9 @@
-//! An office that is kept open, from its pipes and its device to what is told of its end.
-ghost use Rattle.std.specs.Prelude.{◌≡◌, ◌≢◌, ◌≤◌, ◌↔◌, if◌then◌else◌, min, false, Err, IsTrue};
-ghost use Rattle.std.specs.Prelude.{IfErr, OnOk};
-ghost use Rattle.turn_clerk.specs.declared.refusals.TurnRefusal.{TurnRefusal};
-ghost use Rattle.office_service.specs.Ends.{NoneFailed, NoneWasRefused, TellsRefusal, reason_of};
+//! An office that is kept open, from its pipes and its device to its end.
+ghost use Rattle.std.specs.Prelude.{◌≡◌, ◌≤◌, if◌then◌else◌, min, IsTrue};
 
 use crate::archivist::Archivist;
 use crate::counter_fault::CounterFile;
+use crate::ending::tell_closed;
 use crate::faults::OfficeFault;
 use crate::locks::{Locks, SeatedClients};
 use crate::pipes::open_pipe;
@@ -17,19 +15,16 @@ use device_files::{FileDevice, FileNumber};
 use four_state::{FEWEST_STATIONS, Line, MOST_STATIONS};
 use journal_recovery::OpenRefusal;
 use ledger_file::{FormatOptions, format_ledger, open_ledger};
-use office_day::StationDay;
 use office_sessions::{
-    ArchiveState, ClosedOffice, Conversation, Counter, CounterKind, Identity, Keeper,
-    are_threads_granted, keep_open,
+    ArchiveState, ClosedOffice, Counter, CounterKind, Identity, Keeper, are_threads_granted,
+    keep_open,
 };
 use sector_device::Device;
-use station_desk::End;
 use std::alloc::{AllocError, Global};
 use std::fs::{File, Files};
 use std::io::{Read, Write};
 use text_streams::{Output, StreamFault};
-use turn_clerk::{Clerk, TurnRefusal};
-use turn_ledger::Entry;
+use turn_clerk::Clerk;
 
 /// After how many turns an office is closed and opened again, if its banks have as many slots: so
 /// many its history holds at most.
@@ -111,17 +106,30 @@ fn ready_office<'a, 'r, R: Runtime, W: Write>(
     output: &mut Output<'_, W>,
 ) -> Result<Ready<'a, 'r, R>, OfficeFault<'a>> {
     let mut archivist = Archivist::open(rt, serving)?;
-    let device = open_device(rt, serving, plan.formatting, output)?;
-    let clerk = archivist.add_of(open_clerk(rt.alloc(), serving.path, device)?)?;
+    let (clerk, seating) = open_seated(rt, serving, plan, &mut archivist, output)?;
     let moves = turns_of_span(clerk.slots(), serving.archive.is_some());
-    let seating = seat(rt, serving, clerk.next(), plan, &mut archivist)?;
-    let stations = seating.stations(plan.stations);
     Ok(Ready {
-        clerk: on_line_of(serving.path, clerk, stations)?,
+        clerk,
         seating,
         archivist,
         moves,
     })
+}
+
+// Opens the ledger, brings the archive up to it, and gives each counter its station. The clerk is
+// on a line of all stations.
+fn open_seated<'a, R: Runtime, W: Write>(
+    rt: &R,
+    serving: &ServeOptions<'a>,
+    plan: OfficePlan,
+    archivist: &mut Archivist<'a, '_, R>,
+    output: &mut Output<'_, W>,
+) -> Result<(Clerk<FileDevice>, Seating<'a>), OfficeFault<'a>> {
+    let device = open_device(rt, serving, plan.formatting, output)?;
+    let clerk = archivist.add_of(open_clerk(rt.alloc(), serving.path, device)?)?;
+    let seating = seat(rt, serving, clerk.next(), plan, archivist)?;
+    let stations = seating.stations(plan.stations);
+    Ok((on_line_of(serving.path, clerk, stations)?, seating))
 }
 
 // Gives each counter its station, if the system grants the threads, and keeps that in the archive
@@ -157,8 +165,8 @@ fn keep_on<
     locks: L,
     output: &mut Output<'_, W>,
 ) -> Result<(), OfficeFault<'a>> {
-    let counters = seated(rt.alloc(), counters, &office.seating)?;
-    tell_opened(&office.clerk, output)?;
+    let mut counters = counters;
+    seat_and_tell(rt.alloc(), &office, &mut counters, output)?;
     let Ready {
         clerk,
         mut seating,
@@ -177,6 +185,18 @@ fn keep_on<
     }
 }
 
+// Gives the counters their stations, and tells that the office is open.
+fn seat_and_tell<'a, R: Runtime, I: Read + Drop, O: Write + Drop, W: Write>(
+    alloc: Global,
+    office: &Ready<'a, '_, R>,
+    counters: &mut Vec<AnyCounter<I, O>>,
+    output: &mut Output<'_, W>,
+) -> Result<(), OfficeFault<'a>> {
+    seat_counters(alloc, counters, &office.seating)?;
+    tell_opened(&office.clerk, output)?;
+    Ok(())
+}
+
 // Tells that the office is open.
 fn tell_opened<D: Device, W: Write>(
     clerk: &Clerk<D>,
@@ -191,26 +211,36 @@ fn tell_opened<D: Device, W: Write>(
     output.flush()
 }
 
-// The counters at their stations.
-fn seated<I: Read + Drop, O: Write + Drop>(
+// Gives the counters their stations.
+fn seat_counters<I: Read + Drop, O: Write + Drop>(
     alloc: Global,
-    counters: Vec<AnyCounter<I, O>>,
+    counters: &mut Vec<AnyCounter<I, O>>,
     seating: &Seating<'_>,
-) -> Result<Vec<AnyCounter<I, O>>, AllocError> {
-    let mut counters = counters;
+) -> Result<(), AllocError> {
     for (counter, station) in counters.iter_mut().zip(seating.seats.iter()) {
         counter.station = *station;
         counter.since = seating.since();
         counter.identity = seating.identity(alloc, *station)?;
     }
-    Ok(counters)
+    Ok(())
 }
 
-// Tells how the office ended, and adds to its archive what that lacks. The clerk comes back of one
-// that ended well.
+// Tells how the office ended, and adds to its archive what that lacks. If it ended well its clerk
+// comes back, once the archive is let go of.
 fn end<'a, R: Runtime, W: Write>(
     closed: ClosedOffice<FileDevice>,
-    mut archivist: Archivist<'a, '_, R>,
+    archivist: Archivist<'a, '_, R>,
+    output: &mut Output<'_, W>,
+) -> Result<Clerk<FileDevice>, OfficeFault<'a>> {
+    let mut archivist = archivist;
+    end_with(closed, &mut archivist, output)
+}
+
+// The same. It only borrows the archivist, so that its ways out have less to drop, and the archive
+// is let go of behind it on each of them.
+fn end_with<'a, R: Runtime, W: Write>(
+    closed: ClosedOffice<FileDevice>,
+    archivist: &mut Archivist<'a, '_, R>,
     output: &mut Output<'_, W>,
 ) -> Result<Clerk<FileDevice>, OfficeFault<'a>> {
     let clerk = tell_closed(closed, output)?;
@@ -218,11 +248,20 @@ fn end<'a, R: Runtime, W: Write>(
         return Err(fault);
     }
     let clerk = archivist.add_of(clerk)?;
-    if let ArchiveState::UpTo(next) = archivist.kept() {
+    tell_archived(archivist.kept(), output)?;
+    Ok(clerk)
+}
+
+// Tells how far the archive is, if there is one.
+fn tell_archived<W: Write>(
+    archive: ArchiveState,
+    output: &mut Output<'_, W>,
+) -> Result<(), StreamFault> {
+    if let ArchiveState::UpTo(next) = archive {
         output.line(format_args!("archived {next}"))?;
         output.flush()?;
     }
-    Ok(clerk)
+    Ok(())
 }
 
 // The counters, each by its pipes, and the terminal behind them, before they have their stations.
@@ -233,17 +272,27 @@ fn open_counters<'a, R: Files<File = File> + AllocGlobal, I: Read + Drop, O: Wri
     output: O,
 ) -> Result<Vec<AnyCounter<I, O>>, OfficeFault<'a>> {
     let mut counters = Vec::with_capacity(rt.alloc(), serving.counters.len())?;
-    let mut opened = Vec::new(rt.alloc());
-    for CounterFolder { folder, .. } in &serving.counters {
-        let counter = open_counter(rt, folder, serving.hello, &mut opened)?;
-        counters.push(counter).or(Err(OfficeFault::Memory))?;
-    }
+    open_folders(rt, serving, &mut counters)?;
     if serving.terminal {
         let (input, output) = (Source::Terminal(input), Target::Terminal(output));
         let counter = unseated(rt.alloc(), input, output, CounterKind::Terminal, false);
         counters.push(counter).or(Err(OfficeFault::Memory))?;
     }
     Ok(counters)
+}
+
+// The counters of the folders, behind those that are there.
+fn open_folders<'a, R: Files<File = File> + AllocGlobal, I: Read + Drop, O: Write + Drop>(
+    rt: &R,
+    serving: &ServeOptions<'a>,
+    counters: &mut Vec<AnyCounter<I, O>>,
+) -> Result<(), OfficeFault<'a>> {
+    let mut opened = Vec::new(rt.alloc());
+    for CounterFolder { folder, .. } in &serving.counters {
+        let counter = open_counter(rt, folder, serving.hello, &mut opened)?;
+        counters.push(counter).or(Err(OfficeFault::Memory))?;
+    }
+    Ok(())
 }
 
 // The counter of a folder.
@@ -330,121 +379,5 @@ fn first_line<'a>(stations: u64) -> Result<Line, OfficeFault<'a>> {
     match Line::from_bits(stations, &bits[..count], &bits[..count]) {
         Ok(line) => Ok(line),
         Err(refusal) => Err(OfficeFault::Line(refusal)),
-    }
-}
-
-// Tells how the office ended: its turns, the line, and what was asked and not answered. The clerk
-// comes back of one that ended well.
-fn tell_closed<'a, D: Device + Drop, W: Write>(
-    closed: ClosedOffice<D>,
-    output: &mut Output<'_, W>,
-) -> Result<Clerk<D>, OfficeFault<'a>>
-    ensures refused { OnOk result (NoneWasRefused closed.stations.items) }
-    ensures threads { OnOk result (closed.is_abandoned ≡ false) }
-{
-    let line = closed.audit.last;
-    let privileges = line.privileges();
-    output.line(format_args!("closed after {} turns", closed.turns))?;
-    output.line(format_args!("bits {line} privileges {privileges}"))?;
-    for (station, day) in closed.stations.iter().enumerate() {
-        tell_unanswered(station, day, output)?;
-    }
-    for (station, conversation) in closed.conversations.iter().enumerate() {
-        tell_unheard(station, conversation.unheard(), output)?;
-        tell_untold(station, conversation, output)?;
-    }
-    output.flush()?;
-    ended(closed.is_abandoned, closed.stations.as_slice())?;
-    Ok(closed.clerk)
-}
-
-// Tells of the requests of a station that were submitted and not answered.
-fn tell_unanswered<W: Write>(
-    station: usize,
-    day: &StationDay,
-    output: &mut Output<'_, W>,
-) -> Result<(), StreamFault> {
-    for ask in &day.unanswered {
-        let reference = ask.entry.reference();
-        output.line(format_args!("unanswered {station} {reference}"))?;
-    }
-    Ok(())
-}
-
-// Tells of the entries that a station's client asked to post too late.
-fn tell_unheard<W: Write>(
-    station: usize,
-    entries: &[Entry],
-    output: &mut Output<'_, W>,
-) -> Result<(), StreamFault> {
-    for entry in entries {
-        let reference = entry.reference();
-        output.line(format_args!("unanswered {station} {reference}"))?;
-    }
-    Ok(())
-}
-
-// Tells of the answers to entries that weren't written to a station's client.
-fn tell_untold<W: Write>(
-    station: usize,
-    conversation: &Conversation,
-    output: &mut Output<'_, W>,
-) -> Result<(), StreamFault> {
-    for response in conversation.untold() {
-        if response.is_answer() {
-            output.line(format_args!("untold {station} {response}"))?;
-        }
-    }
-    Ok(())
-}
-
-// How an office ended: well, if no station was refused its thread or its turn. A failed device is
-// reported as one: other stations, which met it later, name it otherwise.
-fn ended<'a>(is_abandoned: bool, stations: &[StationDay]) -> Result<(), OfficeFault<'a>>
-    ensures refused { OnOk result (NoneWasRefused stations.now) }
-    ensures threads { OnOk result (is_abandoned ≡ false) }
-    ensures device { (reason : TurnRefusal) → result ≡ Err (OfficeFault.Refused reason)
-        → reason ≢ TurnRefusal.Device → NoneFailed stations.now }
-{
-    if is_abandoned {
-        return Err(OfficeFault::Threads);
-    }
-    if !none_failed(stations) {
-        return Err(OfficeFault::Refused(TurnRefusal::Device));
-    }
-    refusal_of(stations)
-}
-
-// Whether the device failed for no station.
-fn none_failed(stations: &[StationDay]) -> bool
-    ensures { IsTrue result ↔ NoneFailed stations.now }
-{
-    stations
-        .iter()
-        .all(|day| day.end != End::Refused(TurnRefusal::Device))
-}
-
-// Why the first station was refused its turn that was. No other end needs to be told: a station
-// ends as `Stopped` only after another one ended, and as `Tries` only after 2^64 - 1 refusals in a
-// row.
-fn refusal_of<'a>(stations: &[StationDay]) -> Result<(), OfficeFault<'a>>
-    ensures none { OnOk result (NoneWasRefused stations.now) }
-    ensures refused { IfErr result (TellsRefusal stations.now) }
-{
-    for day in stations {
-        if let Some(refusal) = reason_of(day.end) {
-            return Err(OfficeFault::Refused(refusal));
-        }
-    }
-    Ok(())
-}
-
-// Why a station was refused its last turn, if it ended by that.
-fn reason_of(end: End) -> Option<TurnRefusal>
-    ensures { result ≡ reason_of end }
-{
-    match end {
-        End::Refused(reason) => Some(reason),
-        End::NotStarted | End::Reached | End::Stopped | End::Tries | End::Closed => None,
     }
 }

@@ -8,6 +8,7 @@
 mod archivist;
 mod closing;
 mod counter_fault;
+mod ending;
 mod faults;
 mod keeping;
 mod locks;

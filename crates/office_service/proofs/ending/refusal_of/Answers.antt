@@ -3,7 +3,7 @@ use Rattle.std.proofs.lemmas.List.{take_all}
 use Rattle.std.proofs.lemmas.List.Elements.{All-more}
 use Rattle.office_day.specs.declared.reconciled.StationDay.{StationDay}
 use Rattle.office_service.specs.Ends.{NoneWasRefused, reason_of}
-use Rattle.office_service.proofs.keeping.refusal_of.Goals as goal
+use Rattle.office_service.proofs.ending.refusal_of.Goals as goal
 
 pub returns-in-Some-clause-refused : goal.returns-in-Some-clause-refused
 returns-in-Some-clause-refused c = record {
