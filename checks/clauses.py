@@ -2,7 +2,7 @@
 columns, but a string, a tactic, and a line that is one long name. `rt fmt` joins clauses and ghost members of up to 117
 columns: 30 of these may be. Each other one is printed. A text of more than 60 characters that is no definition's stands at
 most three times in a crate: what stands more often is given a name. Of clauses it reads the crates that are no crates of
-tests. Status 1 where anything is printed behind the first line. It needs Python alone."""
+tests. Status 1 where more are joined, or anything is printed behind the first line. It needs Python alone."""
 import re
 import sys
 from collections import Counter

@@ -1,6 +1,7 @@
-//! An example for each library, as its user would write it. Beside them stands what a console can't
-//! show: a device of 8,000,000 sectors, the texts of refusals, and threads whose order matters.
-//! Each test holds whatever thread runs when.
+//! An example of each library that a test can show. A user's program goes on where one of them ends
+//! by [`scenes::needed`]; `example` is written as such a program. Beside them stands what a console
+//! can't show: a device of 8,000,000 sectors, the texts of refusals, and threads whose order
+//! matters. Each test holds whatever thread runs when.
 #![tactic(auto)]
 
 #[cfg(test)]

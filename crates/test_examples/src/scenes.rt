@@ -43,7 +43,9 @@ pub fn line<const N: usize>(rt: &impl Abort, x: [u8; N], up: [u8; N]) -> Line
     needed(rt, Line::from_bits(N as u64, &x, &up))
 }
 
-/// What a test needs that a call answers it; else the test fails, and tells the refusal.
+/// What a test needs that a call answers it; else the test fails, and tells the refusal. `expect`
+/// of std would be compiled with `Debug` of each refusal, and knows no refusal that hands something
+/// back.
 pub fn needed<T, E: Display + Drop>(rt: &impl Abort, answer: Result<T, E>) -> T
     ensures { answer ≡ Ok result }
 {
