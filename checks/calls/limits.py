@@ -14,6 +14,9 @@ LISTED = 300
 # How many records a ledger has that is made at one go.
 FILLED = 900
 
+# How many records are archived, in two parts.
+ARCHIVED = 3_000
+
 # How many requests the largest ring holds.
 RING = 4_096
 
@@ -107,15 +110,15 @@ def a_journal_of_many_records_is_made_with_one_sync():
 
 def an_archive_of_many_records_goes_on_where_it_ended():
     """The first file takes two thirds of the records, and the next one the rest."""
-    end, first = 7 + FILLED, FILLED // 3 * 2
-    rest = FILLED - first
-    asked = [f"device {sectors(3, first)}", "other", f"device {sectors(3, FILLED)}", *filled(FILLED, 7),
+    end, first = 7 + ARCHIVED, ARCHIVED // 3 * 2
+    rest = ARCHIVED - first
+    asked = [f"device {sectors(3, first)}", "other", f"device {sectors(3, ARCHIVED)}", *filled(ARCHIVED, 7),
              "listing", f"add {first}", "close", "other", "recover", "other",
              "listing", "follow", "numbers", "ledger", f"add {rest}", "close", "other", "recover", "journal"]
     return asked, [
-        f"at, end, left (7, {end}, {FILLED})", f"next {7 + first} total {first} 1={first}",
-        f"at, end, left (7, {end}, {FILLED})", f"at, end, left ({7 + first}, {end}, {rest})",
-        f"next {7 + first} total {first} 1={first}", f"next {end} total {FILLED} 1={FILLED}",
+        f"at, end, left (7, {end}, {ARCHIVED})", f"next {7 + first} total {first} 1={first}",
+        f"at, end, left (7, {end}, {ARCHIVED})", f"at, end, left ({7 + first}, {end}, {rest})",
+        f"next {7 + first} total {first} 1={first}", f"next {end} total {ARCHIVED} 1={ARCHIVED}",
         f"base, next, room ({7 + first}, {end}, 0)", f"bank, epoch, slots (0, 0, {rest})", "faulted false"]
 
 

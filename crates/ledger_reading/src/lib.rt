@@ -8,9 +8,8 @@
 //! a listing has from where it stands on. Each begins where the one before ends, with what the
 //! ledger then held. Read in order they are one book, and a [`Seam`] leads from one to the next.
 //!
-//! The tests `records_are_listed_with_the_balances_after_them` in `src/listings.rt` and
-//! `an_archive_goes_on_where_it_ended` in `src/archives.rt` of the crate `test_examples` are
-//! examples.
+//! The test `records_are_listed_with_the_balances_after_them` in `src/listings.rt` of the crate
+//! `test_examples` is an example.
 #![tactic(auto)]
 
 mod adding;

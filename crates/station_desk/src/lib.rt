@@ -5,8 +5,8 @@
 //! station has a [`Desk`]: it gathers requests, takes a turn with their entries, and answers each
 //! of them, once.
 //!
-//! The test `a_turn_answers_what_was_gathered` in `src/desks.rt` of the crate `test_examples` is an
-//! example.
+//! The test `clients_beside_stations` in `src/threads/clients.rt` of the crate `test_examples` is
+//! an example.
 #![tactic(auto)]
 
 mod desk_end;

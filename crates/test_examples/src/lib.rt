@@ -5,8 +5,6 @@
 #![tactic(auto)]
 
 #[cfg(test)]
-mod archives;
-#[cfg(test)]
 mod clerks;
 #[cfg(test)]
 mod counters;
@@ -14,8 +12,6 @@ mod counters;
 mod damages;
 #[cfg(test)]
 mod days;
-#[cfg(test)]
-mod desks;
 #[cfg(test)]
 mod devices;
 #[cfg(test)]

@@ -25,10 +25,6 @@ fn with_records(rt: &impl Abort, alloc: Global, records: [(u16, [Entry; 2]); 2])
     journal.into_device()
 }
 
-pub fn listing_of<D: Device + Drop>(rt: &impl Abort, sound: Sound<D>) -> Listing<D> {
-    needed_of(rt, sound.journal.list(sound.ledger))
-}
-
 // The next record is this one, and after it the first two accounts hold so much.
 fn is_next<D: Device>(
     listing: &mut Listing<D>,
@@ -54,7 +50,8 @@ fn is_next<D: Device>(
 
 // The ledger's listing.
 fn listed(rt: &impl Abort, alloc: Global, device: MemoryDevice) -> Listing<MemoryDevice> {
-    listing_of(rt, needed_of(rt, look(alloc, device)))
+    let Sound { journal, ledger } = needed_of(rt, look(alloc, device));
+    needed_of(rt, journal.list(ledger))
 }
 
 #[test]
