@@ -1,18 +1,18 @@
 //! The picture of a device.
-ghost use Rattle.std.specs.Prelude.{◌≡◌, Err};
+ghost use Rattle.std.specs.Prelude.{IsErrAnd};
 ghost use Rattle.sector_device.specs.Crash.{AreLooks};
+ghost use Rattle.text_streams.specs.Faults.{IsOfSource};
 
-use crate::faults::DrawFault;
 use crate::kind::SectorKind;
 use crate::map::Map;
 use crate::section::{COLUMNS, Section};
 use crate::style::STYLE;
 use ledger_damage::Place;
-use sector_device::Device;
+use sector_device::{Device, DeviceFault};
 use std::alloc::Global;
 use std::fmt;
 use std::io::Write;
-use text_streams::{Output, StreamFault};
+use text_streams::{Output, OutputFault, StreamFault};
 
 /// The width of the picture; this and all below are in pixels.
 const WIDTH: u64 = 864;
@@ -54,11 +54,11 @@ pub fn draw<D: Device, W: Write>(
     device: &mut D,
     damage: Option<Place>,
     writer: &mut W,
-) -> Result<(), DrawFault>
+) -> Result<(), OutputFault<DeviceFault>>
     ensures looks { AreLooks (D.state device.old) (D.state device.new)
-        (result ≡ Err DrawFault.Device) }
+        (IsErrAnd result IsOfSource) }
 {
-    let map = Map::read(device, damage)?;
+    let map = Map::read(device, damage).map_err(OutputFault::Source)?;
     let mut output = Output::new(alloc, writer)?;
     let sections = map.sections();
     print_head(&map, &sections, &mut output)?;
@@ -156,9 +156,9 @@ fn print_section<D: Device, W: Write>(
     section: &Section,
     top: u64,
     output: &mut Output<'_, W>,
-) -> Result<(), DrawFault>
+) -> Result<(), OutputFault<DeviceFault>>
     ensures looks { AreLooks (D.state device.old) (D.state device.new)
-        (result ≡ Err DrawFault.Device) }
+        (IsErrAnd result IsOfSource) }
 {
     let rows = section.rows();
     if rows == 0 {
@@ -197,9 +197,9 @@ fn print_row<D: Device, W: Write>(
     row: u64,
     y: u64,
     output: &mut Output<'_, W>,
-) -> Result<(), DrawFault>
+) -> Result<(), OutputFault<DeviceFault>>
     ensures looks { AreLooks (D.state device.old) (D.state device.new)
-        (result ≡ Err DrawFault.Device) }
+        (IsErrAnd result IsOfSource) }
 {
     for column in 0..COLUMNS {
         let Some((from, to)) = section.cell(row, column) else {
@@ -209,7 +209,8 @@ fn print_row<D: Device, W: Write>(
             print_number(from, y, output)?;
         }
         let x = CELLS_AT + STEP * column;
-        let (kind, sectors) = (map.kind_of(device, from, to)?, Sectors { from, to });
+        let kind = map.kind_of(device, from, to).map_err(OutputFault::Source)?;
+        let sectors = Sectors { from, to };
         output.line(format_args!(
             "<rect class=\"{kind}\" x=\"{x}\" y=\"{y}\" width=\"10\" height=\"10\"><title>{sectors}</title></rect>"
         ))?;

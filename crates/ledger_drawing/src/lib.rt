@@ -5,14 +5,12 @@
 #![tactic(auto)]
 
 mod drawing;
-mod faults;
 mod kind;
 mod map;
 mod section;
 mod style;
 
 pub use drawing::draw;
-pub use faults::DrawFault;
 pub use ledger_damage::Place;
 pub use sector_device::{Device, DeviceFault};
-pub use text_streams::StreamFault;
+pub use text_streams::{OutputFault, StreamFault};

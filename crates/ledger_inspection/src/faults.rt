@@ -7,9 +7,8 @@ use device_files::FileFault;
 use gate_journal::ReadRefusal;
 use journal_recovery::OpenRefusal;
 use ledger_folder::{ArchiveFault, Part};
-use ledger_printing::PrintFault;
 use std::alloc::{AllocError, AllocFailed};
-use text_streams::StreamFault;
+use text_streams::{OutputFault, StreamFault};
 use thiserror::Error;
 
 /// Why ledgers aren't inspected to their end: one of them, or several as one book.
@@ -152,13 +151,13 @@ impl<'a> InspectionFault<'a> {
     }
 
     // It isn't printed to its end.
-    pub(crate) fn of_printing(part: Part<'a>, fault: PrintFault) -> InspectionFault<'a>
+    pub(crate) fn of_printing(part: Part<'a>, fault: OutputFault<ReadRefusal>) -> InspectionFault<'a>
         ensures one { IsOfOne part.entry result }
         ensures failed { is_refusal result ≡ false }
     {
         match fault {
-            PrintFault::Read(refusal) => InspectionFault::of_reading(part, refusal),
-            PrintFault::Stream(fault) => InspectionFault::from(fault),
+            OutputFault::Source(refusal) => InspectionFault::of_reading(part, refusal),
+            OutputFault::Stream(fault) => InspectionFault::from(fault),
         }
     }
 }

@@ -93,16 +93,12 @@ impl<'a, R: Files<File = File> + AllocGlobal> Shelf<'a, '_, R> {
         writer: &mut W,
         progress: &mut P,
     ) -> Result<(), InspectionFault<'a>> {
-        let Extent { last, .. } = self.walk(&mut RecordPasser)?;
-        let printed = JournalPrint::over(self.rt.alloc(), wish, writer).map_err(
-            |fault| InspectionFault::of_printing(last, fault),
-        )?;
+        self.walk(&mut RecordPasser)?;
+        let printed = JournalPrint::over(self.rt.alloc(), wish, writer)?;
         let mut printing = RecordPrinter { printed, progress };
         self.walk(&mut printing)?;
-        let RecordPrinter { printed, .. } = printing;
-        printed
-            .end()
-            .map_err(|fault| InspectionFault::of_printing(last, fault))
+        printing.printed.end()?;
+        Ok(())
     }
 
     // What the accounts hold at the end, or held before the record with that sequence number.

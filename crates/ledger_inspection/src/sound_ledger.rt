@@ -3,13 +3,13 @@ ghost use Rattle.std.specs.Prelude.{◌≡◌, ◌+◌, ◌≤◌};
 
 use crate::inspection::Task;
 use gate_journal::ReadRefusal;
-use ledger_drawing::{DrawFault, draw};
-use ledger_printing::{PrintFault, Progress, print_balances, print_journal};
+use ledger_drawing::draw;
+use ledger_printing::{Progress, print_balances, print_journal};
 use ledger_reading::{Numbers, Sound};
 use sector_device::Device;
 use std::alloc::Global;
 use std::io::Write;
-use text_streams::{Output, StreamFault};
+use text_streams::{Output, OutputFault, StreamFault};
 
 /// Does with a sound ledger what is asked for.
 pub(crate) fn print_sound<D: Device + Drop, W: Write + Drop, P: Progress>(
@@ -18,7 +18,7 @@ pub(crate) fn print_sound<D: Device + Drop, W: Write + Drop, P: Progress>(
     sound: Sound<D>,
     writer: &mut W,
     progress: &mut P,
-) -> Result<(), PrintFault> {
+) -> Result<(), OutputFault<ReadRefusal>> {
     match task {
         Task::Check { quiet: true } => Ok(()),
         Task::Check { quiet: false } => {
@@ -69,12 +69,12 @@ fn print_sound_map<D: Device + Drop, W: Write>(
     alloc: Global,
     sound: Sound<D>,
     writer: &mut W,
-) -> Result<(), PrintFault> {
+) -> Result<(), OutputFault<ReadRefusal>> {
     let Sound { journal, .. } = sound;
     let mut device = journal.into_device();
     match draw(alloc, &mut device, None, writer) {
         Ok(()) => Ok(()),
-        Err(DrawFault::Device) => Err(PrintFault::Read(ReadRefusal::Device)),
-        Err(DrawFault::Stream(fault)) => Err(PrintFault::Stream(fault)),
+        Err(OutputFault::Source(fault)) => Err(OutputFault::Source(ReadRefusal::from(fault))),
+        Err(OutputFault::Stream(fault)) => Err(OutputFault::Stream(fault)),
     }
 }

@@ -7,12 +7,12 @@ use crate::inspection::Task;
 use crate::wrong::Wrong;
 use journal_recovery::OpenRefusal;
 use ledger_damage::locate;
-use ledger_drawing::{DrawFault, draw};
+use ledger_drawing::draw;
 use ledger_folder::Part;
 use sector_device::Device;
 use std::alloc::Global;
 use std::io::Write;
-use text_streams::{StreamFault, WatchedWriter, write_all};
+use text_streams::{OutputFault, StreamFault, WatchedWriter, write_all};
 
 /// Draws a device that was refused so, if that is asked for, and tells what is wrong with it. A
 /// second look at it finds the place; if that look fails, the cause is told alone.
@@ -77,11 +77,11 @@ fn draw_wrong<'a, D: Device, W: Write>(
 {
     let mut output = WatchedWriter::over(writer);
     match draw(alloc, device, wrong.place, &mut output) {
-        Err(DrawFault::Device) => InspectionFault::Unseen { part, wrong },
-        Err(DrawFault::Stream(StreamFault::Write)) if output.is_closed() => {
+        Err(OutputFault::Source(_)) => InspectionFault::Unseen { part, wrong },
+        Err(OutputFault::Stream(StreamFault::Write)) if output.is_closed() => {
             InspectionFault::Unsound { part, wrong }
         }
-        Err(DrawFault::Stream(fault)) => InspectionFault::Undrawn { part, wrong, fault },
+        Err(OutputFault::Stream(fault)) => InspectionFault::Undrawn { part, wrong, fault },
         Ok(()) => InspectionFault::Unsound { part, wrong },
     }
 }

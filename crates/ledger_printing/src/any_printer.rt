@@ -1,6 +1,5 @@
 //! A journal in whichever format.
 use crate::csv_rows::CsvJournal;
-use crate::faults::PrintFault;
 use crate::format::Format;
 use crate::hledger::HledgerJournal;
 use crate::journal::JournalWish;
@@ -8,7 +7,7 @@ use crate::json_lines::JsonJournal;
 use crate::printer::JournalPrinter;
 use crate::table::TableJournal;
 use ledger_reading::ListedRecord;
-use std::alloc::Global;
+use std::alloc::{AllocError, Global};
 use std::io::Write;
 use text_streams::StreamFault;
 use turn_ledger::Ledger;
@@ -28,7 +27,7 @@ impl<'a, W: Write + Drop> AnyPrinter<'a, W> {
         alloc: Global,
         wish: JournalWish,
         writer: &'a mut W,
-    ) -> Result<AnyPrinter<'a, W>, PrintFault> {
+    ) -> Result<AnyPrinter<'a, W>, AllocError> {
         match wish.format {
             Format::Table => Ok(AnyPrinter::Table(TableJournal::over(alloc, writer)?)),
             Format::Csv => Ok(AnyPrinter::Csv(CsvJournal::over(alloc, writer)?)),

@@ -1,5 +1,6 @@
 //! Why a stream fails.
 use std::alloc::{AllocError, AllocFailed};
+use std::fmt::Display;
 use thiserror::Error;
 
 /// Why a script couldn't be read, or its output not written.
@@ -39,5 +40,39 @@ impl<T: Drop> From<AllocFailed<T>> for StreamFault {
 
     fn from(_: AllocFailed<T>) -> Self {
         StreamFault::Memory
+    }
+}
+
+/// Why output that is made of something else isn't made to its end. What was written stands.
+#[derive(Clone, Copy, Debug, PartialEq, Eq, Error)]
+pub enum OutputFault<E: Display> {
+    /// What it is made of couldn't be read.
+    #[error("{0}")]
+    Source(E),
+    /// It couldn't be written, or there was no memory for it.
+    #[error("{0}")]
+    Stream(StreamFault),
+}
+
+impl<E: Display> From<StreamFault> for OutputFault<E> {
+    ghost use Rattle.std.specs.Prelude.{◌≡◌};
+    ghost use Rattle.text_streams.specs.declared.faults.OutputFault.TheVariants.{Stream};
+
+    ghost from_gives = { λ inner fault. fault ≡ Stream inner };
+
+    fn from(fault: StreamFault) -> Self {
+        OutputFault::Stream(fault)
+    }
+}
+
+impl<E: Display> From<AllocError> for OutputFault<E> {
+    ghost use Rattle.std.specs.Prelude.{◌≡◌};
+    ghost use Rattle.text_streams.specs.declared.faults.StreamFault.TheVariants.{Memory};
+    ghost use Rattle.text_streams.specs.declared.faults.OutputFault.TheVariants.{Stream};
+
+    ghost from_gives = { λ _ fault. fault ≡ Stream Memory };
+
+    fn from(_: AllocError) -> Self {
+        OutputFault::Stream(StreamFault::Memory)
     }
 }

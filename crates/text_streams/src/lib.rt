@@ -11,7 +11,7 @@ mod output;
 mod reading;
 mod watched;
 
-pub use faults::StreamFault;
+pub use faults::{OutputFault, StreamFault};
 pub use output::{Output, WriteFault, write_all};
 pub use reading::{SCRIPT_LIMIT, limit_in_numbers, read_script};
 pub use watched::WatchedWriter;
