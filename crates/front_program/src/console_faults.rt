@@ -3,7 +3,7 @@ use crate::faults::Fault;
 use device_files::FileFault;
 use gate_journal::FormatRefusal;
 use journal_recovery::OpenName;
-use ledger_file::{LedgerRefusal, PartFault};
+use ledger_file::LedgerRefusal;
 use std::fmt;
 
 /// A fault of a script, in the words of `turn_console`: why a disk is refused, but only that a file
@@ -34,10 +34,8 @@ fn write_refusal<W: fmt::Write>(
             Some(told) => write!(f, "device failed: {path} {told}"),
             None => f.write_str("device failed"),
         },
-        LedgerRefusal::HasLedger | LedgerRefusal::HasPart(_) | LedgerRefusal::HasOther => {
-            f.write_str("migrate refused NotEmpty")
-        }
-        LedgerRefusal::Part(PartFault::OtherVersion(version)) => {
+        LedgerRefusal::HasLedger => f.write_str("migrate refused NotEmpty"),
+        LedgerRefusal::OtherVersion(version) => {
             write!(f, "migrate refused Source Version {version}")
         }
         LedgerRefusal::Format(FormatRefusal::Device) => f.write_str("migrate refused Target"),

@@ -16,7 +16,7 @@ use front_scripts::ScriptFault;
 use gate_journal::FormatRefusal;
 use journal_recovery::{MigrateRefusal, OpenRefusal};
 use ledger_counters::CountersFault;
-use ledger_file::{LedgerRefusal, PartFault};
+use ledger_file::LedgerRefusal;
 use ledger_folder::{ArchiveFault, FolderFault};
 use ledger_inspection::InspectionFault;
 use line_lock::OfficeRefusal;
@@ -136,7 +136,7 @@ impl<'a> Fault<'a> {
             OpenRefusal::Memory => Fault::MEMORY,
             OpenRefusal::Version(version) => Fault::Ledger {
                 path,
-                refusal: LedgerRefusal::Part(PartFault::OtherVersion(version)),
+                refusal: LedgerRefusal::OtherVersion(version),
             },
             refusal => Fault::NoLedger { path, refusal },
         }

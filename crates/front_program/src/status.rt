@@ -130,9 +130,10 @@ impl From<LedgerRefusal> for Status {
             LedgerRefusal::Format(refusal) => Status::from(refusal),
             LedgerRefusal::Missing => Status::Failed,
             LedgerRefusal::NoLedger
-            | LedgerRefusal::Part(_)
+            | LedgerRefusal::OtherVersion(_)
+            | LedgerRefusal::Unsound
+            | LedgerRefusal::Short { .. }
             | LedgerRefusal::HasLedger
-            | LedgerRefusal::HasPart(_)
             | LedgerRefusal::HasOther
             | LedgerRefusal::TooSmall { .. } => Status::Refused,
         }

@@ -18,5 +18,5 @@ pub use device_files::{Creation, FileDevice, FileFault};
 pub use gate_journal::FormatRefusal;
 pub use journal_recovery::OpenRefusal;
 pub use opening::{FormatOptions, MOST_SECTORS, format_ledger, open_for_script, open_ledger};
-pub use plan::{PartFault, check_formatting, sectors_planned};
+pub use plan::{check_formatting, sectors_planned};
 pub use refusal::LedgerRefusal;

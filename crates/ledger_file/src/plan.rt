@@ -6,21 +6,6 @@ ghost use Rattle.ledger_file.specs.Plan.{IsPart, IsWhole, IsForeign, IsHeld};
 use crate::refusal::LedgerRefusal;
 use gate_journal::{FirstSector, MOST_SLOTS, sectors_needed};
 use sector_device::Sector;
-use thiserror::Error;
-
-/// Why a file that begins as a ledger does isn't a whole one.
-#[derive(Clone, Copy, Debug, PartialEq, Eq, Error)]
-pub enum PartFault {
-    /// It is of another version than 3.
-    #[error("it holds a ledger of version {0}; derbyfig migrate copies one of version 1 or 2 to a new file")]
-    OtherVersion(u16),
-    /// Its first sector isn't that of a ledger of 1 to 1,000,000 slots.
-    #[error("its first sector is damaged, and doesn't tell how many sectors its ledger has")]
-    Unsound,
-    /// It has fewer sectors than its superblock needs.
-    #[error("it is too short for its {slots} slots: it has {found} sectors and needs {needed}; it may be a part of a copy")]
-    Short { slots: u64, found: u64, needed: u64 },
-}
 
 /// How many sectors a file is to have that is opened with at least as many as are asked for. It has
 /// `found` of them, of which the first is `first`, or zeros if there is none. One that begins as a
@@ -28,14 +13,16 @@ pub enum PartFault {
 /// would be taken for a whole one, with fewer records.
 ///
 /// # Errors
-/// [`PartFault`], where it is so.
-pub fn sectors_planned(first: &Sector, found: u64, asked: u64) -> Result<u64, PartFault>
-    ensures refused { (fault : PartFault) → (result ≡ Err fault) ↔ IsPart first.now found fault }
+/// [`LedgerRefusal`], where it is so: it is of another version, or its first sector is damaged, or
+/// it is too short.
+pub fn sectors_planned(first: &Sector, found: u64, asked: u64) -> Result<u64, LedgerRefusal>
+    ensures refused { (refusal : LedgerRefusal)
+        → (result ≡ Err refusal) ↔ IsPart first.now found refusal }
     ensures planned { IfOk result (λ sectors. sectors ≡ max found asked) }
     ensures whole { IfOk result (λ _. IsForeign first.now ⊎ IsWhole first.now found) }
 {
     match part_fault(first, found) {
-        Some(fault) => Err(fault),
+        Some(refusal) => Err(refusal),
         None => Ok(found.max(asked)),
     }
 }
@@ -68,33 +55,33 @@ fn held_fault(first: &Sector, found: u64) -> LedgerRefusal
         return LedgerRefusal::HasOther;
     }
     match part_fault(first, found) {
-        Some(fault) => LedgerRefusal::HasPart(fault),
+        Some(refusal) => refusal,
         None => LedgerRefusal::HasLedger,
     }
 }
 
 // Why a file that begins as a ledger does isn't a whole one.
-fn part_fault(first: &Sector, found: u64) -> Option<PartFault>
-    ensures some { (fault : PartFault) → (result ≡ Some fault) ↔ IsPart first.now found fault }
+fn part_fault(first: &Sector, found: u64) -> Option<LedgerRefusal>
+    ensures some { (fault : LedgerRefusal) → (result ≡ Some fault) ↔ IsPart first.now found fault }
     ensures none { IfNone result (IsForeign first.now ⊎ IsWhole first.now found) }
 {
     match FirstSector::of(first) {
         FirstSector::NoJournal => None,
-        FirstSector::OtherVersion(version) => Some(PartFault::OtherVersion(version)),
-        FirstSector::Unsound => Some(PartFault::Unsound),
+        FirstSector::OtherVersion(version) => Some(LedgerRefusal::OtherVersion(version)),
+        FirstSector::Unsound => Some(LedgerRefusal::Unsound),
         FirstSector::Journal { slots } => short_fault(slots, found),
     }
 }
 
 // Why a ledger with so many slots isn't whole.
-fn short_fault(slots: u64, found: u64) -> Option<PartFault>
+fn short_fault(slots: u64, found: u64) -> Option<LedgerRefusal>
     requires { slots ≤ MOST_SLOTS }
-    ensures some { IfSome result (λ fault. fault ≡ PartFault.Short slots found (39 + 4 * slots)) }
+    ensures some { IfSome result (λ fault. fault ≡ LedgerRefusal.Short slots found (39 + 4 * slots)) }
     ensures short { IfSome result (λ _. found < 39 + 4 * slots) }
     ensures whole { IfNone result (39 + 4 * slots ≤ found) }
 {
     let needed = sectors_needed(slots);
-    (found < needed).then_some(PartFault::Short {
+    (found < needed).then_some(LedgerRefusal::Short {
         slots,
         found,
         needed,

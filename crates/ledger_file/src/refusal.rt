@@ -1,8 +1,7 @@
 ghost use Rattle.std.specs.Prelude.{◌≡◌, ◌↔◌, IsTrue};
-ghost use Rattle.ledger_file.specs.declared.refusal.LedgerRefusal.TheVariants.{Part, Format};
+ghost use Rattle.ledger_file.specs.declared.refusal.LedgerRefusal.TheVariants.{Format};
 ghost use Rattle.ledger_file.specs.Refusals.{IsToldAs};
 
-use crate::plan::PartFault;
 use device_files::FileFault;
 use gate_journal::FormatRefusal;
 use thiserror::Error;
@@ -19,15 +18,18 @@ pub enum LedgerRefusal {
     /// It doesn't begin as a ledger does.
     #[error("it holds no ledger; derbyfig format makes one of a file without anything")]
     NoLedger,
-    /// It begins as a ledger does, and isn't a whole one.
-    #[error("{0}")]
-    Part(PartFault),
+    /// It begins as a ledger does, and is of another version than 3.
+    #[error("it holds a ledger of version {0}; derbyfig migrate copies one of version 1 or 2 to a new file")]
+    OtherVersion(u16),
+    /// It begins so, and its first sector isn't that of a ledger of 1 to 1,000,000 slots.
+    #[error("its first sector is damaged, and doesn't tell how many sectors its ledger has")]
+    Unsound,
+    /// It begins so, and has fewer sectors than its superblock needs.
+    #[error("it is too short for its {slots} slots: it has {found} sectors and needs {needed}; it may be a part of a copy")]
+    Short { slots: u64, found: u64, needed: u64 },
     /// It was to be formatted, and holds a whole ledger, sound or not.
     #[error("it holds a ledger already, which stays as it is")]
     HasLedger,
-    /// It was to be formatted, and begins as a ledger does, but isn't a whole one.
-    #[error("{0}")]
-    HasPart(PartFault),
     /// It was to be formatted, and holds something else.
     #[error("it holds an unfinished ledger, or another program's file; --overwrite takes it")]
     HasOther,
@@ -57,14 +59,6 @@ impl From<FileFault> for LedgerRefusal {
             FileFault::Missing => LedgerRefusal::Missing,
             fault => LedgerRefusal::Device(fault),
         }
-    }
-}
-
-impl From<PartFault> for LedgerRefusal {
-    ghost from_gives = { λ fault refusal. refusal ≡ Part fault };
-
-    fn from(fault: PartFault) -> LedgerRefusal {
-        LedgerRefusal::Part(fault)
     }
 }
 

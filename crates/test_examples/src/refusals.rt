@@ -3,7 +3,7 @@
 use device_files::{FileFault, FileRefusal};
 use gate_journal::{FormatRefusal, ReadRefusal};
 use journal_recovery::{MigrateRefusal, OpenRefusal};
-use ledger_file::{LedgerRefusal, PartFault};
+use ledger_file::LedgerRefusal;
 use ledger_reading::{AddRefusal, FollowRefusal};
 use office_day::{CloseRefusal, DayRefusal, End, EndName};
 use std::alloc::Global;
@@ -110,17 +110,16 @@ fn refusals_of_files_have_texts(rt: HostRuntime) {
 #[test]
 fn refusals_of_ledgers_in_files_have_texts(rt: HostRuntime) {
     let (slots, found, needed) = (4, 54, 55);
-    let part = PartFault::Short {
-        slots,
-        found,
-        needed,
-    };
     let refusals = [
         LedgerRefusal::Missing,
         LedgerRefusal::NoLedger,
-        LedgerRefusal::Part(PartFault::OtherVersion(2)),
-        LedgerRefusal::Part(PartFault::Unsound),
-        LedgerRefusal::HasPart(part),
+        LedgerRefusal::OtherVersion(2),
+        LedgerRefusal::Unsound,
+        LedgerRefusal::Short {
+            slots,
+            found,
+            needed,
+        },
         LedgerRefusal::HasLedger,
         LedgerRefusal::HasOther,
         LedgerRefusal::TooSmall {

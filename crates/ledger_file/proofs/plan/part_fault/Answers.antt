@@ -1,7 +1,7 @@
 use Rattle.std.proofs.Common.{refl, ap, subst}
 use Rattle.std.specs.Prelude.{Some}
 use Rattle.gate_journal.specs.declared.first_sector.FirstSector.TheVariants as says
-use Rattle.ledger_file.specs.declared.plan.PartFault.TheVariants.{OtherVersion}
+use Rattle.ledger_file.specs.declared.refusal.LedgerRefusal.TheVariants.{OtherVersion}
 use Rattle.ledger_file.specs.Plan.{IsPart}
 use Rattle.ledger_file.proofs.Parts.{IsSaid, cause_of, part_of, other_one, same_fault, short_both}
 use Rattle.ledger_file.proofs.Parts.{whole_none}
