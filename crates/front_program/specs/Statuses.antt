@@ -4,7 +4,6 @@ use Rattle.line_lock.specs.declared.lent.OfficeRefusal.TheVariants as lent
 use Rattle.office_sessions.specs.declared.open_office.LiveRefusal.TheVariants as live
 use Rattle.ledger_folder.specs.declared.faults.ArchiveFault.{ArchiveFault}
 use Rattle.ledger_folder.specs.declared.faults.ArchiveFault.TheVariants as archive
-use Rattle.ledger_folder.specs.declared.faults.FolderFault.TheVariants as cause
 use Rattle.ledger_counters.specs.Faults as counters
 use Rattle.ledger_counters.specs.declared.refusal.CountersFault.{CountersFault}
 use Rattle.office_service.specs.declared.faults.OfficeFault.{OfficeFault}
@@ -26,7 +25,7 @@ use Rattle.front_program.specs.declared.faults.Fault.TheVariants as fault
 abbrev pub of_archive : ArchiveFault → Status
 of_archive (archive.NoLedger path refusal) = of_opening refusal
 of_archive (archive.Foreign volume) = Refused
-of_archive (archive.Folder folder cause.OfArchive) = Refused
+of_archive (archive.FolderOfArchive folder) = Refused
 of_archive (archive.Empty folder) = Refused
 of_archive (archive.Missing volume first before end) = Refused
 of_archive (archive.Gap path first end) = Refused

@@ -17,7 +17,7 @@ use gate_journal::FormatRefusal;
 use journal_recovery::{MigrateRefusal, OpenRefusal};
 use ledger_counters::CountersFault;
 use ledger_file::LedgerRefusal;
-use ledger_folder::{ArchiveFault, FolderFault};
+use ledger_folder::ArchiveFault;
 use ledger_inspection::InspectionFault;
 use line_lock::OfficeRefusal;
 use office_service::{CounterFault, CounterRefusal, OfficeFault};
@@ -176,12 +176,9 @@ fn of_archive(fault: ArchiveFault<'_>) -> Status
 {
     match fault {
         ArchiveFault::NoLedger { refusal, .. } => Status::from(refusal),
-        ArchiveFault::Folder {
-            fault: FolderFault::OfArchive,
-            ..
-        }
-        | ArchiveFault::Empty { .. }
-        | ArchiveFault::Foreign { .. }
+        ArchiveFault::FolderOfArchive(_)
+        | ArchiveFault::Empty(_)
+        | ArchiveFault::Foreign(_)
         | ArchiveFault::Missing { .. }
         | ArchiveFault::Gap { .. }
         | ArchiveFault::Short { .. }

@@ -1,7 +1,8 @@
-//! Why nothing, or not all, was added to an archive.
+//! Why nothing, or not all, was added to an archive, or there is no copy in a folder.
 ghost use Rattle.std.specs.Prelude.{◌≡◌, ◌↔◌};
 ghost use Rattle.ledger_folder.specs.Faults.{TellsNumbers, IsReadFault, IsElsewhere, of_file};
 ghost use Rattle.ledger_folder.specs.Faults.{of_device};
+ghost use Rattle.ledger_folder.specs.Copies.{IsOfCopy};
 
 use device_files::FileFault;
 use gate_journal::ReadRefusal;
@@ -9,34 +10,6 @@ use journal_recovery::OpenRefusal;
 use std::alloc::AllocError;
 use std::fmt;
 use thiserror::Error;
-
-/// Why the folder of an archive, or of copies, can't be had.
-#[derive(Clone, Copy, Debug, Error)]
-pub enum FolderFault {
-    /// There is none.
-    #[error("there is no such folder; make it first")]
-    Missing,
-    /// Something else is there.
-    #[error("it is no folder")]
-    NoFolder,
-    /// Another program adds to the archive in it.
-    #[error("another program adds to this archive; wait until it has ended")]
-    InUse,
-    /// The system fails to open, lock, list, change or sync it.
-    #[error("the system fails to open, lock, list, change or sync it")]
-    Failed,
-    /// It is for copies, and the archive's folder too, where a copy would be taken for a file of
-    /// the archive.
-    #[error("it is the archive's folder; the copies need another one")]
-    OfArchive,
-    /// It is for copies, and another office makes its own in it, or another program adds to an
-    /// archive in it.
-    #[error("another program adds to this folder; end that one first, or take another folder")]
-    Taken,
-    /// It is for copies, and no file can be made in it.
-    #[error("no file can be made in it")]
-    Unwritable,
-}
 
 /// A ledger of an archive, whose name is the number of its first batch in twenty digits.
 #[derive(Clone, Copy, Debug)]
@@ -70,8 +43,8 @@ impl fmt::Display for Part<'_> {
     }
 }
 
-/// Why an archive doesn't have all that its ledger lists, or can't be read. What was added before
-/// stands.
+/// Why an archive doesn't have all that its ledger lists, or can't be read, or there is no copy in
+/// a folder of copies. What was added before stands.
 #[derive(Clone, Copy, Debug, Error)]
 pub enum ArchiveFault<'a> {
     /// There is no memory.
@@ -97,21 +70,34 @@ pub enum ArchiveFault<'a> {
     },
     /// The first record of the archive's newest ledger doesn't have the number that is its name, or
     /// it has no record.
-    #[error("{volume}: it isn't of this archive: its first record doesn't have the number that is its name")]
-    Foreign {
-        volume: Volume<'a>,
-    },
-    /// The folder can't be had.
-    #[error("{folder}: {fault}")]
-    Folder {
-        folder: &'a str,
-        fault: FolderFault,
-    },
+    #[error("{0}: it isn't of this archive: its first record doesn't have the number that is its name")]
+    Foreign(Volume<'a>),
+    /// There is no folder of that path.
+    #[error("{0}: there is no such folder; make it first")]
+    NoSuchFolder(&'a str),
+    /// Something else is there.
+    #[error("{0}: it is no folder")]
+    NoFolder(&'a str),
+    /// Another program adds to the archive in it.
+    #[error("{0}: another program adds to this archive; wait until it has ended")]
+    FolderInUse(&'a str),
+    /// The system fails to open, lock, list, change or sync it.
+    #[error("{0}: the system fails to open, lock, list, change or sync it")]
+    FolderFailed(&'a str),
+    /// It is for copies, and the archive's folder too, where a copy would be taken for a file of
+    /// the archive.
+    #[error("{0}: it is the archive's folder; the copies need another one")]
+    FolderOfArchive(&'a str),
+    /// It is for copies, and another office makes its own in it, or another program adds to an
+    /// archive in it.
+    #[error("{0}: another program adds to this folder; end that one first, or take another folder")]
+    FolderTaken(&'a str),
+    /// It is for copies, and no file can be made in it.
+    #[error("{0}: no file can be made in it")]
+    FolderUnwritable(&'a str),
     /// It has no ledger of an archive.
-    #[error("{folder}: it has no ledger of an archive")]
-    Empty {
-        folder: &'a str,
-    },
+    #[error("{0}: it has no ledger of an archive")]
+    Empty(&'a str),
     /// One or more ledgers of the archive are missing before this one.
     #[error("{volume}: its earliest batch is {first}, and {before} ends before {end}; those between are missing")]
     Missing {
@@ -152,11 +138,13 @@ pub enum ArchiveFault<'a> {
         folder: &'a str,
         fault: FileFault,
     },
-    /// It can't be written.
-    #[error("{folder}/unfinished: it can't be written")]
-    Unwritten {
-        folder: &'a str,
-    },
+    /// It can't be written; or a copy can't be made, written, or given its name. Nothing of it is
+    /// left, unless the system fails to take it away.
+    #[error("{0}/unfinished: it can't be written")]
+    Unwritten(&'a str),
+    /// Something has a copy's name, and stays as it is.
+    #[error("{0}: something has this name already")]
+    Occupied(Volume<'a>),
 }
 
 impl<'a> ArchiveFault<'a> {
@@ -174,6 +162,7 @@ impl<'a> ArchiveFault<'a> {
     // The ledger isn't sound.
     pub(crate) fn of_opening(path: &'a str, refusal: OpenRefusal) -> ArchiveFault<'a>
         ensures read { IsReadFault result ↔ (refusal ≡ OpenRefusal.Device) }
+        ensures told { IsOfCopy result }
         ensures numbers { TellsNumbers result }
     {
         match refusal {
@@ -196,14 +185,6 @@ impl<'a> ArchiveFault<'a> {
                 ArchiveFault::NoLedger { part, refusal }
             }
         }
-    }
-
-    // The folder can't be had.
-    pub(crate) fn of_folder(folder: &'a str, fault: FolderFault) -> ArchiveFault<'a>
-        ensures told { result ≡ ArchiveFault.Folder folder.entry fault }
-        ensures elsewhere { IsElsewhere result }
-    {
-        ArchiveFault::Folder { folder, fault }
     }
 
     // The ledger that is to be added can't be made.

@@ -2,7 +2,7 @@
 ghost use Rattle.std.specs.Prelude.{IfErr};
 ghost use Rattle.ledger_folder.specs.Faults.{IsElsewhere};
 
-use crate::faults::{ArchiveFault, FolderFault, Volume};
+use crate::faults::{ArchiveFault, Volume};
 use device_files::FileNumber;
 use std::alloc::{AllocError, Global};
 use std::fs::{File, Files, TryLockError};
@@ -23,24 +23,13 @@ impl<'a> Folder<'a> {
     /// Opens and locks it.
     ///
     /// # Errors
-    /// [`ArchiveFault::Folder`].
+    /// [`ArchiveFault`] of a folder.
     pub fn open<R: Files<File = File>>(
         rt: &R,
         path: &'a str,
     ) -> Result<Folder<'a>, ArchiveFault<'a>>
         ensures { IfErr result IsElsewhere }
     {
-        match Folder::locked(rt, path) {
-            Ok(folder) => Ok(folder),
-            Err(fault) => Err(ArchiveFault::of_folder(path, fault)),
-        }
-    }
-
-    /// The same, without the path in the fault.
-    pub(crate) fn locked<R: Files<File = File>>(
-        rt: &R,
-        path: &'a str,
-    ) -> Result<Folder<'a>, FolderFault> {
         let file = open_locked(rt, path)?;
         Ok(Folder { path, file })
     }
@@ -50,7 +39,7 @@ impl<'a> Folder<'a> {
     /// built on.
     ///
     /// # Errors
-    /// [`ArchiveFault::Folder`].
+    /// As of [`Folder::open`], or the folder can't be synced.
     pub fn open_to_add<R: Files<File = File>>(
         rt: &R,
         path: &'a str,
@@ -175,7 +164,7 @@ pub fn numbers_in<'a, R: Files<File = File> + AllocGlobal + Clone + Drop>(
     ensures { IfErr result IsElsewhere }
 {
     match read_numbers(rt, folder) {
-        Ok(numbers) if numbers.is_empty() => Err(ArchiveFault::Empty { folder }),
+        Ok(numbers) if numbers.is_empty() => Err(ArchiveFault::Empty(folder)),
         Ok(numbers) => Ok(numbers),
         Err(error) => Err(fault_of(folder, &error)),
     }
@@ -203,22 +192,27 @@ fn fault_of<'a>(folder: &'a str, error: &io::Error) -> ArchiveFault<'a>
     if error.kind() == ErrorKind::OutOfMemory {
         return ArchiveFault::Memory;
     }
-    ArchiveFault::of_folder(folder, FolderFault::Failed)
+    ArchiveFault::FolderFailed(folder)
 }
 
 // A folder, open and locked. What is none isn't opened: a pipe would wait for a writer.
-fn open_locked<R: Files<File = File>>(rt: &R, path: &str) -> Result<File, FolderFault> {
+fn open_locked<'a, R: Files<File = File>>(rt: &R, path: &'a str) -> Result<File, ArchiveFault<'a>>
+    ensures { IfErr result IsElsewhere }
+{
+    let failed = ArchiveFault::FolderFailed(path);
     match fs::metadata(rt, path) {
         Ok(found) if found.is_dir() => {}
-        Ok(_) => return Err(FolderFault::NoFolder),
-        Err(error) if error.kind() == ErrorKind::NotFound => return Err(FolderFault::Missing),
-        Err(_) => return Err(FolderFault::Failed),
+        Ok(_) => return Err(ArchiveFault::NoFolder(path)),
+        Err(error) if error.kind() == ErrorKind::NotFound => {
+            return Err(ArchiveFault::NoSuchFolder(path));
+        }
+        Err(_) => return Err(failed),
     }
-    let file = fs::open(rt, path).or(Err(FolderFault::Failed))?;
+    let file = fs::open(rt, path).or(Err(failed))?;
     match file.try_lock() {
         Ok(()) => Ok(file),
-        Err(TryLockError::WouldBlock) => Err(FolderFault::InUse),
-        Err(TryLockError::Error(_)) => Err(FolderFault::Failed),
+        Err(TryLockError::WouldBlock) => Err(ArchiveFault::FolderInUse(path)),
+        Err(TryLockError::Error(_)) => Err(failed),
     }
 }
 

@@ -14,7 +14,7 @@ mod folder;
 mod gaps;
 
 pub use archiving::{AddedBatches, ArchiveOptions, archive, archive_journal, newest_of};
-pub use copying::{FolderCopyRefusal, copy_to_folder, open_copies};
-pub use faults::{ArchiveFault, FolderFault, Part, Volume};
+pub use copying::{copy_to_folder, open_copies};
+pub use faults::{ArchiveFault, Part, Volume};
 pub use folder::{Folder, is_folder, numbers_in};
 pub use gaps::{check_no_gap, end_of};

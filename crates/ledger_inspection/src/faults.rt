@@ -101,7 +101,7 @@ impl<'a> InspectionFault<'a> {
     {
         match self {
             InspectionFault::Unsound { wrong, .. } => denies_ledger(wrong.refusal),
-            InspectionFault::Archive(ArchiveFault::Empty { .. } | ArchiveFault::Foreign { .. })
+            InspectionFault::Archive(ArchiveFault::Empty(_) | ArchiveFault::Foreign(_))
             | InspectionFault::Gap { .. }
             | InspectionFault::Short { .. }
             | InspectionFault::Differs { .. }
@@ -151,7 +151,10 @@ impl<'a> InspectionFault<'a> {
     }
 
     // It isn't printed to its end.
-    pub(crate) fn of_printing(part: Part<'a>, fault: OutputFault<ReadRefusal>) -> InspectionFault<'a>
+    pub(crate) fn of_printing(
+        part: Part<'a>,
+        fault: OutputFault<ReadRefusal>,
+    ) -> InspectionFault<'a>
         ensures one { IsOfOne part.entry result }
         ensures failed { is_refusal result ≡ false }
     {

@@ -12,8 +12,7 @@ use device_files::FileNumber;
 use gate_journal::{Borrower, Journal};
 use ledger_counters::RosterPath;
 use ledger_folder::{
-    ArchiveFault, Folder, FolderCopyRefusal, archive_journal, check_no_gap, copy_to_folder,
-    open_copies,
+    ArchiveFault, Folder, archive_journal, check_no_gap, copy_to_folder, open_copies,
 };
 use office_sessions::{ArchiveState, CounterCopyRefusal, Keeper, LookAnswer};
 use sector_device::Device;
@@ -166,11 +165,8 @@ impl<R: Files<File = File> + AllocGlobal + Clone + Drop> Keeper for Archivist<'_
         let Some(folder) = &self.copies else {
             return (device, Err(CounterCopyRefusal::NoFolder));
         };
-        let (device, copied) = copy_to_folder(self.rt, device, folder, self.place);
-        match copied {
-            Ok(number) => (device, Ok(number)),
-            Err(refusal) => (device, Err(told_as(refusal))),
-        }
+        let (device, copied) = copy_to_folder(self.rt, self.path, device, folder, self.place);
+        (device, copied.map_err(told_as))
     }
 
     fn last(&mut self, station: u8) -> Option<LookAnswer> {
@@ -196,14 +192,14 @@ fn open_archive<'a, R: Files<File = File> + AllocGlobal + Clone + Drop>(
 }
 
 // Why there is no copy.
-fn told_as(refusal: FolderCopyRefusal) -> CounterCopyRefusal
-    ensures { result ≡ told_as refusal }
+fn told_as(fault: ArchiveFault<'_>) -> CounterCopyRefusal
+    ensures { result ≡ told_as fault.entry }
 {
-    match refusal {
-        FolderCopyRefusal::Memory => CounterCopyRefusal::Memory,
-        FolderCopyRefusal::Ledger(_) => CounterCopyRefusal::Device,
-        FolderCopyRefusal::Occupied => CounterCopyRefusal::Occupied,
-        FolderCopyRefusal::Unwritten => CounterCopyRefusal::Unwritten,
+    match fault {
+        ArchiveFault::Memory => CounterCopyRefusal::Memory,
+        ArchiveFault::NoLedger { .. } => CounterCopyRefusal::Device,
+        ArchiveFault::Occupied(_) => CounterCopyRefusal::Occupied,
+        _ => CounterCopyRefusal::Unwritten,
     }
 }
 
