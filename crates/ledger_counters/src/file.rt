@@ -17,20 +17,13 @@ pub fn read_roster<'a, R: Files<File = File> + AllocGlobal>(
     rt: &R,
     place: RosterPath<'a>,
 ) -> Result<Option<Roster>, CountersFault<'a>> {
-    match kept_text(rt, place) {
-        Ok(None) => Ok(None),
-        Ok(Some(text)) => match Roster::parse(rt.alloc(), text.as_str()) {
-            Ok(roster) => Ok(Some(roster)),
-            Err(cause) => Err(CountersFault { place, cause }),
-        },
-        Err(cause) => Err(CountersFault { place, cause }),
-    }
+    kept(rt, place).map_err(|cause| CountersFault { place, cause })
 }
 
-fn kept_text<R: Files<File = File> + AllocGlobal>(
+fn kept<R: Files<File = File> + AllocGlobal>(
     rt: &R,
     place: RosterPath<'_>,
-) -> Result<Option<String>, RosterFault> {
+) -> Result<Option<Roster>, RosterFault> {
     let path = format!(in rt.alloc(); "{place}")?;
     let file = match File::open(rt, path.as_str()) {
         Ok(file) => file,
@@ -39,7 +32,7 @@ fn kept_text<R: Files<File = File> + AllocGlobal>(
     };
     let mut text = String::new(rt.alloc());
     match file.take(LONGEST_FILE).read_to_string(&mut text) {
-        Ok(_) => Ok(Some(text)),
+        Ok(_) => Ok(Some(Roster::parse(rt.alloc(), text.as_str())?)),
         Err(error) if error.kind() == ErrorKind::OutOfMemory => Err(RosterFault::Memory),
         Err(_) => Err(RosterFault::Unread),
     }
@@ -54,10 +47,7 @@ pub fn write_roster<'a, R: Files<File = File> + AllocGlobal>(
     place: RosterPath<'a>,
     roster: &Roster,
 ) -> Result<(), CountersFault<'a>> {
-    match put(rt, place, roster) {
-        Ok(()) => Ok(()),
-        Err(cause) => Err(CountersFault { place, cause }),
-    }
+    put(rt, place, roster).map_err(|cause| CountersFault { place, cause })
 }
 
 fn put<R: Files<File = File> + AllocGlobal>(
@@ -99,10 +89,7 @@ pub fn remove_roster<'a, R: Files<File = File> + AllocGlobal>(
     rt: &R,
     place: RosterPath<'a>,
 ) -> Result<(), CountersFault<'a>> {
-    match remove(rt, place) {
-        Ok(()) => Ok(()),
-        Err(cause) => Err(CountersFault { place, cause }),
-    }
+    remove(rt, place).map_err(|cause| CountersFault { place, cause })
 }
 
 fn remove<R: Files<File = File> + AllocGlobal>(

@@ -28,8 +28,5 @@ impl fmt::Display for RosterPath<'_> {
 
 /// Whether there is a disk at the path, beside which no file can be.
 pub fn is_disk<R: Files<File = File>>(rt: &R, path: &str) -> bool {
-    match fs::metadata(rt, path) {
-        Ok(found) => found.file_type().is_block_device(),
-        Err(_) => false,
-    }
+    fs::metadata(rt, path).is_ok_and(|found| found.file_type().is_block_device())
 }

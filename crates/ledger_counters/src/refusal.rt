@@ -43,14 +43,10 @@ impl RosterFault {
     pub fn is_refusal(self) -> bool
         ensures { result ≡ is_refusal self }
     {
-        match self {
-            RosterFault::Memory | RosterFault::Unread | RosterFault::Unwritten => false,
-            RosterFault::NoRoster { .. }
-            | RosterFault::Missing
-            | RosterFault::Disk
-            | RosterFault::NoName
-            | RosterFault::Full => true,
-        }
+        !matches!(
+            self,
+            RosterFault::Memory | RosterFault::Unread | RosterFault::Unwritten
+        )
     }
 }
 

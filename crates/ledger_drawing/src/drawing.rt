@@ -68,8 +68,7 @@ pub fn draw<D: Device, W: Write>(
         top = top.saturating_add(height_of(section));
     }
     output.line("</svg>")?;
-    output.flush()?;
-    Ok(())
+    Ok(output.flush()?)
 }
 
 // How high a part is with its heading, or 0 if it has no sector.

@@ -24,27 +24,17 @@ pub enum InspectionFault<'a> {
     #[error("{0}")]
     Archive(#[from] ArchiveFault<'a>),
     /// A ledger can't be looked at.
-    #[error("{part}: {fault}")]
-    Unread {
-        part: Part<'a>,
-        fault: FileFault,
-    },
+    #[error("{0}: {1}")]
+    Unread(Part<'a>, FileFault),
     /// It isn't sound.
-    #[error("{part}: {wrong}")]
-    Unsound {
-        part: Part<'a>,
-        wrong: Wrong,
-    },
+    #[error("{0}: {1}")]
+    Unsound(Part<'a>, Wrong),
     /// It was sound, and can't be read again.
-    #[error("{part}: it can't be read")]
-    Lost {
-        part: Part<'a>,
-    },
+    #[error("{0}: it can't be read")]
+    Lost(Part<'a>),
     /// It was sound, and is another one now.
-    #[error("{part}: it changed while it was read")]
-    Changed {
-        part: Part<'a>,
-    },
+    #[error("{0}: it changed while it was read")]
+    Changed(Part<'a>),
     /// It lists no record from the end of the one before on, but only later ones.
     #[error("{part}: its earliest batch is {first}, and {before} ends before {end}; those between are missing")]
     Gap {
@@ -77,18 +67,11 @@ pub enum InspectionFault<'a> {
         next: u64,
     },
     /// It isn't sound, and can't be drawn.
-    #[error("{part}: {wrong}\n{fault}")]
-    Undrawn {
-        part: Part<'a>,
-        wrong: Wrong,
-        fault: StreamFault,
-    },
+    #[error("{0}: {1}\n{2}")]
+    Undrawn(Part<'a>, Wrong, StreamFault),
     /// It isn't sound, and can't be read again for the drawing.
-    #[error("{part}: {wrong}\n{part}: it can't be read")]
-    Unseen {
-        part: Part<'a>,
-        wrong: Wrong,
-    },
+    #[error("{0}: {1}\n{0}: it can't be read")]
+    Unseen(Part<'a>, Wrong),
     /// The output can't be written.
     #[error("{0}")]
     Output(StreamFault),
@@ -100,7 +83,7 @@ impl<'a> InspectionFault<'a> {
         ensures { result ≡ is_refusal self.entry }
     {
         match self {
-            InspectionFault::Unsound { wrong, .. } => denies_ledger(wrong.refusal),
+            InspectionFault::Unsound(_, wrong) => denies_ledger(wrong.refusal),
             InspectionFault::Archive(ArchiveFault::Empty(_) | ArchiveFault::Foreign(_))
             | InspectionFault::Gap { .. }
             | InspectionFault::Short { .. }
@@ -127,7 +110,7 @@ impl<'a> InspectionFault<'a> {
     {
         match fault {
             FileFault::Memory => InspectionFault::Memory,
-            fault => InspectionFault::Unread { part, fault },
+            fault => InspectionFault::Unread(part, fault),
         }
     }
 
@@ -135,7 +118,7 @@ impl<'a> InspectionFault<'a> {
     pub(crate) fn of_damage(part: Part<'a>, wrong: Wrong) -> InspectionFault<'a> {
         match wrong.refusal {
             OpenRefusal::Memory => InspectionFault::Memory,
-            _ => InspectionFault::Unsound { part, wrong },
+            _ => InspectionFault::Unsound(part, wrong),
         }
     }
 
@@ -145,8 +128,8 @@ impl<'a> InspectionFault<'a> {
         ensures failed { is_refusal result ≡ false }
     {
         match refusal {
-            ReadRefusal::Device => InspectionFault::Lost { part },
-            ReadRefusal::Changed => InspectionFault::Changed { part },
+            ReadRefusal::Device => InspectionFault::Lost(part),
+            ReadRefusal::Changed => InspectionFault::Changed(part),
         }
     }
 

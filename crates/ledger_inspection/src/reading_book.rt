@@ -97,8 +97,7 @@ impl<'a, R: Files<File = File> + AllocGlobal> Shelf<'a, '_, R> {
         let printed = JournalPrint::over(self.rt.alloc(), wish, writer)?;
         let mut printing = RecordPrinter { printed, progress };
         self.walk(&mut printing)?;
-        printing.printed.end()?;
-        Ok(())
+        Ok(printing.printed.end()?)
     }
 
     // What the accounts hold at the end, or held before the record with that sequence number.

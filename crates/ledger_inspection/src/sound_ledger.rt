@@ -21,14 +21,10 @@ pub(crate) fn print_sound<D: Device + Drop, W: Write + Drop, P: Progress>(
 ) -> Result<(), OutputFault<ReadRefusal>> {
     match task {
         Task::Check { quiet: true } => Ok(()),
-        Task::Check { quiet: false } => {
-            print_numbers(alloc, &sound, writer)?;
-            Ok(())
-        }
+        Task::Check { quiet: false } => Ok(print_numbers(alloc, &sound, writer)?),
         Task::Journal(wish) => print_journal(alloc, sound, wish, writer, progress),
         Task::Balances { format, date, .. } => {
-            print_balances(alloc, &sound.ledger, format, date, writer)?;
-            Ok(())
+            Ok(print_balances(alloc, &sound.ledger, format, date, writer)?)
         }
         Task::Map => print_sound_map(alloc, sound, writer),
     }

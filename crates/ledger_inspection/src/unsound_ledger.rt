@@ -35,7 +35,7 @@ pub(crate) fn print_unsound<'a, D: Device + Drop, W: Write>(
         Task::Map if denies_ledger(refusal) => {
             draw_wrong(alloc, part, wrong, &mut device, writer)
         }
-        _ => InspectionFault::Unsound { part, wrong },
+        _ => InspectionFault::Unsound(part, wrong),
     }
 }
 
@@ -77,11 +77,11 @@ fn draw_wrong<'a, D: Device, W: Write>(
 {
     let mut output = WatchedWriter::over(writer);
     match draw(alloc, device, wrong.place, &mut output) {
-        Err(OutputFault::Source(_)) => InspectionFault::Unseen { part, wrong },
+        Err(OutputFault::Source(_)) => InspectionFault::Unseen(part, wrong),
         Err(OutputFault::Stream(StreamFault::Write)) if output.is_closed() => {
-            InspectionFault::Unsound { part, wrong }
+            InspectionFault::Unsound(part, wrong)
         }
-        Err(OutputFault::Stream(fault)) => InspectionFault::Undrawn { part, wrong, fault },
-        Ok(()) => InspectionFault::Unsound { part, wrong },
+        Err(OutputFault::Stream(fault)) => InspectionFault::Undrawn(part, wrong, fault),
+        Ok(()) => InspectionFault::Unsound(part, wrong),
     }
 }

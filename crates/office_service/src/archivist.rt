@@ -55,10 +55,7 @@ impl<'a, 'r, R: Files<File = File> + AllocGlobal + Clone + Drop> Archivist<'a, '
             None => None,
         };
         let copies = match serving.copies {
-            Some(path) => match open_copies(rt, path, serving.archive) {
-                Ok(copies) => Some(copies),
-                Err(fault) => return Err(OfficeFault::from(fault)),
-            },
+            Some(path) => Some(open_copies(rt, path, serving.archive)?),
             None => None,
         };
         Ok(Archivist {
@@ -94,14 +91,11 @@ impl<'a, 'r, R: Files<File = File> + AllocGlobal + Clone + Drop> Archivist<'a, '
         self.since = seating.since();
         self.place = seating.place;
         self.ledger = number_at(self.rt, self.path);
-        self.archive = match self.books {
-            Some(folder) => number_at(self.rt, folder),
-            None => None,
+        let Some(folder) = self.books else {
+            return Ok(());
         };
-        match self.books {
-            Some(folder) => seating.write_into(self.rt, folder),
-            None => Ok(()),
-        }
+        self.archive = number_at(self.rt, folder);
+        seating.write_into(self.rt, folder)
     }
 
     /// Why the archive couldn't be kept.
@@ -205,8 +199,5 @@ fn told_as(fault: ArchiveFault<'_>) -> CounterCopyRefusal
 
 // Which file is at the path, if one can be seen there.
 fn number_at<R: Files<File = File>>(rt: &R, path: &str) -> Option<FileNumber> {
-    match fs::metadata(rt, path) {
-        Ok(found) => Some(FileNumber::of(&found)),
-        Err(_) => None,
-    }
+    Some(FileNumber::of(&fs::metadata(rt, path).ok()?))
 }
