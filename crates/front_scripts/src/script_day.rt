@@ -1,8 +1,26 @@
 //! A day of the stations, from a script.
-ghost use Rattle.std.specs.Prelude.{◌≡◌};
+ghost use Rattle.std.specs.Prelude.{◌≡◌, ◌≢◌, ◌⊎◌, ◌<◌, ◌≤◌, ℕ, length, IfOk, IfErr};
+ghost use Rattle.std.specs.Prelude.{slice_index_or};
+ghost use Rattle.sector_device.specs.Device.{AreCalls};
+ghost use Rattle.sector_device.specs.Crash.{OnlyLooks, IsDurable};
+ghost use Rattle.four_state.specs.Configuration.{stations};
+ghost use Rattle.sweep_auditor.specs.Run.{IsRun};
+ghost use Rattle.sweep_auditor.specs.Audited.{IsAuditOf};
+ghost use Rattle.turn_clerk.specs.Clerk.{KeepsHistory, LeavesAcknowledged, LeftPrefixEver};
+ghost use Rattle.turn_clerk.specs.FarBack.{LeftRecordsEver};
+ghost use Rattle.turn_clerk.specs.History.{moves_of};
+ghost use Rattle.journal_recovery.specs.Refused.{RecoveryRefuses};
+ghost use Rattle.line_lock.specs.OpenedOn.{WasOpenedOn, WasLeftByClerk};
+ghost use Rattle.line_lock.specs.Account.{failed_turns};
+ghost use Rattle.office_day.specs.Day.{HadTheirDay, failures_told};
+ghost use Rattle.front_scripts.specs.Day.{unanswered_of, IfNotOpened, IfNotClosed, IsNoDay};
+ghost use Rattle.front_scripts.specs.Day.{no_day_of};
+ghost use Rattle.front_scripts.specs.Clerk.{held_for};
+ghost use Rattle.office_day.specs.declared.reconciled.StationDay.{StationDay};
 
 use crate::refusals::Refusal;
 use crate::scripted_clerk::ScriptedClerk;
+use journal_recovery::OpenRefusal;
 use office_day::{Day, DayRefusal, HeldEntries, StationDay, run_day};
 use sector_device::Device;
 use std::alloc::Global;
@@ -44,7 +62,54 @@ impl<D: Device + Send + Drop> ScriptedClerk<D> {
         rt: &R,
         alloc: Global,
         moves: u64,
-    ) -> Result<(ScriptedClerk<D>, DayReport), NoDay<D>> {
+    ) -> Result<(ScriptedClerk<D>, DayReport), NoDay<D>>
+        // What is held afterwards, and what became of what was held.
+        ensures held { IfOk result (λ day. day.0.held ≡ unanswered_of day.1.stations.items) }
+        ensures days { IfOk result (λ day.
+            HadTheirDay day.0.clerk moves self.held day.1.stations.items) }
+        ensures within { IfOk result (λ day. length day.0.clerk.history ≤ moves) }
+        ensures failed { IfOk result (λ day.
+            failures_told day.1.stations.items ≡ failed_turns day.0.clerk) }
+
+        // The clerk, which was opened on the device and the line of the one before.
+        ensures opened { IfOk result (λ day. WasOpenedOn D.state
+            (D.state self.clerk.journal.device) self.clerk.line day.0.clerk) }
+        ensures stations { IfOk result (λ day.
+            stations day.0.clerk.line ≡ stations self.clerk.line) }
+        ensures legal { IfOk result (λ day. KeepsHistory day.0.clerk) }
+        ensures run { IfOk result (λ day.
+            IsRun day.0.clerk.opening.line (moves_of day.0.clerk.history)) }
+        ensures acknowledged { IfOk result (λ day.
+            (D.state day.0.clerk.journal.device).honest → LeavesAcknowledged D.state day.0.clerk) }
+        ensures at_any_moment { IfOk result (λ day.
+            (D.state day.0.clerk.journal.device).honest → LeftPrefixEver D.state day.0.clerk) }
+        ensures in_sight { IfOk result (λ day.
+            (D.state day.0.clerk.journal.device).honest → LeftRecordsEver D.state day.0.clerk) }
+
+        // The audit of its opening line and all its moves.
+        ensures last { IfOk result (λ day. day.1.audit.last ≡ day.0.clerk.line) }
+        ensures audit { IfOk result (λ day.
+            IsAuditOf day.0.clerk.opening.line (moves_of day.0.clerk.history) day.1.audit) }
+
+        // Where there is no day.
+        ensures refusals { IfErr result IsNoDay }
+        ensures left { IfErr result (λ none. IfNotClosed none (λ after.
+            (after ≡ self.clerk.journal.device) ⊎ WasLeftByClerk D.state
+            (D.state self.clerk.journal.device) self.clerk.line after)) }
+        ensures call { IfErr result (λ none. IfNotOpened none (λ after refusal.
+            AreCalls (D.state self.clerk.journal.device) (D.state after)
+            (refusal ≡ OpenRefusal.Device))) }
+        ensures looks { (D.state self.clerk.journal.device).honest
+            → IfErr result (λ none. IfNotOpened none (λ after _.
+            OnlyLooks (D.state self.clerk.journal.device) (D.state after))) }
+        ensures settled { (D.state self.clerk.journal.device).honest
+            → IfErr result (λ none. IfNotOpened none (λ after refusal.
+            refusal ≢ OpenRefusal.Device → IsDurable (D.state after))) }
+        ensures refused { (D.state self.clerk.journal.device).honest
+            → IfErr result (λ none. IfNotOpened none (λ _ refusal.
+            refusal ≢ OpenRefusal.Device
+            → RecoveryRefuses (D.state self.clerk.journal.device).reads refusal)) }
+    {
         let ScriptedClerk { clerk, mut held } = self;
         let line = clerk.line();
         let device = Box::into_inner(clerk).into_device();
@@ -68,7 +133,9 @@ impl<D: Device + Send + Drop> ScriptedClerk<D> {
 }
 
 // Why there is no day to show, where the office had none.
-fn no_day<D: Device + Drop>(device: D, refusal: DayRefusal) -> NoDay<D> {
+fn no_day<D: Device + Drop>(device: D, refusal: DayRefusal) -> NoDay<D>
+    ensures { result ≡ no_day_of device refusal }
+{
     match refusal {
         DayRefusal::Memory => NoDay::Memory,
         DayRefusal::Opening(refusal) => NoDay::Refused(device, Refusal::Open(refusal)),
@@ -77,8 +144,16 @@ fn no_day<D: Device + Drop>(device: D, refusal: DayRefusal) -> NoDay<D> {
 }
 
 // Holds for each station the entries of its requests that have no answer.
-fn hold_again(held: &mut [HeldEntries], stations: &[StationDay]) {
-    for (entries, station) in held.iter_mut().zip(stations) {
-        entries.keep_all(station.unanswered.as_slice());
+fn hold_again(held: &mut [HeldEntries], stations: &[StationDay])
+    requires as_many { length stations.now ≡ length held.old }
+    requires no_more { (i : ℕ) (day : StationDay) → i < length held.old
+        → length (slice_index_or stations.now i day).unanswered.items
+        ≤ length (held_for held.old i) }
+    ensures { held.new ≡ unanswered_of stations.now }
+{
+    for (station, entries) in held.iter_mut().enumerate() {
+        // for the contract alone: it holds 16 entries at most
+        let _ = entries.as_slice();
+        entries.keep_all(stations[station].unanswered.as_slice());
     }
 }
