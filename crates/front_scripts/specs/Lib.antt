@@ -1,5 +1,6 @@
 pub mod Faults
 pub mod Clerk
+pub mod Console
 pub mod Day
 pub mod Lines
 pub use Rattle.text_grammar.specs.Grammar

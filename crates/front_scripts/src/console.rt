@@ -1,7 +1,13 @@
 //! Runs the commands of a script, one after another.
-ghost use Rattle.std.specs.Prelude.{◌≢◌, ℕ, IfErr};
+ghost use Rattle.std.specs.Prelude.{◌≡◌, ◌≢◌, ℕ, true, false, ⊤, IfOk, IfErr};
 ghost use Rattle.text_grammar.specs.declared.faults.LineFault.{LineFault};
+ghost use Rattle.text_grammar.specs.Bits.{bits_of};
+ghost use Rattle.sector_device.specs.Crash.{WasLookedAt};
 ghost use Rattle.front_scripts.specs.declared.faults.ScriptFault.TheVariants.{Line};
+ghost use Rattle.front_scripts.specs.Clerk.{line_of};
+ghost use Rattle.front_scripts.specs.Console.{ByOffice, IsClosedAnd, IsOpenAnd, device_of};
+ghost use Rattle.front_scripts.specs.Console.{HasPosted, HasAskedForTurn, HasOpened, HasHadDay};
+ghost use Rattle.front_scripts.specs.Console.{HasLostPower, WasKept};
 
 use crate::faults::ScriptFault;
 use crate::power::PowerLoss;
@@ -78,7 +84,14 @@ impl<D: PowerLoss + Drop> Console<D> {
         x: Bits<'_>,
         up: Bits<'_>,
         output: &mut Output<'_, W>,
-    ) -> Result<Console<D>, StreamFault> {
+    ) -> Result<Console<D>, StreamFault>
+        ensures open_stays { IfOk result (λ console.
+            ByOffice self (λ _. ⊤) (λ clerk. console ≡ Console.Open clerk)) }
+        ensures opened { IfOk result (λ console. ByOffice self (λ device. ByOffice console
+            (λ after. WasLookedAt (D.state device) (D.state after))
+            (HasOpened D.state device (line_of (bits_of x.entry) (bits_of up.entry) stations)
+            stations)) (λ _. ⊤)) }
+    {
         let device = match self {
             Console::Closed(device) => device,
             open => {
@@ -105,7 +118,10 @@ impl<D: PowerLoss + Drop> Console<D> {
         station: u64,
         entry: Entry,
         output: &mut Output<'_, W>,
-    ) -> Result<(), StreamFault> {
+    ) -> Result<(), StreamFault>
+        ensures posted { ByOffice self.old (λ device. self.new ≡ Console.Closed device)
+            (λ clerk. IsOpenAnd self.new (HasPosted clerk station entry)) }
+    {
         let Console::Open(clerk) = self else {
             return print_refusal(Refusal::NoOffice, output);
         };
@@ -119,15 +135,15 @@ impl<D: PowerLoss + Drop> Console<D> {
         &mut self,
         station: u64,
         output: &mut Output<'_, W>,
-    ) -> Result<(), StreamFault> {
+    ) -> Result<(), StreamFault>
+        ensures turned { ByOffice self.old (λ device. self.new ≡ Console.Closed device)
+            (λ clerk. IsOpenAnd self.new (HasAskedForTurn D.state clerk station)) }
+    {
         let Console::Open(clerk) = self else {
             return print_refusal(Refusal::NoOffice, output);
         };
-        if let Err(refusal) = clerk.turn(station) {
-            print_refusal(Refusal::Turn(refusal), output)?;
-        } else if let Some(turn) = clerk.history().last() {
-            print_turn(turn, output)?;
-        }
+        let answer = clerk.turn(station);
+        print_answer(answer, clerk, output)?;
         // an answer is worth little while it lies in a buffer
         output.flush()
     }
@@ -153,7 +169,15 @@ impl<D: PowerLoss + Drop> Console<D> {
         moves: u64,
         output: &mut Output<'_, W>,
     ) -> Result<Console<D>, ScriptFault>
-        ensures { IfErr result (λ fault. (line : ℕ) (cause : LineFault) → fault ≢ Line line cause) }
+        ensures fault { IfErr result (λ fault. (line : ℕ) (cause : LineFault)
+            → fault ≢ Line line cause) }
+        ensures closed_stays { IfOk result (λ console.
+            ByOffice self (λ device. console ≡ Console.Closed device) (λ _. ⊤)) }
+        ensures faulted_stays { IfOk result (λ console. ByOffice self (λ _. ⊤) (λ clerk.
+            clerk.clerk.journal.faulted ≡ true → console ≡ Console.Open clerk)) }
+        ensures day { IfOk result (λ console. ByOffice self (λ _. ⊤) (λ clerk.
+            clerk.clerk.journal.faulted ≡ false
+            → ByOffice console (WasKept D.state clerk) (HasHadDay D.state clerk moves))) }
     {
         let clerk = match self {
             Console::Open(clerk) => clerk,
@@ -184,7 +208,10 @@ impl<D: PowerLoss + Drop> Console<D> {
         self,
         alloc: Global,
         output: &mut Output<'_, W>,
-    ) -> Result<Console<D>, StreamFault> {
+    ) -> Result<Console<D>, StreamFault>
+        ensures { IfOk result (λ console. IsClosedAnd console (λ after.
+            HasLostPower (D.state (device_of self)) (D.state after))) }
+    {
         let device = match self {
             Console::Closed(device) => device,
             Console::Open(clerk) => clerk.into_device(),
@@ -192,5 +219,19 @@ impl<D: PowerLoss + Drop> Console<D> {
         let device = device.lose_power(alloc);
         output.line(format_args!("crashed"))?;
         Ok(Console::Closed(device))
+    }
+}
+
+// Prints what the clerk answered a station that asked for its turn: the last one of its history, or
+// why it took none.
+fn print_answer<D: Device, W: Write>(
+    answer: Result<(), TurnRefusal>,
+    clerk: &ScriptedClerk<D>,
+    output: &mut Output<'_, W>,
+) -> Result<(), StreamFault> {
+    match (answer, clerk.history().last()) {
+        (Ok(()), Some(turn)) => print_turn(turn, output),
+        (Ok(()), None) => Ok(()),
+        (Err(refusal), _) => print_refusal(Refusal::Turn(refusal), output),
     }
 }
