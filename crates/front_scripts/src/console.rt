@@ -209,8 +209,9 @@ impl<D: PowerLoss + Drop> Console<D> {
         alloc: Global,
         output: &mut Output<'_, W>,
     ) -> Result<Console<D>, StreamFault>
-        ensures { IfOk result (λ console. IsClosedAnd console (λ after.
+        ensures closed { IfOk result (λ console. IsClosedAnd console (λ after.
             HasLostPower (D.state (device_of self)) (D.state after))) }
+        ensures lost { IfOk result (λ console. IsClosedAnd console (D.loses (device_of self))) }
     {
         let device = match self {
             Console::Closed(device) => device,
