@@ -1,5 +1,6 @@
 -- What the console of a script is after a command.
-use Rattle.std.specs.Prelude.{◌≡◌, ◌⊎◌, ◌<◌, ◌≤◌, ◌∷◌, ◌++◌, ℕ, List, [], length, replicate, OnOk, OnErr}
+use Rattle.std.specs.Prelude.{◌≡◌, ◌⊎◌, ◌<◌, ◌≤◌, ◌∷◌, ◌++◌, ℕ, true, false, List, [], length}
+use Rattle.std.specs.Prelude.{replicate, OnOk, OnErr}
 use Rattle.sector_device.specs.Device.{DeviceState, AreCalls}
 use Rattle.sector_device.specs.Crash.{WasLookedAt}
 use Rattle.four_state.specs.Configuration.{Configuration, stations}
@@ -12,7 +13,10 @@ use Rattle.turn_clerk.specs.Reply.{Reply}
 use Rattle.line_lock.specs.OpenedOn.{WasOpenedOn, WasLeftByClerk}
 use Rattle.office_day.specs.Day.{HadTheirDay}
 use Rattle.office_day.specs.declared.reconciled.StationDay.{StationDay}
-use Rattle.front_scripts.specs.Clerk.{ScriptedState, held_for, holding}
+use Rattle.text_grammar.specs.Bits.{bits_of}
+use Rattle.text_grammar.specs.declared.commands.Command.{Command}
+use Rattle.text_grammar.specs.declared.commands.Command.TheVariants as command
+use Rattle.front_scripts.specs.Clerk.{ScriptedState, held_for, holding, line_of}
 use Rattle.front_scripts.specs.Day.{unanswered_of}
 use Rattle.front_scripts.specs.declared.console.Console.{Console}
 use Rattle.front_scripts.specs.declared.console.Console.TheVariants.{Closed, Open}
@@ -88,3 +92,30 @@ WasKept state old after =
     WasLookedAt (state old.clerk.journal.device) (state after)
     ⊎ (after ≡ old.clerk.journal.device)
     ⊎ WasLeftByClerk state (state old.clerk.journal.device) old.clerk.line after
+
+-- What a command makes of a console, where `loses` says what a power loss makes of a device. With
+-- no office open `post`, `turn` and `day` leave it as it is; with one open so do `format` and
+-- `open`, and a clerk that is faulted has no day.
+abbrev pub HasRun : {D : Type 0} → (D → DeviceState) → (D → D → Type 0) → Command → Console D
+    → Console D → Type 0
+HasRun state loses (command.Format slots) old new =
+    ByOffice old (λ _. IsClosedAnd new (λ _. Unit {0})) (λ clerk. new ≡ Open clerk)
+HasRun state loses (command.Open n x up) old new =
+    ByOffice old (λ device. ByOffice new (λ after. WasLookedAt (state device) (state after))
+    (HasOpened state device (line_of (bits_of x) (bits_of up) n) n)) (λ clerk. new ≡ Open clerk)
+HasRun state loses (command.Post station entry) old new =
+    ByOffice old (λ device. new ≡ Closed device)
+    (λ clerk. IsOpenAnd new (HasPosted clerk station entry))
+HasRun state loses (command.Turn station) old new =
+    ByOffice old (λ device. new ≡ Closed device)
+    (λ clerk. IsOpenAnd new (HasAskedForTurn state clerk station))
+HasRun state loses command.Bits old new = new ≡ old
+HasRun state loses command.Balances old new = new ≡ old
+HasRun state loses command.Crash old new =
+    IsClosedAnd new (λ after. HasLostPower (state (device_of old)) (state after)
+    × loses (device_of old) after)
+HasRun state loses (command.Day moves) old new =
+    ByOffice old (λ device. new ≡ Closed device) (λ clerk.
+    (clerk.clerk.journal.faulted ≡ true → new ≡ Open clerk)
+    × (clerk.clerk.journal.faulted ≡ false
+    → ByOffice new (WasKept state clerk) (HasHadDay state clerk moves)))

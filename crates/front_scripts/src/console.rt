@@ -7,7 +7,7 @@ ghost use Rattle.front_scripts.specs.declared.faults.ScriptFault.TheVariants.{Li
 ghost use Rattle.front_scripts.specs.Clerk.{line_of};
 ghost use Rattle.front_scripts.specs.Console.{ByOffice, IsClosedAnd, IsOpenAnd, device_of};
 ghost use Rattle.front_scripts.specs.Console.{HasPosted, HasAskedForTurn, HasOpened, HasHadDay};
-ghost use Rattle.front_scripts.specs.Console.{HasLostPower, WasKept};
+ghost use Rattle.front_scripts.specs.Console.{HasLostPower, WasKept, HasRun};
 
 use crate::faults::ScriptFault;
 use crate::power::PowerLoss;
@@ -46,7 +46,9 @@ impl<D: PowerLoss + Drop> Console<D> {
         command: Command<'_>,
         output: &mut Output<'_, W>,
     ) -> Result<Console<D>, ScriptFault>
-        ensures { IfErr result (λ fault. (line : ℕ) (cause : LineFault) → fault ≢ Line line cause) }
+        ensures fault { IfErr result (λ fault. (line : ℕ) (cause : LineFault)
+            → fault ≢ Line line cause) }
+        ensures ran { IfOk result (HasRun D.state D.loses command.entry self) }
     {
         match command {
             Command::Format { slots } => self.format(slots, output)?,
@@ -67,7 +69,10 @@ impl<D: PowerLoss + Drop> Console<D> {
         &mut self,
         slots: NonZeroU64,
         output: &mut Output<'_, W>,
-    ) -> Result<(), StreamFault> {
+    ) -> Result<(), StreamFault>
+        ensures { ByOffice self.old (λ _. IsClosedAnd self.new (λ _. ⊤))
+            (λ clerk. self.new ≡ Console.Open clerk) }
+    {
         let Console::Closed(device) = self else {
             return print_refusal(Refusal::OfficeOpen, output);
         };
