@@ -7,7 +7,7 @@ use Rattle.journal_recovery.specs.Refused.{RecoveryRefuses}
 use Rattle.office_day.specs.Refusal.{IfOpening}
 use Rattle.office_day.specs.declared.reconciled.StationDay.{StationDay}
 use Rattle.front_scripts.specs.Clerk.{held_for}
-use Rattle.front_scripts.specs.Day.{IfNotOpened}
+use Rattle.front_scripts.specs.Day.{IfNotOpened, no_day_of}
 use Rattle.front_scripts.proofs.DayEnds.{no_more_unanswered, told_opening}
 use Rattle.front_scripts.proofs.scripted_clerk.ScriptedClerk.day.Goals as goal
 
@@ -29,9 +29,10 @@ returns-in-Err-clause-refused g c =
     let same : c.into_device-device.result ≡ c.args.self.clerk.journal.device = search rules in
     λ honest. subst (λ none. IfNotOpened none (λ _ refusal. refusal ≢ Device
     → RecoveryRefuses (g.D.Device.state c.args.self.clerk.journal.device).reads refusal))
-    (sym c.no_day.ensures)
+    {x = no_day_of c.in-Err.device c.in-Err.refusal} (sym {b = no_day_of c.in-Err.device c.in-Err.refusal}
+    c.no_day.ensures)
     (told_opening c.in-Err.device c.in-Err.refusal (λ _ refusal. refusal ≢ Device
     → RecoveryRefuses (g.D.Device.state c.args.self.clerk.journal.device).reads refusal)
     (subst (λ device. (g.D.Device.state device).honest → IfOpening c.in-Err.refusal (λ refusal.
     refusal ≢ Device → RecoveryRefuses (g.D.Device.state device).reads refusal))
-    same c.in-Err.ensures.refused honest))
+    {x = c.into_device-device.result} same c.in-Err.ensures.refused honest))
