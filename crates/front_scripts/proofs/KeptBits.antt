@@ -8,11 +8,20 @@ use Rattle.four_state.specs.declared.refusals.LineRefusal.{LineRefusal}
 use Rattle.front_scripts.specs.Clerk.{line_of}
 
 -- so many are kept where there are so many, and only there
-pub as_many : (kept bits : List Bool) (n : ℕ) → n ≤ 64 → kept ≡ take 65 bits
+as_many : (kept bits : List Bool) (n : ℕ) → n ≤ 64 → kept ≡ take 65 bits
     → (length kept ≡ n) ↔ (length bits ≡ n)
 as_many kept bits n few are =
     let long = ap length are ∙ length-take 65 bits in
     (λ same. omega (arith, few, long, same), λ same. omega (arith, few, long, same))
+
+-- and of two lists
+pub both_as_many : (x kept_x up kept_up : List Bool) (n : ℕ) → n ≤ 64 → kept_x ≡ take 65 x
+    → kept_up ≡ take 65 up
+    → ((length kept_x ≡ n) × (length kept_up ≡ n)) ↔ ((length x ≡ n) × (length up ≡ n))
+both_as_many x kept_x up kept_up n few are_x are_up =
+    let one = as_many kept_x x n few are_x in
+    let other = as_many kept_up up n few are_up in
+    (λ both. (one.0 both.0, other.0 both.1), λ both. (one.1 both.0, other.1 both.1))
 
 -- one of two lists of kept bits has another length where one of the lists has, and only there
 pub other_length : (x kept_x up kept_up : List Bool) (n : ℕ) → n ≤ 64 → kept_x ≡ take 65 x

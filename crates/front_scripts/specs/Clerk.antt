@@ -1,6 +1,6 @@
 -- What contracts see of a clerk that a script drives.
-use Rattle.std.specs.Prelude.{◌≡◌, ◌-◌, ℕ, Bool, true, false, List, [], Result, Err, IsOk, IfErr, OnOk}
-use Rattle.std.specs.Prelude.{slice_set}
+use Rattle.std.specs.Prelude.{◌≡◌, ◌-◌, ℕ, Bool, true, false, List, [], slice_set, Result, Err}
+use Rattle.std.specs.Prelude.{IsOk, IfErr, OnOk}
 use Rattle.std.specs.List.{slice_index_or}
 use Rattle.sector_device.specs.Device.{DeviceState}
 use Rattle.four_state.specs.Configuration.{Configuration}

@@ -1,6 +1,6 @@
 use Rattle.std.proofs.Common.{◌∙◌}
 use Rattle.text_grammar.specs.Bits.{bits_of}
-use Rattle.front_scripts.proofs.KeptBits.{as_many, other_length, same_line}
+use Rattle.front_scripts.proofs.KeptBits.{both_as_many, other_length, same_line}
 use Rattle.front_scripts.proofs.scripted_clerk.line_written.Goals as goal
 
 pub returns-clause-length : goal.returns-clause-length
@@ -17,10 +17,8 @@ returns-clause-ok c =
     let x = c.as_slice.ensures ∙ c.kept.ensures in
     let up = c.as_slice-2.ensures ∙ c.kept-2.ensures in
     let told = c.from_bits.ensures.ok in (
-      λ is. let no = told.0 is in
-          (no.0, ((as_many _ _ c.args.n no.0.1 x).0 no.1.0, (as_many _ _ c.args.n no.0.1 up).0 no.1.1)),
-      λ no. told.1
-          (no.0, ((as_many _ _ c.args.n no.0.1 x).1 no.1.0, (as_many _ _ c.args.n no.0.1 up).1 no.1.1)),
+      λ is. ((told.0 is).0, (both_as_many _ _ _ _ c.args.n (told.0 is).0.1 x up).0 (told.0 is).1),
+      λ no. told.1 (no.0, (both_as_many _ _ _ _ c.args.n no.0.1 x up).1 no.1),
     )
 
 pub returns-clause-bits : goal.returns-clause-bits

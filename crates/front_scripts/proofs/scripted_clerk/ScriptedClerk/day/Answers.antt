@@ -29,8 +29,8 @@ returns-in-Err-clause-refused g c =
     let same : c.into_device-device.result ≡ c.args.self.clerk.journal.device = search rules in
     λ honest. subst (λ none. IfNotOpened none (λ _ refusal. refusal ≢ Device
     → RecoveryRefuses (g.D.Device.state c.args.self.clerk.journal.device).reads refusal))
-    {x = no_day_of c.in-Err.device c.in-Err.refusal} (sym {b = no_day_of c.in-Err.device c.in-Err.refusal}
-    c.no_day.ensures)
+    {x = no_day_of c.in-Err.device c.in-Err.refusal}
+    (sym {b = no_day_of c.in-Err.device c.in-Err.refusal} c.no_day.ensures)
     (told_opening c.in-Err.device c.in-Err.refusal (λ _ refusal. refusal ≢ Device
     → RecoveryRefuses (g.D.Device.state c.args.self.clerk.journal.device).reads refusal)
     (subst (λ device. (g.D.Device.state device).honest → IfOpening c.in-Err.refusal (λ refusal.
