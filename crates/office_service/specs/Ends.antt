@@ -5,6 +5,7 @@ use Rattle.turn_clerk.specs.declared.refusals.TurnRefusal.TheVariants.{Device}
 use Rattle.station_desk.specs.declared.end.End.{End}
 use Rattle.station_desk.specs.declared.end.End.TheVariants.{NotStarted, Reached, Stopped, Tries}
 use Rattle.station_desk.specs.declared.end.End.TheVariants.{Closed, Refused}
+use Rattle.office_day.specs.Spans.{IsGoodEnd}
 use Rattle.office_day.specs.declared.reconciled.StationDay.{StationDay}
 use Rattle.office_service.specs.declared.faults.OfficeFault.{OfficeFault}
 use Rattle.office_service.specs.declared.faults.OfficeFault.TheVariants as fault
@@ -17,6 +18,10 @@ reason_of Stopped = None
 reason_of Tries = None
 reason_of Closed = None
 reason_of (Refused reason) = Some reason
+
+-- each station took all its turns, or was sent home
+abbrev pub HaveEndedWell : List StationDay → Type 0
+HaveEndedWell days = All (λ day. IsGoodEnd day.end) days
 
 -- no station ended by a refusal
 abbrev pub NoneWasRefused : List StationDay → Type 0

@@ -1,7 +1,8 @@
 //! What is told of an office that has ended.
 ghost use Rattle.std.specs.Prelude.{◌≡◌, ◌≢◌, ◌↔◌, false, Err, IsTrue, IfErr, OnOk};
 ghost use Rattle.turn_clerk.specs.declared.refusals.TurnRefusal.{TurnRefusal};
-ghost use Rattle.office_service.specs.Ends.{NoneFailed, NoneWasRefused, TellsRefusal, reason_of};
+ghost use Rattle.office_service.specs.Ends.{HaveEndedWell, NoneFailed, NoneWasRefused};
+ghost use Rattle.office_service.specs.Ends.{TellsRefusal, reason_of};
 
 use crate::faults::OfficeFault;
 use office_day::StationDay;
@@ -18,7 +19,7 @@ pub(crate) fn tell_closed<'a, D: Device + Drop, W: Write>(
     closed: ClosedOffice<D>,
     output: &mut Output<'_, W>,
 ) -> Result<Clerk<D>, OfficeFault<'a>>
-    ensures refused { OnOk result (NoneWasRefused closed.stations.items) }
+    ensures well { OnOk result (HaveEndedWell closed.stations.items) }
     ensures threads { OnOk result (closed.is_abandoned ≡ false) }
 {
     tell_end(&closed, output)?;
@@ -30,7 +31,7 @@ fn tell_end<'a, D: Device + Drop, W: Write>(
     closed: &ClosedOffice<D>,
     output: &mut Output<'_, W>,
 ) -> Result<(), OfficeFault<'a>>
-    ensures refused { OnOk result (NoneWasRefused closed.now.stations.items) }
+    ensures well { OnOk result (HaveEndedWell closed.now.stations.items) }
     ensures threads { OnOk result (closed.now.is_abandoned ≡ false) }
 {
     let line = closed.audit.last;
@@ -88,10 +89,11 @@ fn tell_untold<W: Write>(
     Ok(())
 }
 
-// How an office ended: well, if no station was refused its thread or its turn. A failed device is
-// reported as one: other stations, which met it later, name it otherwise.
+// How an office ended: well, if each station did. A failed device is reported as one: other
+// stations, which met it later, name it otherwise. A station that stopped though none was refused
+// its turn waited for one that was refused its thread.
 fn ended<'a>(is_abandoned: bool, stations: &[StationDay]) -> Result<(), OfficeFault<'a>>
-    ensures refused { OnOk result (NoneWasRefused stations.now) }
+    ensures well { OnOk result (HaveEndedWell stations.now) }
     ensures threads { OnOk result (is_abandoned ≡ false) }
     ensures device { (reason : TurnRefusal) → result ≡ Err (OfficeFault.Refused reason)
         → reason ≢ TurnRefusal.Device → NoneFailed stations.now }
@@ -102,7 +104,20 @@ fn ended<'a>(is_abandoned: bool, stations: &[StationDay]) -> Result<(), OfficeFa
     if !none_failed(stations) {
         return Err(OfficeFault::Refused(TurnRefusal::Device));
     }
-    refusal_of(stations)
+    refusal_of(stations)?;
+    if !have_ended_well(stations) {
+        return Err(OfficeFault::Threads);
+    }
+    Ok(())
+}
+
+// Whether each station did: all turns were taken, or it was sent home.
+fn have_ended_well(stations: &[StationDay]) -> bool
+    ensures { IsTrue result ↔ HaveEndedWell stations.now }
+{
+    stations
+        .iter()
+        .all(|day| day.end == End::Reached || day.end == End::Closed)
 }
 
 // Whether the device failed for no station.
@@ -114,9 +129,7 @@ fn none_failed(stations: &[StationDay]) -> bool
         .all(|day| day.end != End::Refused(TurnRefusal::Device))
 }
 
-// Why the first station was refused its turn that was. No other end needs to be told: a station
-// ends as `Stopped` only after another one ended, and as `Tries` only after 2^64 - 1 refusals in a
-// row.
+// Why the first station was refused its turn that was.
 fn refusal_of<'a>(stations: &[StationDay]) -> Result<(), OfficeFault<'a>>
     ensures none { OnOk result (NoneWasRefused stations.now) }
     ensures refused { IfErr result (TellsRefusal stations.now) }
