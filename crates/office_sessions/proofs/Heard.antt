@@ -17,7 +17,8 @@ use Rattle.office_day.specs.Day.{IsReconciled, AreReconciled}
 use Rattle.office_day.specs.Archive.{Archive}
 use Rattle.office_day.specs.Spans.{Span, Rest, HasLived, WasKeptOpen}
 use Rattle.office_day.proofs.Lists.{first, AllZip-at}
-use Rattle.office_sessions.specs.Conversation.{ConversationState, IsOver, IsHeard, WereTakenUp}
+use Rattle.office_sessions.specs.Conversation.{ConversationState, WereTakenUp}
+use Rattle.office_sessions.specs.Over.{IsOver, IsHeard, FollowsReplies}
 use Rattle.office_sessions.specs.Kept.{WasKeptFor, WasLeftOpen}
 use Rattle.office_sessions.proofs.Rising.{posts-rising}
 
@@ -31,6 +32,9 @@ heard feed conversation part day over done = record {
   said = subst (λ (asked : List Ask).
       ∥ WereTakenUp conversation.said conversation.told (entries_of asked) conversation.unheard ∥₁)
       done.asked over.said;
+  follows = subst
+      (λ (asked : List Ask). FollowsReplies conversation.station conversation.told
+      conversation.heard (entries_of asked)) done.asked over.follows;
   rising = posts-rising feed.asked feed.collected day.answers.items day.unanswered.items done.asked
       over.above;
 }

@@ -4,3 +4,4 @@ mod Looks
 mod Rising
 mod Runs
 mod TakenUp
+mod ToldBy

@@ -18,7 +18,10 @@ use Rattle.station_desk.specs.Rings.{FeedState}
 use Rattle.station_desk.specs.declared.messages.Answer.{Answer}
 use Rattle.station_desk.specs.declared.messages.Outcome.{Outcome}
 use Rattle.station_desk.specs.declared.messages.Outcome.TheVariants as outcome
-use Rattle.office_sessions.specs.Conversation.{WereTakenUp, ConversationState, IsOver}
+use Rattle.office_sessions.specs.Conversation.{WereTakenUp, ConversationState}
+use Rattle.office_sessions.specs.Over.{IsOver}
+use Rattle.office_sessions.specs.Replies.{IsPlain}
+use Rattle.office_sessions.proofs.ToldBy.{told-more, rise-told}
 use Rattle.office_sessions.specs.Conversation.{IsBehindUnanswered, IsOther, told_of, response_of}
 use Rattle.office_sessions.specs.Conversation.{is_answer, answers_among, judged_of, judged_among}
 use Rattle.office_sessions.specs.Conversation.{posting_of}
@@ -131,15 +134,21 @@ more-answers told one answer collected is tells before collecting =
 
 -- a conversation that is over still is, with a response more that tells of no entry
 pub over-told : (feed : FeedState) (state : ConversationState) (one : Response)
-    (told : List Response) → told ≡ state.told ++ one ∷ [] → IsOther one → IsOver feed state
-    → IsOver feed (record state { told = told })
-over-told feed state one told more other over = record {
+    (told : List Response) → told ≡ state.told ++ one ∷ [] → IsOther one → IsPlain one
+    → IsOver feed state → IsOver feed (record state { told = told })
+over-told feed state one told more other plain over = record {
   told = other-answers state.told one more other.0 ∙ over.told;
   said = ∥∥₁_map over.said
       (λ taken. subst
       (λ (told : List Response). WereTakenUp state.said told (entries_of feed.asked) state.unheard)
       (sym more) (taken-told one other.1 taken));
   above = over.above;
+  follows = record {
+    right = told-more state.station state.told state.heard one more
+        ∣ plain state.station state.heard ∣₁ over.follows.right;
+    rise = ∥∥₁_map over.follows.rise
+        (rise-told state.station state.heard state.told one (entries_of feed.asked) more);
+  };
 }
 
 -- the same with a message more, whose entry nobody took up
@@ -157,6 +166,7 @@ over-said feed state message said unheard more late over = record {
       WereTakenUp (state.said ++ message ∷ []) state.told (entries_of feed.asked) rest)
       (sym late) (taken-said message taken)));
   above = over.above;
+  follows = over.follows;
 }
 
 -- what comes behind something without an answer still does, with more that nobody took up

@@ -13,17 +13,14 @@ use Rattle.turn_clerk.specs.declared.search_target.Posting.{Posting}
 use Rattle.turn_clerk.specs.declared.search_target.SearchTarget.TheVariants as sought
 use Rattle.turn_clerk.specs.declared.refusals.FindRefusal.{FindRefusal}
 use Rattle.line_lock.specs.declared.refusals.BalanceRefusal.{BalanceRefusal}
-use Rattle.station_desk.specs.Messages.{entries_of, asks_of}
-use Rattle.station_desk.specs.Rings.{FeedState}
 use Rattle.station_desk.specs.declared.errand.Question.{Question}
 use Rattle.station_desk.specs.declared.errand.Question.TheVariants as question
 use Rattle.station_desk.specs.declared.messages.Answer.{Answer}
 use Rattle.station_desk.specs.declared.messages.Outcome.{Outcome}
 use Rattle.station_desk.specs.declared.messages.Outcome.TheVariants as outcome
-use Rattle.office_day.specs.declared.reconciled.StationDay.{StationDay}
-use Rattle.office_sessions.specs.Rising.{AreAbove, PostsRising}
 use Rattle.office_sessions.specs.declared.messages.Message.{Message}
 use Rattle.office_sessions.specs.declared.messages.Message.TheVariants.{Asked, Wrong, Ended}
+use Rattle.office_sessions.specs.declared.replies.Reply.{Reply}
 use Rattle.office_sessions.specs.declared.search.Search.{Search}
 use Rattle.office_sessions.specs.declared.responses.Response.{Response}
 use Rattle.office_sessions.specs.declared.responses.Response.TheVariants as response
@@ -184,10 +181,6 @@ counted_by before posting (reached.Further began number end) = counted_with befo
 counted_by before posting (reached.All began since) = before
 counted_by before posting reached.LookingBack = before
 
-abbrev pub found_with : ℕ → Result SearchStep FindRefusal → ℕ
-found_with before (Ok step) = counted_by before step.posting step.reached
-found_with before (Err refusal) = before
-
 -- what is asked for the own postings of a station up to a reference, where the look at them has
 -- come to that record
 abbrev pub own_question : ℕ → ℕ → ℕ → Question
@@ -246,12 +239,15 @@ abbrev pub IsLast : Result SearchStep FindRefusal → Type 0
 IsLast (Ok step) = IsAll step.reached
 IsLast (Err refusal) = Unit {0}
 
--- A conversation at one moment: every message that was taken from the counter's reader, every
--- response that was handed to its writer, each in order, the entries that it asked to post and that
--- nobody submitted, and whether no question is answered any more.
+-- A conversation at one moment, with the counter of a station: every message that was taken from
+-- its reader, every response that was handed to its writer, and every reply that came to its
+-- session, each in order, the entries that it asked to post and that nobody submitted, and whether
+-- no question is answered any more.
 pub record ConversationState : Type 0 where
+  pub station : ℕ
   pub said : List Message
   pub told : List Response
+  pub heard : List Reply
   pub unheard : List Entry
   pub is_silent : Bool
 
@@ -274,27 +270,3 @@ IsBehindUnanswered is_answered unheard = (is_answered ≡ false) ⊎ (0 < length
 -- A counter is told nothing more, but at most that the office closes.
 abbrev pub IsToldNoMore : List Response → List Response → Type 0
 IsToldNoMore before told = (told ≡ before) ⊎ (told ≡ before ++ response.Closing ∷ [])
-
--- The conversation with a counter is over, whose requests went by this feed: of the responses those
--- that tell of entries are the responses to the answers that were collected, in order, each once;
--- each entry that it asked to post was submitted, or answered otherwise, or nobody took it up; and
--- the references of those that were submitted are above.
-pub record IsOver (feed : FeedState) (conversation : ConversationState) : Type 0 where
-  pub told : answers_among conversation.told ≡ map response_of feed.collected
-  pub said : ∥ WereTakenUp conversation.said conversation.told (entries_of feed.asked)
-      conversation.unheard ∥₁
-  pub above : AreAbove feed.asked feed.collected
-
--- a conversation that is over stays so, whatever its feed
-abbrev pub StaysOver : ConversationState → ConversationState → Type 0
-StaysOver old new = (feed : FeedState) → IsOver feed old → IsOver feed new
-
--- The same of what became of its requests: those whose answers were collected, those whose answers
--- weren't, and those without an answer. The references above 0 of those that were posted rise.
-pub record IsHeard (conversation : ConversationState) (collected : List Answer)
-    (day : StationDay) : Type 0 where
-  pub told : answers_among conversation.told ≡ map response_of collected
-  pub said : ∥ WereTakenUp conversation.said conversation.told
-      (entries_of (asks_of collected ++ asks_of day.answers.items ++ day.unanswered.items))
-      conversation.unheard ∥₁
-  pub rising : PostsRising (collected ++ day.answers.items)

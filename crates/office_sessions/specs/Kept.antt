@@ -11,7 +11,8 @@ use Rattle.office_day.specs.declared.seated.StationRemains.{StationRemains}
 use Rattle.office_day.specs.declared.reconciled.StationDay.{StationDay}
 use Rattle.office_day.specs.Archive.{Archive}
 use Rattle.office_day.specs.Spans.{AreSpans, Rest, Span, WasKeptOpen, WasAbandoned}
-use Rattle.office_sessions.specs.Conversation.{ConversationState, IsHeard}
+use Rattle.office_sessions.specs.Conversation.{ConversationState}
+use Rattle.office_sessions.specs.Over.{IsHeard}
 use Rattle.office_sessions.specs.declared.counter.Unserved.{Unserved}
 use Rattle.office_sessions.specs.declared.counter.Unserved.TheVariants as unserved
 use Rattle.office_sessions.specs.declared.open_office.LiveRefusal.{LiveRefusal}

@@ -1,6 +1,9 @@
 pub mod Conversation
 pub mod Kept
 pub mod Looked
+pub mod Over
+pub mod Reading
+pub mod Replies
 pub mod Rising
 pub mod Session
 pub mod OfficeStatus

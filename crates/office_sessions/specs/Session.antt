@@ -20,3 +20,18 @@ pub record TellsNothing (old new : Session) : Type 0 where
   pub next : new.next ≡ old.next
   pub unanswered : new.postings.unanswered ≡ old.postings.unanswered
   pub room : new.responses ≡ old.responses
+
+-- What it knows of earlier references stays.
+pub record KeepsLearned (old new : Session) : Type 0 where
+  pub station : new.station ≡ old.station
+  pub earlier : new.earlier ≡ old.earlier
+  pub posted : new.postings.posted ≡ old.postings.posted
+  pub out_of_sight : new.out_of_sight ≡ old.out_of_sight
+
+-- What it is looking for stays too.
+pub record KeepsLooking (old new : Session) : Type 0 where
+  pub learned : KeepsLearned old new
+  pub search : new.search ≡ old.search
+  pub look : new.look ≡ old.look
+  pub limit : new.limit ≡ old.limit
+  pub first : new.first ≡ old.first

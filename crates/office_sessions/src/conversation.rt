@@ -2,10 +2,13 @@
 ghost use Rattle.std.specs.Prelude.{◌≡◌, ◌⊎◌, ◌<◌, ◌≤◌, [], ◌∷◌, ◌++◌, false, length, true, IfOk};
 ghost use Rattle.std.specs.Prelude.{IsTrue, OnOk};
 ghost use Rattle.office_sessions.specs.Conversation.{pending, posting_of, IsOther};
-ghost use Rattle.office_sessions.specs.Conversation.{IsBehindUnanswered, StaysOver, IsToldNoMore};
+ghost use Rattle.office_sessions.specs.Replies.{IsPlain};
+ghost use Rattle.office_sessions.specs.Conversation.{IsBehindUnanswered, IsToldNoMore};
+ghost use Rattle.office_sessions.specs.Over.{StaysOver};
 
 use crate::messages::Message;
 use crate::recent::Recent;
+use crate::replies::Reply;
 use crate::responses::Response;
 use crate::session::CAPACITY;
 use crate::wakers::Wakers;
@@ -31,8 +34,10 @@ const PAUSE: u64 = 5;
 /// too late, and what the counter wasn't told.
 #[derive(Drop)]
 pub struct Conversation {
+    station: u8,
     messages: Consumer<Message>,
     responses: Producer<Response>,
+    replies: Consumer<Reply>,
     unheard: Vec<Entry>,
     recent: Recent,
     wakers: Arc<Wakers>,
@@ -50,8 +55,10 @@ impl Model for Conversation {
     ghost Value = { ConversationState };
 
     ghost view = { λ c. record {
+      station = c.station;
       said = received c.messages;
       told = sent c.responses;
+      heard = received c.replies;
       unheard = c.unheard.items;
       is_silent = c.is_silent;
     } };
@@ -62,23 +69,29 @@ impl Conversation {
 
     /// With these ends of the rings, and these entries that nobody submitted.
     pub(crate) fn new(
+        station: u8,
         messages: Consumer<Message>,
         responses: Producer<Response>,
+        replies: Consumer<Reply>,
         unheard: Vec<Entry>,
         recent: Recent,
         wakers: Arc<Wakers>,
         is_told_closing: bool,
     ) -> Conversation
         ensures { result ≡ record {
+          station = station;
           said = received messages;
           told = sent responses;
+          heard = received replies;
           unheard = unheard.items;
           is_silent = is_told_closing;
         } }
     {
         Conversation {
+            station,
             messages,
             responses,
+            replies,
             unheard,
             recent,
             wakers,
@@ -189,6 +202,7 @@ impl Conversation {
     // no more of that kind.
     fn tell(&mut self, response: Response)
         requires other { IsOther response }
+        requires plain { IsPlain response }
         ensures over { StaysOver self.old self.new }
         ensures no_more { self.old.is_silent ≡ true → self.new ≡ self.old }
         ensures told { (self.new.told ≡ self.old.told ++ response ∷ [])
@@ -206,6 +220,7 @@ impl Conversation {
     // Hands a response that is no answer to the counter's writer, if there is a place for it.
     fn hand_on(&mut self, response: Response) -> bool
         requires other { IsOther response }
+        requires plain { IsPlain response }
         ensures over { StaysOver self.old self.new }
         ensures told { IsTrue result → self.new.told ≡ self.old.told ++ response ∷ [] }
         ensures untold { result ≡ false → self.new.told ≡ self.old.told }

@@ -1,15 +1,16 @@
 //! Counters, and the threads that serve them.
 ghost use Rattle.std.specs.Prelude.{◌≡◌, [], IfOk};
-ghost use Rattle.rtrb.specs.Ring.{producer_capacity};
+ghost use Rattle.rtrb.specs.Ring.{producer_capacity, received};
 
 use crate::identity::Identity;
 use crate::reader::Reader;
 use crate::recent::Recent;
+use crate::replies::Reply;
 use crate::scheduler::Scheduler;
 use crate::session::{CAPACITY, Session};
 use crate::wakers::Wakers;
 use crate::writer::Writer;
-use rtrb::RingBuffer;
+use rtrb::{Consumer, RingBuffer};
 use station_desk::Feed;
 use std::alloc::{AllocError, Global};
 use std::io::{Read, Write};
@@ -96,6 +97,7 @@ pub(crate) fn begin_session<
     };
     let (said, messages) = RingBuffer::new(alloc, CAPACITY)?;
     let (responses, told) = RingBuffer::new(alloc, CAPACITY)?;
+    let replies = connect(rt, alloc, station, scheduler)?;
     let wakers = new_wakers(alloc)?;
     let reader = Reader::new(input, LineCutter::new(alloc)?, said, awaits_hello);
     start_reader(rt, reader, &wakers, scheduler)?;
@@ -107,11 +109,26 @@ pub(crate) fn begin_session<
         since,
         messages,
         responses,
+        replies,
         feed,
         wakers,
         recent,
         closes_at_end,
     ))
+}
+
+// Where what comes of what is asked at a station comes in. One thing is asked at a time.
+fn connect<R: Wait>(
+    rt: &R,
+    alloc: Global,
+    station: u8,
+    scheduler: &Scheduler,
+) -> Result<Consumer<Reply>, AllocError>
+    ensures nothing { IfOk result (λ replies. received replies ≡ []) }
+{
+    let (replies, heard) = RingBuffer::new(alloc, 1)?;
+    scheduler.connect(rt, station, replies);
+    Ok(heard)
 }
 
 // What wakes the threads of one counter.
@@ -130,9 +147,12 @@ pub(crate) fn empty_session(alloc: Global, station: u8, feed: Feed) -> Result<Se
 {
     let (_, messages) = RingBuffer::new(alloc, 0)?;
     let (responses, _) = RingBuffer::new(alloc, 0)?;
+    let (_, replies) = RingBuffer::new(alloc, 0)?;
     let wakers = new_wakers(alloc)?;
     let recent = Recent::new(alloc)?;
-    Ok(Session::new(station, 0, messages, responses, feed, wakers, recent, false))
+    Ok(Session::new(
+        station, 0, messages, responses, replies, feed, wakers, recent, false,
+    ))
 }
 
 // Starts the thread that reads; nobody waits for its end.

@@ -25,6 +25,7 @@ mod postings;
 mod reader;
 mod recent;
 mod recess;
+mod replies;
 mod responses;
 mod scheduler;
 mod search;

@@ -1,6 +1,6 @@
 //! A look at what was posted at a counter, step by step.
-ghost use Rattle.std.specs.Prelude.{◌≡◌, ◌≢◌, ◌⊎◌, ◌↔◌, ◌<◌, ◌≤◌, ℕ, false, IfOk, IfErr, IfSome};
-ghost use Rattle.std.specs.Prelude.{Some, None};
+ghost use Rattle.std.specs.Prelude.{◌≡◌, ◌≢◌, ◌⊎◌, ◌↔◌, ◌<◌, ◌≤◌, ℕ, List, false, IfOk, IfErr};
+ghost use Rattle.std.specs.Prelude.{IfSome, Some, None};
 ghost use Rattle.sector_device.specs.Crash.{LooksOnly};
 ghost use Rattle.gate_journal.specs.Journal.{after_reads};
 ghost use Rattle.journal_recovery.specs.LookBack.{FitsSlots};
@@ -8,7 +8,10 @@ ghost use Rattle.turn_clerk.specs.declared.refusals.FindRefusal.{FindRefusal};
 ghost use Rattle.turn_ledger.specs.Entry.{reference_of};
 ghost use Rattle.office_sessions.specs.Conversation.{own_question};
 ghost use Rattle.office_sessions.specs.Looked.{seen_with, seen_farther, GoesOnBy, Meets};
-ghost use Rattle.office_sessions.specs.Looked.{BeginsAnew, HasSeen, IsAbove, IsUnder};
+ghost use Rattle.office_sessions.specs.Looked.{BeginsAnew, HasSeen, IsAbove};
+ghost use Rattle.office_sessions.specs.Replies.{IsUnknown, IsUsed, IsJudgedBy, HasSeenLast};
+ghost use Rattle.office_sessions.specs.Replies.{IsWithin};
+ghost use Rattle.office_sessions.specs.declared.replies.Reply.{Reply};
 
 use crate::responses::Judgement;
 use gate_journal::Journal;
@@ -43,6 +46,18 @@ pub struct LookAnswer {
     pub posting: Option<Posting>,
     /// The number of the record from which on all were looked at.
     pub since: u64,
+}
+
+impl LookAnswer {
+    // The greatest reference that was seen; 0 if none was.
+    pub(crate) fn greatest(&self) -> u64
+        ensures { IsWithin result self.now }
+    {
+        match self.posting {
+            Some(last) => last.entry.reference(),
+            None => 0,
+        }
+    }
 }
 
 /// The reference and the number of its batch; or that there is none; or from which batch on there
@@ -207,9 +222,12 @@ pub(crate) fn judge(entry: &Entry, seen: &LookAnswer) -> Judgement
     ensures stands { (number : ℕ) → (result ≡ Judgement.Posted number)
         ↔ (seen.now.posting ≡ Some (record { number = number; entry = entry.now })) }
     ensures unknown { (since : ℕ) → (result ≡ Judgement.Unknown since)
-        ↔ (0 < since) × (since ≡ seen.now.since)
-        × (IsUnder (reference_of entry.now) seen.now.posting → ⊥) }
+        ↔ IsUnknown entry.now seen.now since }
+    ensures used { result ≡ Judgement.Reference → IsUsed entry.now seen.now }
     ensures seen { (refusal : FindRefusal) → result ≢ Judgement.NotSeen refusal }
+    ensures by { (station : ℕ) (heard : List Reply)
+        → HasSeenLast station (reference_of entry.now) seen.now heard
+        → IsJudgedBy station entry.now result heard }
 {
     match seen.posting {
         Some(found) if found.entry == *entry => Judgement::Posted(found.number),

@@ -3,7 +3,7 @@ ghost use Rattle.std.specs.Prelude.{◌≡◌, map, IfOk, IfErr};
 ghost use Rattle.std.specs.List.{AllZip};
 ghost use Rattle.office_day.specs.Day.{AreReconciled};
 ghost use Rattle.office_day.specs.Spans.{rest_of, span_of};
-ghost use Rattle.office_sessions.specs.Conversation.{IsOver};
+ghost use Rattle.office_sessions.specs.Over.{IsOver};
 ghost use Rattle.office_sessions.specs.Kept.{WasKeptFor, HandsBack, stands_with};
 
 use crate::conversation::Conversation;

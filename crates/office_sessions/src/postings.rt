@@ -94,6 +94,7 @@ impl Postings {
         ensures collected { IfSome result (λ answer.
             self.new.feed.collected ≡ self.old.feed.collected ++ answer ∷ []) }
         ensures counted { IsSome result → self.new.unanswered + 1 ≡ self.old.unanswered }
+        ensures never_falls { self.old.posted ≤ self.new.posted }
         ensures none { result ≡ None → (self.new.feed.collected ≡ self.old.feed.collected)
             × (self.new.unanswered ≡ self.old.unanswered) }
     {

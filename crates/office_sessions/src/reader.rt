@@ -1,4 +1,11 @@
 //! The thread that reads what a counter says.
+ghost use Rattle.std.specs.Prelude.{◌≡◌, ℕ, List, [], ◌∷◌, ◌++◌, Some, None};
+ghost use Rattle.rtrb.specs.Ring.{sent};
+ghost use Rattle.text_grammar.specs.declared.cutting.Cut.TheVariants.{Line, Nothing};
+ghost use Rattle.text_grammar.specs.Requests.{SpellsRequest};
+ghost use Rattle.text_grammar.specs.Script.{words_of};
+ghost use Rattle.office_sessions.specs.Reading.{Says, HandsOn};
+
 use crate::messages::{Message, WrongLine};
 use crate::scheduler::Scheduler;
 use crate::wakers::Wakers;
@@ -95,14 +102,23 @@ impl<I: Read + Drop> Reader<I> {
     }
 
     // Takes a line, if one has ended.
-    fn take_cut<R: Wait>(&mut self, rt: &R, wakers: &Wakers, scheduler: &Scheduler, cut: Cut) {
+    fn take_cut<R: Wait>(&mut self, rt: &R, wakers: &Wakers, scheduler: &Scheduler, cut: Cut)
+        ensures line { (line : List ℕ) → cut ≡ Line → self.old.cutter.ended ≡ Some line
+            → HandsOn self.old.awaits_hello line (sent self.old.messages) (sent self.new.messages) }
+        ensures nothing { cut ≡ Nothing → sent self.new.messages ≡ sent self.old.messages }
+    {
         if let Some(message) = self.message(cut) {
             self.hand_on(rt, wakers, scheduler, message);
         }
     }
 
     // What the line says that has ended; nothing where it has no words, or none has ended.
-    fn message(&mut self, cut: Cut) -> Option<Message> {
+    fn message(&mut self, cut: Cut) -> Option<Message>
+        ensures says { (line : List ℕ) → cut ≡ Line → self.old.cutter.ended ≡ Some line
+            → Says self.old.awaits_hello line result }
+        ensures nothing { cut ≡ Nothing → result ≡ None }
+        ensures messages { self.new.messages ≡ self.old.messages }
+    {
         if cut == Cut::Nothing {
             return None;
         }
@@ -118,7 +134,11 @@ impl<I: Read + Drop> Reader<I> {
     }
 
     // The request, unless its client did not say hello, and has to.
-    fn heard(&mut self, request: Request) -> Message {
+    fn heard(&mut self, request: Request) -> Message
+        ensures says { (line : List ℕ) → SpellsRequest (words_of line) request
+            → Says self.old.awaits_hello line (Some result) }
+        ensures messages { self.new.messages ≡ self.old.messages }
+    {
         if matches!(request, Request::Hello { .. }) {
             self.awaits_hello = false;
         }
@@ -129,13 +149,9 @@ impl<I: Read + Drop> Reader<I> {
     }
 
     // Hands a message to the dispatcher, and waits for a place where there is none.
-    fn hand_on<R: Wait>(
-        &mut self,
-        rt: &R,
-        wakers: &Wakers,
-        scheduler: &Scheduler,
-        message: Message,
-    ) {
+    fn hand_on<R: Wait>(&mut self, rt: &R, wakers: &Wakers, scheduler: &Scheduler, message: Message)
+        ensures { sent self.new.messages ≡ sent self.old.messages ++ message ∷ [] }
+    {
         for _ in rt.forever() {
             if self.messages.push(message).is_ok() {
                 scheduler.wake_dispatcher();

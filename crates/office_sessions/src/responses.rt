@@ -1,9 +1,13 @@
 //! What counters are told.
-ghost use Rattle.std.specs.Prelude.{◌≡◌};
+ghost use Rattle.std.specs.Prelude.{◌≡◌, ℕ, List};
+ghost use Rattle.station_desk.specs.declared.errand.Question.{Question};
+ghost use Rattle.station_desk.specs.declared.errand.Report.{Report};
 ghost use Rattle.text_grammar.specs.declared.requests.Request.TheVariants.{Balance};
 ghost use Rattle.office_sessions.specs.declared.messages.Message.TheVariants.{Asked};
 ghost use Rattle.office_sessions.specs.Conversation.{is_answer, told_of_balance, IsOther};
 ghost use Rattle.office_sessions.specs.Conversation.{IsResponseTo};
+ghost use Rattle.office_sessions.specs.Replies.{CameLast, IsToldBy};
+ghost use Rattle.office_sessions.specs.declared.replies.Reply.{Reply};
 
 use crate::look::LookAnswer;
 use crate::messages::WrongLine;
@@ -138,6 +142,9 @@ impl Response {
         ensures told { result ≡ told_of_balance account answer }
         ensures right { IsResponseTo (Asked (Balance account)) result }
         ensures other { IsOther result }
+        ensures by { (station : ℕ) (heard : List Reply)
+            → CameLast (Reply.Report (Question.Balance account) (Report.Balance answer)) heard
+            → IsToldBy station result heard }
     {
         match answer {
             Ok(amount) => Response::Balance { account, amount },

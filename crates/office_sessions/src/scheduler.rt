@@ -4,7 +4,9 @@
 //! may ask after each turn; from then on one station alone is privileged, and which one follows
 //! from the last move, so that it alone is woken.
 use crate::recess::{ArchiveState, Wish, WishOutcome};
+use crate::replies::Reply;
 use four_state::Rule;
+use rtrb::Producer;
 use station_desk::{Errand, Gate, Question, Report};
 use std::alloc::{AllocError, Global};
 use std::sync::atomic::{AtomicBool, AtomicU64, Ordering};
@@ -26,14 +28,25 @@ const PAUSE: u64 = 5;
 /// refuse a thread.
 const TRIES: u64 = 2;
 
-/// What is asked at a station, and what was reported.
+/// What is asked at a station, and where what comes of it goes.
 #[derive(Drop)]
 struct Exchange {
     question: Option<Question>,
-    report: Option<Report>,
-    // What is wanted there of the next recess, and what came of that.
+    // What the station asks the office now.
+    asked: Option<Question>,
+    // What is wanted there of the next recess.
     wish: Option<Wish>,
-    came: Option<WishOutcome>,
+    // None if the station has no counter.
+    replies: Option<Producer<Reply>>,
+}
+
+impl Exchange {
+    // Hands on what came. One thing is asked at a time, so that there is a place for it.
+    fn reply(&mut self, reply: Reply) {
+        if let Some(replies) = &mut self.replies {
+            let _ = replies.push(reply);
+        }
+    }
 }
 
 /// What wakes one station.
@@ -54,9 +67,9 @@ impl Waker {
             has_begun: AtomicBool::new(false),
             exchange: Mutex::new(Exchange {
                 question: None,
-                report: None,
+                asked: None,
                 wish: None,
-                came: None,
+                replies: None,
             }),
         }
     }
@@ -64,6 +77,13 @@ impl Waker {
     fn let_ask(&self) {
         self.may_ask.store(true, Ordering::SeqCst);
         self.parker.unpark();
+    }
+
+    // What the station is to ask the office, once.
+    fn take_question<R: Wait>(&self, rt: &R) -> Option<Question> {
+        let mut exchange = self.exchange.lock(rt);
+        exchange.asked = exchange.question.take();
+        exchange.asked
     }
 }
 
@@ -144,18 +164,19 @@ impl Scheduler {
         }
     }
 
+    /// What comes of what is asked at a station goes there.
+    pub(crate) fn connect<R: Wait>(&self, rt: &R, station: u8, replies: Producer<Reply>) {
+        if let Some(waker) = self.wakers.get(station as usize) {
+            waker.exchange.lock(rt).replies = Some(replies);
+        }
+    }
+
     /// Puts a question to a station; its report comes later.
     pub(crate) fn put_question<R: Wait>(&self, rt: &R, station: u8, question: Question) {
         if let Some(waker) = self.wakers.get(station as usize) {
             waker.exchange.lock(rt).question = Some(question);
             waker.parker.unpark();
         }
-    }
-
-    /// What a station has reported, once.
-    pub(crate) fn take_report<R: Wait>(&self, rt: &R, station: u8) -> Option<Report> {
-        let waker = self.wakers.get(station as usize)?;
-        waker.exchange.lock(rt).report.take()
     }
 
     /// Calls a recess for what is wanted at a station.
@@ -186,14 +207,8 @@ impl Scheduler {
     /// Tells a station what came of its wish.
     pub(crate) fn tell<R: Wait>(&self, rt: &R, station: u8, came: WishOutcome) {
         if let Some(waker) = self.wakers.get(station as usize) {
-            waker.exchange.lock(rt).came = Some(came);
+            waker.exchange.lock(rt).reply(Reply::Outcome(came));
         }
-    }
-
-    /// What came of the wish of a station, once.
-    pub(crate) fn take_what_came<R: Wait>(&self, rt: &R, station: u8) -> Option<WishOutcome> {
-        let waker = self.wakers.get(station as usize)?;
-        waker.exchange.lock(rt).came.take()
     }
 
     /// How many stations there are.
@@ -343,7 +358,7 @@ impl Scheduler {
         if self.stopping.load(Ordering::SeqCst) {
             return Some(Errand::Turn);
         }
-        if let Some(question) = waker.exchange.lock(rt).question.take() {
+        if let Some(question) = waker.take_question(rt) {
             return Some(Errand::Ask(question));
         }
         if self.waiting.load(Ordering::SeqCst) == 0
@@ -404,7 +419,10 @@ impl Gate for Scheduler {
 
     fn reported<R: Wait>(&self, rt: &R, station: u8, report: Report) {
         if let Some(waker) = self.wakers.get(station as usize) {
-            waker.exchange.lock(rt).report = Some(report);
+            let mut exchange = waker.exchange.lock(rt);
+            if let Some(question) = exchange.asked.take() {
+                exchange.reply(Reply::Report { question, report });
+            }
         }
         self.wake_dispatcher();
     }

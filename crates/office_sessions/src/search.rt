@@ -1,10 +1,13 @@
 //! A search for a reference, step by step.
-ghost use Rattle.std.specs.Prelude.{◌≡◌, ◌↔◌, true, false, IsTrue, IfOk, IfSome, Some};
+ghost use Rattle.std.specs.Prelude.{◌≡◌, ◌↔◌, ℕ, List, true, false, IsTrue, IfOk, IfErr, IfSome};
+ghost use Rattle.std.specs.Prelude.{Some};
 ghost use Rattle.text_grammar.specs.declared.requests.Request.TheVariants.{Find};
 ghost use Rattle.office_sessions.specs.declared.messages.Message.TheVariants.{Asked};
 ghost use Rattle.office_sessions.specs.Conversation.{IsOther, told_of_posting, told_of_step};
-ghost use Rattle.office_sessions.specs.Conversation.{counted_with, found_with, IsResponseTo};
-ghost use Rattle.office_sessions.specs.Conversation.{MeetsAt, EndsAt, IsLast};
+ghost use Rattle.office_sessions.specs.Conversation.{counted_with, IsResponseTo, IsLast};
+ghost use Rattle.office_sessions.specs.Replies.{HasSearched, SearchesOn, CameLast, IsToldBy};
+ghost use Rattle.office_sessions.specs.Replies.{step_of_search};
+ghost use Rattle.office_sessions.specs.declared.replies.Reply.{Reply};
 
 use crate::responses::Response;
 use station_desk::Question;
@@ -13,6 +16,8 @@ use turn_clerk::{FindRefusal, Posting, Reached, SearchStep, SearchTarget};
 /// How far the search is that a counter asked for last.
 #[derive(Clone, Copy, Debug)]
 pub(crate) struct Search {
+    // What is looked for.
+    reference: u64,
     // The number of the record that is looked at next.
     from: u64,
     // The number behind the last record that is looked at, which the first step that looks at
@@ -50,35 +55,51 @@ impl Step {
 }
 
 impl Search {
-    /// A search that begins with the first record, and goes up to the last that there is at its
-    /// first step.
-    pub(crate) const BEGINNING: Search = Search {
-        from: 0,
-        end: u64::MAX,
-        count: 0,
-    };
+    /// A search for a reference that begins with the first record, and goes up to the last that
+    /// there is at its first step.
+    pub(crate) fn of(reference: u64) -> Search
+        ensures begins { (heard : List Reply) → HasSearched heard result }
+        ensures reference { result.reference ≡ reference }
+    {
+        Search {
+            reference,
+            from: 0,
+            end: u64::MAX,
+            count: 0,
+        }
+    }
+
+    /// What it looks for.
+    pub(crate) fn reference(&self) -> u64
+        ensures { result ≡ self.now.reference }
+    {
+        self.reference
+    }
 
     /// What is asked next.
-    pub(crate) fn question(&self, reference: u64) -> Question
-        ensures { result
-            ≡ Question.Search (SearchTarget.Reference reference) self.now.from self.now.end }
+    pub(crate) fn question(&self) -> Question
+        ensures { result ≡ Question.Search (SearchTarget.Reference self.now.reference)
+            self.now.from self.now.end }
     {
         Question::Search {
-            sought: SearchTarget::Reference(reference),
+            sought: SearchTarget::Reference(self.reference),
             from: self.from,
             end: self.end,
         }
     }
 
     /// Goes on by what was found.
-    pub(crate) fn go_on(&mut self, reference: u64, found: Result<SearchStep, FindRefusal>) -> Step
+    pub(crate) fn go_on(&mut self, found: Result<SearchStep, FindRefusal>) -> Step
         ensures other { IfSome result.response IsOther }
-        ensures right { IfSome result.response (IsResponseTo (Asked (Find reference))) }
-        ensures meets { IfOk found (λ step. MeetsAt self.old.from step.reached self.new.from) }
-        ensures moment { IfOk found (λ step. EndsAt self.old.end step.reached self.new.end) }
-        ensures told { result.response ≡ told_of_step self.old.count reference found }
-        ensures counted { self.new.count ≡ found_with self.old.count found }
+        ensures right { IfSome result.response
+            (IsResponseTo (Asked (Find self.old.reference))) }
+        ensures on { IfOk found (λ step. SearchesOn self.old step self.new) }
+        ensures failed { IfErr found (λ refusal. self.new ≡ self.old) }
+        ensures told { result.response ≡ told_of_step self.old.count self.old.reference found }
         ensures last { IsTrue result.is_last ↔ IsLast found }
+        ensures by { (station : ℕ) (heard : List Reply) → ∥ HasSearched heard self.old ∥₁
+            → CameLast (step_of_search self.old found) heard
+            → IfSome result.response (λ one. IsToldBy station one heard) }
     {
         let step = match found {
             Ok(step) => step,
@@ -88,7 +109,7 @@ impl Search {
             Reached::Further { number, end, .. } => {
                 self.from = number;
                 self.end = end;
-                self.tell(reference, step.posting)
+                self.tell(step.posting)
             }
             Reached::LookingBack => Step::UNDER_WAY,
             Reached::All { since, .. } => Step::last(Response::FoundInAll {
@@ -99,9 +120,10 @@ impl Search {
     }
 
     // Tells of the record that was found, if one was.
-    fn tell(&mut self, reference: u64, posting: Option<Posting>) -> Step
-        ensures told { result.response ≡ told_of_posting reference posting }
+    fn tell(&mut self, posting: Option<Posting>) -> Step
+        ensures told { result.response ≡ told_of_posting self.old.reference posting }
         ensures counted { self.new.count ≡ counted_with self.old.count posting }
+        ensures reference { self.new.reference ≡ self.old.reference }
         ensures from { self.new.from ≡ self.old.from }
         ensures end { self.new.end ≡ self.old.end }
         ensures goes_on { result.is_last ≡ false }
@@ -113,7 +135,7 @@ impl Search {
         Step {
             response: Some(Response::Found {
                 number: posting.number,
-                reference,
+                reference: self.reference,
             }),
             is_last: false,
         }

@@ -1,14 +1,18 @@
 //! What the dispatcher does for one counter.
-ghost use Rattle.std.specs.Prelude.{◌≡◌, ◌≤◌, [], map};
+ghost use Rattle.std.specs.Prelude.{◌≡◌, ◌≢◌, ◌≤◌, ◌^◌, ◌-◌, [], map, IfSome};
 ghost use Rattle.rtrb.specs.Ring.{known_free, sent, received};
 ghost use Rattle.station_desk.specs.Messages.{entries_of};
 ghost use Rattle.office_sessions.specs.Conversation.{response_of, answers_among, pending};
 ghost use Rattle.office_sessions.specs.Conversation.{WereTakenUp};
+ghost use Rattle.office_sessions.specs.Looked.{earlier_by};
+ghost use Rattle.office_sessions.specs.Replies.{AreToldBy, HasSearched, HasLooked, IsLearned, Once};
+ghost use Rattle.office_sessions.specs.Replies.{HasSeenLast, nothing_since};
 
-use crate::look::Look;
+use crate::look::{Look, LookAnswer};
 use crate::messages::Message;
 use crate::postings::Postings;
 use crate::recent::Recent;
+use crate::replies::Reply;
 use crate::responses::Response;
 use crate::search::Search;
 use crate::wakers::Wakers;
@@ -36,11 +40,25 @@ enum Earlier {
     Known,
 }
 
+impl Earlier {
+    // As a look at all that was posted says.
+    fn by(seen: &LookAnswer) -> Earlier
+        ensures by { result ≡ earlier_by seen.now }
+        ensures known { result ≢ Earlier.Unlooked }
+    {
+        match (seen.posting, seen.since) {
+            (None, 1..) => Earlier::OutOfSight(seen.since),
+            (Some(_), _) | (None, 0) => Earlier::Known,
+        }
+    }
+}
+
 /// A counter as the dispatcher sees it. What was submitted is what the counter's messages asked to
 /// post, in order, but for what was answered otherwise for the sake of its reference, and for the
 /// message that is handled next; and what its writer was handed of that are the answers that were
-/// collected, in order, each once. For each request that is submitted a place is kept for the
-/// response to it, so that a counter that reads nothing holds up nobody but itself.
+/// collected, in order, each once. What else it was told of the ledger is right by what was replied
+/// to the session. For each request that is submitted a place is kept for the response to it, so
+/// that a counter that reads nothing holds up nobody but itself.
 #[derive(Drop)]
 pub(crate) struct Session {
     station: u8,
@@ -48,6 +66,8 @@ pub(crate) struct Session {
     first: u64,
     messages: Consumer<Message>,
     responses: Producer<Response>,
+    // What came of what was asked of the station, and of recesses.
+    replies: Consumer<Reply>,
     pub(crate) postings: Postings,
     earlier: Earlier,
     wakers: Arc<Wakers>,
@@ -58,7 +78,9 @@ pub(crate) struct Session {
     // Whether the station was asked for it, or a recess was called.
     is_asked: bool,
     search: Search,
+    // The look that is under way, at the own postings up to a reference.
     look: Look,
+    limit: u64,
     // Where the records in sight begin, in which a look saw nothing, and which goes on in the
     // archive.
     out_of_sight: Option<u64>,
@@ -69,6 +91,13 @@ pub(crate) struct Session {
     ghost said: { ∥ WereTakenUp (received messages) (sent responses)
         (entries_of postings.feed.asked) (pending next) ∥₁ },
     ghost told: { answers_among (sent responses) ≡ map response_of postings.feed.collected },
+    ghost told_by: { AreToldBy station (sent responses) (received replies) },
+    ghost searched: { ∥ HasSearched (received replies) search ∥₁ },
+    ghost looked: { ∥ HasLooked station limit (received replies) look ∥₁ },
+    ghost far: { ∥ IfSome out_of_sight (λ since.
+        Once (HasSeenLast station (2 ^ 64 - 1) (nothing_since since)) (received replies)) ∥₁ },
+    ghost learned: { ∥ IsLearned station (received replies) (sent responses)
+        (entries_of postings.feed.asked) postings.posted earlier ∥₁ },
 }
 
 impl Session {
@@ -78,6 +107,7 @@ impl Session {
         first: u64,
         messages: Consumer<Message>,
         responses: Producer<Response>,
+        replies: Consumer<Reply>,
         feed: Feed,
         wakers: Arc<Wakers>,
         recent: Recent,
@@ -85,6 +115,7 @@ impl Session {
     ) -> Session
         requires nothing_said { received messages ≡ [] }
         requires nothing_told { sent responses ≡ [] }
+        requires nothing_heard { received replies ≡ [] }
         requires nothing_asked { feed.asked ≡ [] }
         requires nothing_collected { feed.collected ≡ [] }
         ensures feed { result.postings.feed ≡ feed }
@@ -98,19 +129,22 @@ impl Session {
             first,
             messages,
             responses,
+            replies,
             postings: Postings::new(feed),
             earlier: Earlier::Unlooked,
             wakers,
             closes_at_end,
             next: None,
             is_asked: false,
-            search: Search::BEGINNING,
+            search: Search::of(0),
             look: Look::starting_at(first),
+            limit: u64::MAX,
             out_of_sight: None,
             recent,
             is_told_closing: false,
         }
     }
+
     /// What wakes its threads.
     pub(crate) fn wakers(&self) -> Result<Arc<Wakers>, AllocError> {
         Arc::try_clone(&self.wakers)

@@ -1,12 +1,15 @@
 //! What a counter asks that is no entry: of its station, or of a recess.
 ghost use Rattle.std.specs.Prelude.{◌≡◌, IfSome, Some};
+ghost use Rattle.rtrb.specs.Ring.{received};
 ghost use Rattle.text_grammar.specs.declared.requests.Request.TheVariants.{Balance, Find, Archive};
 ghost use Rattle.text_grammar.specs.declared.requests.Request.TheVariants.{Copy, Status};
 ghost use Rattle.office_sessions.specs.declared.messages.Message.TheVariants.{Asked};
 ghost use Rattle.office_sessions.specs.Conversation.{IsOther, IsAskedBy, IsResponseTo};
-ghost use Rattle.office_sessions.specs.Session.{HasPlace, OnlyTells, TellsNothing};
+ghost use Rattle.office_sessions.specs.Replies.{CameLast, IsToldBy};
+ghost use Rattle.office_sessions.specs.Session.{HasPlace, OnlyTells, TellsNothing, KeepsLooking};
 
 use crate::recess::{ArchiveState, Wish, WishOutcome};
+use crate::replies::Reply;
 use crate::responses::Response;
 use crate::scheduler::Scheduler;
 use crate::search::{Search, Step};
@@ -28,16 +31,37 @@ impl Session {
         requires right { IsAskedBy self.old.next self.old.search self.old.station
             self.old.look.from question }
         ensures stays { TellsNothing self.old self.new }
-        ensures station { self.new.station ≡ self.old.station }
+        ensures keeps { KeepsLooking self.old self.new }
+        ensures last { IfSome result (λ report.
+            CameLast (Reply.Report question report) (received self.new.replies)) }
     {
         if !self.is_asked {
             self.is_asked = true;
             scheduler.put_question(rt, self.station, question);
             return None;
         }
-        let report = scheduler.take_report(rt, self.station)?;
-        self.is_asked = false;
-        Some(report)
+        match self.hear()? {
+            Reply::Report {
+                question: asked,
+                report,
+            } if asked == question => {
+                self.is_asked = false;
+                Some(report)
+            }
+            Reply::Report { .. } | Reply::Outcome(_) => None,
+        }
+    }
+
+    // The next reply that has come, if there is one.
+    fn hear(&mut self) -> Option<Reply>
+        ensures stays { TellsNothing self.old self.new }
+        ensures keeps { KeepsLooking self.old self.new }
+        ensures last { IfSome result (λ reply. CameLast reply (received self.new.replies)) }
+    {
+        match self.replies.pop() {
+            Ok(reply) => Some(reply),
+            Err(_) => None,
+        }
     }
 
     // Tells what an account holds; false if that isn't known yet.
@@ -71,17 +95,20 @@ impl Session {
         requires next { self.old.next ≡ Some (Asked (Find reference)) }
         ensures stays { OnlyTells self.old self.new }
     {
-        let question = self.search.question(reference);
+        if self.search.reference() != reference {
+            self.search = Search::of(reference);
+        }
+        let question = self.search.question();
         let Some(Report::Searched(found)) = self.report(rt, scheduler, question) else {
             return false;
         };
-        let step = self.search.go_on(reference, found);
+        let step = self.search.go_on(found);
         self.tell_step(step);
         if step.is_last {
-            self.search = Search::BEGINNING;
+            self.search = Search::of(reference);
             return true;
         }
-        let question = self.search.question(reference);
+        let question = self.search.question();
         let _ = self.report(rt, scheduler, question);
         false
     }
@@ -95,15 +122,22 @@ impl Session {
     ) -> Option<WishOutcome>
         requires behind { self.old.postings.unanswered ≡ 0 }
         ensures stays { TellsNothing self.old self.new }
+        ensures keeps { KeepsLooking self.old self.new }
+        ensures last { IfSome result (λ came.
+            CameLast (Reply.Outcome came) (received self.new.replies)) }
     {
         if !self.is_asked {
             self.is_asked = true;
             scheduler.call_recess(rt, self.station, wish);
             return None;
         }
-        let came = scheduler.take_what_came(rt, self.station)?;
-        self.is_asked = false;
-        Some(came)
+        match self.hear()? {
+            Reply::Outcome(came) => {
+                self.is_asked = false;
+                Some(came)
+            }
+            Reply::Report { .. } => None,
+        }
     }
 
     // Tells how far the archive is; false if that isn't known yet. Where it can't be kept the
@@ -170,6 +204,10 @@ impl Session {
         requires other { IfSome step.response IsOther }
         requires right { IfSome self.old.next (λ message.
             IfSome step.response (IsResponseTo message)) }
+        requires by { IfSome step.response (λ one.
+            IsToldBy self.old.station one (received self.old.replies)) }
+        ensures keeps { KeepsLooking self.old self.new }
+        ensures heard { self.new.replies ≡ self.old.replies }
         ensures stays { OnlyTells self.old self.new }
     {
         if let Some(response) = step.response {

@@ -1,7 +1,8 @@
 //! How a conversation with a counter ends.
 ghost use Rattle.std.specs.Prelude.{◌≡◌, ◌⊎◌, ◌<◌, length, IfOk};
 ghost use Rattle.rtrb.specs.Ring.{sent};
-ghost use Rattle.office_sessions.specs.Conversation.{pending, IsOver, IsToldNoMore};
+ghost use Rattle.office_sessions.specs.Conversation.{pending, IsToldNoMore};
+ghost use Rattle.office_sessions.specs.Over.{IsOver};
 
 use crate::conversation::{Conversation, listed};
 use crate::session::Session;
@@ -27,9 +28,11 @@ impl Session {
             → IfOk result (λ both. IsToldNoMore (sent self.responses) both.1.told) }
     {
         let Session {
+            station,
             next,
             messages,
             responses,
+            replies,
             postings,
             wakers,
             recent,
@@ -38,8 +41,10 @@ impl Session {
         } = self;
         let unheard = listed(alloc, next)?;
         let mut conversation = Conversation::new(
+            station,
             messages,
             responses,
+            replies,
             unheard,
             recent,
             wakers,

@@ -1,11 +1,14 @@
 //! How a counter's entries are posted: each reference once.
-ghost use Rattle.std.specs.Prelude.{◌≤◌, IfSome, ◌≡◌, ◌≢◌, ◌<◌, IsTrue, Some, None};
+ghost use Rattle.std.specs.Prelude.{◌≡◌, ◌≢◌, ◌^◌, ◌<◌, ◌≤◌, IsTrue, IfSome, IfOk, IfErr, Some};
+ghost use Rattle.std.specs.Prelude.{None, OnOk, IsOkAnd};
+ghost use Rattle.rtrb.specs.Ring.{received};
 ghost use Rattle.text_grammar.specs.declared.requests.Request.TheVariants.{Post, Last, First};
 ghost use Rattle.station_desk.specs.Rings.{StandsAt};
 ghost use Rattle.office_sessions.specs.declared.messages.Message.TheVariants.{Asked};
 ghost use Rattle.office_sessions.specs.Conversation.{MayLook};
 ghost use Rattle.office_sessions.specs.Looked.{earlier_by};
-ghost use Rattle.office_sessions.specs.Session.{HasPlace, OnlyTells, TellsNothing};
+ghost use Rattle.office_sessions.specs.Replies.{IsJudgedBy, HasSeenLast, HasSeenAll, FailedLast};
+ghost use Rattle.office_sessions.specs.Session.{HasPlace, OnlyTells, TellsNothing, KeepsLearned};
 ghost use Rattle.turn_ledger.specs.Entry.{reference_of};
 
 use crate::look::{Look, LookAnswer, farther, judge};
@@ -88,6 +91,7 @@ impl Session {
         ensures submitted { result ≡ Submission.Submitted → self.new.next ≡ None }
         ensures next { result ≢ Submission.Submitted → self.new.next ≡ self.old.next }
         ensures room { self.new.responses ≡ self.old.responses }
+        ensures too_far { result ≡ Submission.TooFar → 2 ^ 32 < reference_of entry }
         ensures unanswered { result ≢ Submission.Submitted
             → self.new.postings.unanswered ≡ self.old.postings.unanswered }
     {
@@ -122,6 +126,8 @@ impl Session {
     fn tell_judgement(&mut self, entry: Entry, judgement: Judgement) -> bool
         requires place { HasPlace self.old }
         requires next { self.old.next ≡ Some (Asked (Post entry)) }
+        requires by { ∥ IsJudgedBy self.old.station entry judgement
+            (received self.old.replies) ∥₁ }
         ensures told { IsTrue result }
         ensures feed { self.new.postings.feed ≡ self.old.postings.feed }
         ensures next { self.new.next ≡ None }
@@ -145,8 +151,14 @@ impl Session {
         requires behind { self.old.postings.unanswered ≡ 0 }
         requires right { MayLook self.old.next self.old.station limit }
         ensures stays { TellsNothing self.old self.new }
+        ensures learns { KeepsLearned self.old self.new }
+        ensures seen { IfSome result (λ told. IfOk told (λ seen.
+            HasSeenLast self.old.station limit seen (received self.new.replies))) }
+        ensures failed { IfSome result (λ told. IfErr told (λ refusal.
+            FailedLast refusal (received self.new.replies))) }
     {
-        let question = self.look.question(self.station, limit);
+        self.look_up_to(limit);
+        let question = self.look.question(self.station, self.limit);
         let Some(Report::Searched(step)) = self.report(rt, scheduler, question) else {
             return None;
         };
@@ -155,9 +167,21 @@ impl Session {
             self.look = Look::starting_at(self.first);
             return seen;
         }
-        let question = self.look.question(self.station, limit);
+        let question = self.look.question(self.station, self.limit);
         let _ = self.report(rt, scheduler, question);
         None
+    }
+
+    // Begins a look up to that reference, unless one is under way.
+    fn look_up_to(&mut self, limit: u64)
+        ensures stays { TellsNothing self.old self.new }
+        ensures learns { KeepsLearned self.old self.new }
+        ensures limit { self.new.limit ≡ limit }
+    {
+        if self.limit != limit {
+            self.limit = limit;
+            self.look = Look::starting_at(self.first);
+        }
     }
 
     // Looks which references were posted here before the office was opened, if that isn't known;
@@ -170,6 +194,10 @@ impl Session {
         requires behind { self.old.postings.unanswered ≡ 0 }
         requires right { MayLook self.old.next self.old.station u64.MAX }
         ensures stays { TellsNothing self.old self.new }
+        ensures station { self.new.station ≡ self.old.station }
+        ensures looked { IfSome result (λ told. OnOk told (self.new.earlier ≢ Earlier.Unlooked)) }
+        ensures failed { IfSome result (λ told. IfErr told (λ refusal.
+            FailedLast refusal (received self.new.replies))) }
     {
         if self.earlier != Earlier::Unlooked {
             return Some(Ok(()));
@@ -193,41 +221,65 @@ impl Session {
         requires behind { self.old.postings.unanswered ≡ 0 }
         requires right { MayLook self.old.next self.old.station u64.MAX }
         ensures stays { TellsNothing self.old self.new }
+        ensures station { self.new.station ≡ self.old.station }
+        ensures earlier { self.new.earlier ≡ self.old.earlier }
+        ensures seen { IfSome result (λ told. IfOk told (λ seen.
+            ∥ HasSeenAll self.old.station seen (received self.new.replies) ∥₁)) }
+        ensures failed { IfSome result (λ told. IfErr told (λ refusal.
+            FailedLast refusal (received self.new.replies))) }
     {
-        let since = match self.out_of_sight {
-            Some(since) => since,
-            None => match self.look(rt, scheduler, u64::MAX)? {
-                Ok(seen) if seen.posting.is_none() && seen.since > 0 => seen.since,
+        if self.out_of_sight.is_none() {
+            match self.look(rt, scheduler, u64::MAX)? {
+                Ok(
+                    LookAnswer {
+                        posting: None,
+                        since: since @ 1..,
+                    },
+                ) => self.out_of_sight = Some(since),
                 seen => return Some(seen),
-            },
+            }
+        }
+        self.look_in_archive(rt, scheduler)
+    }
+
+    // Goes on in the archive, behind a look that saw nothing in sight; None until that is done.
+    fn look_in_archive<R: Wait>(
+        &mut self,
+        rt: &R,
+        scheduler: &Scheduler,
+    ) -> Option<Result<LookAnswer, FindRefusal>>
+        requires behind { self.old.postings.unanswered ≡ 0 }
+        ensures stays { TellsNothing self.old self.new }
+        ensures station { self.new.station ≡ self.old.station }
+        ensures earlier { self.new.earlier ≡ self.old.earlier }
+        ensures seen { IfSome result (λ told. IsOkAnd told (λ seen.
+            ∥ HasSeenAll self.old.station seen (received self.new.replies) ∥₁)) }
+    {
+        let since = self.out_of_sight?;
+        let WishOutcome::Last(in_archive) = self.what_came(rt, scheduler, Wish::Last)? else {
+            return None;
         };
-        self.out_of_sight = Some(since);
-        let came = self.what_came(rt, scheduler, Wish::Last)?;
         self.out_of_sight = None;
-        let in_archive = match came {
-            WishOutcome::Last(seen) => seen,
-            WishOutcome::Archive(_) | WishOutcome::Copy(_) => None,
-        };
         Some(Ok(farther(since, in_archive)))
     }
 
     // Learns which reference was posted last.
     fn learn(&mut self, seen: LookAnswer)
+        requires seen { ∥ HasSeenAll self.old.station seen (received self.old.replies) ∥₁ }
+        ensures station { self.new.station ≡ self.old.station }
+        ensures heard { self.new.replies ≡ self.old.replies }
         ensures learned { self.old.earlier ≡ Earlier.Unlooked → self.new.earlier ≡ earlier_by seen }
-        ensures else_same { self.old.earlier ≢ Earlier.Unlooked → self.new.earlier ≡ self.old.earlier }
+        ensures known { self.new.earlier ≢ Earlier.Unlooked }
+        ensures same { self.old.earlier ≢ Earlier.Unlooked → self.new.earlier ≡ self.old.earlier }
         ensures greatest { IfSome seen.posting (λ last.
             reference_of last.entry ≤ self.new.postings.posted) }
         ensures never_falls { self.old.postings.posted ≤ self.new.postings.posted }
         ensures stays { TellsNothing self.old self.new }
     {
-        if let Some(last) = seen.posting {
-            self.postings.raise(last.entry.reference());
-        }
-        if self.earlier == Earlier::Unlooked {
-            self.earlier = match (seen.posting, seen.since) {
-                (None, 1..) => Earlier::OutOfSight(seen.since),
-                (Some(_), _) | (None, 0) => Earlier::Known,
-            };
+        self.postings.raise(seen.greatest());
+        match self.earlier {
+            Earlier::Unlooked => self.earlier = Earlier::by(&seen),
+            Earlier::OutOfSight(_) | Earlier::Known => {}
         }
     }
 
@@ -269,8 +321,9 @@ impl Session {
         if reference <= self.postings.greatest() {
             return self.respond(Response::NotFirst { reference });
         }
+        let told = self.respond(Response::First { reference });
         self.earlier = Earlier::Known;
         self.postings.raise(reference - 1);
-        self.respond(Response::First { reference })
+        told
     }
 }

@@ -1,10 +1,12 @@
 //! How what a counter says is taken, and what has come is handed on.
-ghost use Rattle.std.specs.Prelude.{◌≡◌, [], IsTrue, IfSome, Some, None};
+ghost use Rattle.std.specs.Prelude.{◌≡◌, [], ◌∷◌, ◌++◌, IsTrue, IfSome, Some, None};
+ghost use Rattle.rtrb.specs.Ring.{sent, received};
 ghost use Rattle.text_grammar.specs.declared.requests.Request.TheVariants.{Close};
 ghost use Rattle.station_desk.specs.Rings.{StandsAt};
 ghost use Rattle.office_sessions.specs.declared.messages.Message.TheVariants.{Asked};
 ghost use Rattle.office_sessions.specs.Conversation.{pending, IsOther, IsResponseTo};
-ghost use Rattle.office_sessions.specs.Session.{HasPlace, OnlyTells};
+ghost use Rattle.office_sessions.specs.Replies.{IsToldBy};
+ghost use Rattle.office_sessions.specs.Session.{HasPlace, OnlyTells, KeepsLooking};
 
 use crate::messages::Message;
 use crate::responses::Response;
@@ -167,7 +169,11 @@ impl Session {
         requires place { HasPlace self.old }
         requires other { IsOther response }
         requires right { IfSome self.old.next (λ message. IsResponseTo message response) }
+        requires by { ∥ IsToldBy self.old.station response (received self.old.replies) ∥₁ }
         ensures stays { OnlyTells self.old self.new }
+        ensures keeps { KeepsLooking self.old self.new }
+        ensures heard { self.new.replies ≡ self.old.replies }
+        ensures told { sent self.new.responses ≡ sent self.old.responses ++ response ∷ [] }
     {
         self.responses.push_reserved(response);
         self.recent.note(response);

@@ -4,7 +4,8 @@ use Rattle.std.proofs.lemmas.List.{map-append}
 use Rattle.station_desk.specs.Rings.{FeedState}
 use Rattle.office_day.proofs.Lists.{AllZip-more}
 use Rattle.office_sessions.specs.declared.session.Session.{Session}
-use Rattle.office_sessions.specs.Conversation.{ConversationState, IsOver}
+use Rattle.office_sessions.specs.Conversation.{ConversationState}
+use Rattle.office_sessions.specs.Over.{IsOver}
 use Rattle.office_sessions.proofs.open_office.all_ended.Goals as goal
 
 pub loop-session-preserved : goal.loop-session-preserved

@@ -1,7 +1,7 @@
 use Rattle.std.specs.Prelude.{◌≡◌, map}
 use Rattle.std.specs.List.{AllZip}
 use Rattle.office_sessions.specs.declared.session.Session.{Session}
-use Rattle.office_sessions.specs.Conversation.{IsOver}
+use Rattle.office_sessions.specs.Over.{IsOver}
 use Rattle.office_sessions.proofs.open_office.all_ended.Given as goal
 
 -- the feeds of the sessions so far, and their conversations

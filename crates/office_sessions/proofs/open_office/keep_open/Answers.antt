@@ -6,7 +6,8 @@ use Rattle.station_desk.specs.Rings.{FeedState, AreTogether}
 use Rattle.office_day.specs.Spans.{adjourned_to, rest_of, span_of, Span, HasLived}
 use Rattle.office_day.proofs.SpanLaws.{abandoned, kept_open, left_together}
 use Rattle.office_sessions.specs.Kept.{HandsBack, stands_with}
-use Rattle.office_sessions.specs.Conversation.{ConversationState, IsOver}
+use Rattle.office_sessions.specs.Conversation.{ConversationState}
+use Rattle.office_sessions.specs.Over.{IsOver}
 use Rattle.office_sessions.proofs.Heard.{kept_for, left_open}
 use Rattle.office_sessions.specs.declared.session.Session.{Session}
 use Rattle.office_sessions.proofs.open_office.keep_open.Goals as goal

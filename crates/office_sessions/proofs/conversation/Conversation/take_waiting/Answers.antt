@@ -1,7 +1,8 @@
 use Rattle.std.specs.Prelude.{◌≤◌, List, length}
 use Rattle.std.proofs.Common.{sym, ◌∙◌, ap, subst}
 use Rattle.turn_ledger.specs.declared.entry.Entry.{Entry}
-use Rattle.office_sessions.specs.Conversation.{ConversationState, IsOver}
+use Rattle.office_sessions.specs.Conversation.{ConversationState}
+use Rattle.office_sessions.specs.Over.{IsOver}
 use Rattle.office_sessions.proofs.TakenUp.{over-said, behind-more, listed-more}
 use Rattle.office_sessions.proofs.conversation.Conversation.take_waiting.Goals as goal
 

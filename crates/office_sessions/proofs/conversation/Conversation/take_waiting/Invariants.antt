@@ -1,6 +1,7 @@
 use Rattle.std.specs.Prelude.{◌≡◌, ◌≤◌, length}
 use Rattle.station_desk.specs.Rings.{FeedState}
-use Rattle.office_sessions.specs.Conversation.{IsOver, IsBehindUnanswered}
+use Rattle.office_sessions.specs.Conversation.{IsBehindUnanswered}
+use Rattle.office_sessions.specs.Over.{IsOver}
 use Rattle.office_sessions.proofs.conversation.Conversation.take_waiting.Given as goal
 
 -- what was over still is; behind what isn't answered nothing was told

@@ -1,11 +1,14 @@
 use Rattle.std.specs.Prelude.{List}
 use Rattle.std.proofs.Common.{sym, subst}
+use Rattle.std.proofs.Math.Logic.{∥∥₁_map}
 use Rattle.rtrb.specs.Ring.{sent, received}
 use Rattle.turn_ledger.specs.declared.entry.Entry.{Entry}
 use Rattle.station_desk.specs.Messages.{entries_of}
 use Rattle.station_desk.specs.Rings.{FeedState}
 use Rattle.office_sessions.specs.Rising.{AreAbove}
-use Rattle.office_sessions.specs.Conversation.{IsOver, WereTakenUp}
+use Rattle.office_sessions.specs.Conversation.{WereTakenUp}
+use Rattle.office_sessions.specs.Over.{IsOver}
+use Rattle.office_sessions.proofs.ToldBy.{rise-learned}
 use Rattle.office_sessions.proofs.session.Session.end.Goals as goal
 
 pub returns-clause-over : goal.returns-clause-over
@@ -20,6 +23,12 @@ returns-clause-over g c =
           ∥₁) (sym c.in_ok-unheard.ensures) old.said;
       above = subst (λ (one : FeedState). AreAbove one.asked one.collected) c.into_feed.ensures.feed
           c.into_feed.ensures.above;
+      follows = record {
+        right = old.told_by;
+        rise = ∥∥₁_map old.learned
+            (rise-learned old.station (received old.replies) (sent old.responses)
+            (entries_of feed.asked) old.postings.posted old.earlier);
+      };
     }) in
     subst (λ (one : FeedState). IsOver one c.tell_closing.new.self) (sym c.into_feed.ensures.feed)
     (c.tell_closing.ensures.over feed

@@ -1,12 +1,17 @@
-use Rattle.std.specs.Prelude.{List, [], map, Option}
-use Rattle.std.proofs.Common.{sym, ◌∙◌, ap, subst}
+use Rattle.std.specs.Prelude.{◌≡◌, ◌⊎◌, ℕ, List, [], map, Option}
+use Rattle.std.proofs.Common.{sym, ◌∙◌, ap, subst, inl, inr}
 use Rattle.std.proofs.Math.Logic.{∥∥₁_map}
 use Rattle.rtrb.specs.Ring.{sent, received}
 use Rattle.turn_ledger.specs.declared.entry.Entry.{Entry}
 use Rattle.station_desk.specs.Messages.{entries_of}
+use Rattle.station_desk.specs.Rings.{FeedState}
 use Rattle.office_sessions.specs.declared.messages.Message.{Message}
+use Rattle.office_sessions.specs.declared.postings.Submission.{Submission}
+use Rattle.office_sessions.specs.declared.postings.Submission.TheVariants as submission
 use Rattle.office_sessions.specs.Conversation.{WereTakenUp, pending, response_of}
+use Rattle.office_sessions.specs.Replies.{IsLearned}
 use Rattle.office_sessions.proofs.TakenUp.{taken-submitted}
+use Rattle.office_sessions.proofs.ToldBy.{learned-asked}
 use Rattle.office_sessions.proofs.session.Session.hand_in.Goals as goal
 
 pub invariant_of-self-clause-said : goal.invariant_of-self-clause-said
@@ -24,3 +29,51 @@ invariant_of-self-clause-said c =
 pub invariant_of-self-clause-told : goal.invariant_of-self-clause-told
 invariant_of-self-clause-told c =
     c.args.self.now.told ∙ ap (map response_of) (sym c.submit-submission.ensures.collected)
+
+pub invariant_of-self-clause-learned : goal.invariant_of-self-clause-learned
+invariant_of-self-clause-learned c =
+    let old = c.args.self.now in
+    let new = c.submit-submission.new.self in
+    let heard = received old.replies in
+    let told = sent old.responses in
+    ∥∥₁_map old.learned (λ so.
+    subst (λ (posted : ℕ). IsLearned old.station heard told (entries_of new.feed.asked) posted
+    old.earlier) (sym c.submit-submission.ensures.posted)
+    (learned-asked old.station heard told (entries_of old.postings.feed.asked)
+    old.postings.posted old.earlier c.args.entry
+    (c.submit-submission.ensures.submitted c.in-Submitted.is).0 c.requires.known
+    (c.submit-submission.ensures.is_above (λ not. let is = c.in-Submitted.is in absurd (cc))) so))
+
+-- what wasn't submitted
+refused : {what : Submission}
+    → (what ≡ submission.NoPlace) ⊎ ((what ≡ submission.NotAbove) ⊎ (what ≡ submission.TooFar))
+    → what ≡ submission.Submitted → ⊥
+refused (inl is) other = absurd (cc)
+refused (inr (inl is)) other = absurd (cc)
+refused (inr (inr is)) other = absurd (cc)
+
+-- leaves the feed as it was
+same : (c : goal.In-NoPlace) → c.submit-submission.new.self.feed ≡ c.args.self.now.postings.feed
+same c = (c.submit-submission.ensures.not_submitted (refused c.in-NoPlace.is)).0
+
+pub invariant_of-self-in-NoPlace-clause-said : goal.invariant_of-self-in-NoPlace-clause-said
+invariant_of-self-in-NoPlace-clause-said c =
+    let old = c.args.self.now in
+    subst (λ (feed : FeedState).
+    ∥ WereTakenUp (received old.messages) (sent old.responses) (entries_of feed.asked)
+    (pending old.next) ∥₁) (sym (same c)) old.said
+
+pub invariant_of-self-in-NoPlace-clause-told : goal.invariant_of-self-in-NoPlace-clause-told
+invariant_of-self-in-NoPlace-clause-told c =
+    c.args.self.now.told ∙ ap (λ (feed : FeedState). map response_of feed.collected) (sym (same c))
+
+pub invariant_of-self-in-NoPlace-clause-learned : goal.invariant_of-self-in-NoPlace-clause-learned
+invariant_of-self-in-NoPlace-clause-learned c =
+    let old = c.args.self.now in
+    let heard = received old.replies in
+    let told = sent old.responses in
+    subst (λ (posted : ℕ). ∥ IsLearned old.station heard told
+    (entries_of c.submit-submission.new.self.feed.asked) posted old.earlier ∥₁)
+    (sym c.submit-submission.ensures.posted)
+    (subst (λ (feed : FeedState). ∥ IsLearned old.station heard told (entries_of feed.asked)
+    old.postings.posted old.earlier ∥₁) (sym (same c)) old.learned)

@@ -6,6 +6,7 @@ use Rattle.station_desk.specs.Messages.{entries_of}
 use Rattle.office_sessions.specs.declared.responses.Response.{Response}
 use Rattle.office_sessions.specs.Conversation.{WereTakenUp, pending}
 use Rattle.office_sessions.proofs.TakenUp.{taken-told, other-answers}
+use Rattle.office_sessions.proofs.ToldBy.{told-more, learned-told}
 use Rattle.office_sessions.proofs.session.Session.respond.Goals as goal
 
 pub invariant_of-self-clause-said : goal.invariant_of-self-clause-said
@@ -21,3 +22,17 @@ pub invariant_of-self-clause-told : goal.invariant_of-self-clause-told
 invariant_of-self-clause-told c =
     other-answers (sent c.args.self.now.responses) c.args.response c.push_reserved.ensures.sent.0
     c.requires.other.0 ∙ c.args.self.now.told
+
+pub invariant_of-self-clause-told_by : goal.invariant_of-self-clause-told_by
+invariant_of-self-clause-told_by c =
+    let old = c.args.self.now in
+    told-more old.station (sent old.responses) (received old.replies) c.args.response
+    c.push_reserved.ensures.sent.0 c.requires.by old.told_by
+
+pub invariant_of-self-clause-learned : goal.invariant_of-self-clause-learned
+invariant_of-self-clause-learned c =
+    let old = c.args.self.now in
+    ∥∥₁_map old.learned
+    (learned-told old.station (received old.replies) (sent old.responses) c.args.response
+    (entries_of old.postings.feed.asked) old.postings.posted old.earlier
+    c.push_reserved.ensures.sent.0)

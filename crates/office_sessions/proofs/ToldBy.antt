@@ -1,0 +1,388 @@
+-- What a counter was told stays right with each reply, response and entry more.
+use Rattle.std.specs.Prelude.{◌≡◌, ◌⊎◌, ◌^◌, ◌-◌, ◌<◌, ◌≤◌, ℕ, List, [], ◌∷◌, ◌++◌, All}
+use Rattle.std.specs.Prelude.{Contains, Option, None, Some, IfSome, Result, Ok, Err, IfOk, IfErr}
+use Rattle.std.specs.Prelude.{OnErr}
+use Rattle.std.specs.Prelude.{refl, zero, suc}
+use Rattle.std.proofs.Common.{sym, ◌∙◌, ap, subst, inl, inr, arith}
+use Rattle.std.proofs.Math.Logic.{∥∥₁_map}
+use Rattle.std.proofs.lemmas.List.{append_assoc, append-nil}
+use Rattle.std.proofs.lemmas.List.Elements.{All-append, All-cons, All-nil, Contains-append_left}
+use Rattle.std.proofs.lemmas.List.Elements.{Contains-append_right}
+use Rattle.std.proofs.lemmas.Bool.{cases_lt}
+use Rattle.turn_ledger.specs.declared.entry.Entry.{Entry}
+use Rattle.turn_ledger.specs.Entry.{reference_of}
+use Rattle.turn_clerk.specs.declared.search_target.Posting.{Posting}
+use Rattle.turn_clerk.specs.declared.searching.SearchStep.{SearchStep}
+use Rattle.turn_clerk.specs.declared.refusals.FindRefusal.{FindRefusal}
+use Rattle.station_desk.specs.declared.messages.Answer.{Answer}
+use Rattle.station_desk.specs.declared.messages.Outcome.{Outcome}
+use Rattle.station_desk.specs.declared.messages.Outcome.TheVariants as outcome
+use Rattle.office_sessions.specs.Conversation.{told_of, response_of}
+use Rattle.office_sessions.specs.Looked.{earlier_by, earlier_of, GoesOnBy}
+use Rattle.office_sessions.specs.Replies.{CameLast, Once, HasSearched, HasLooked}
+use Rattle.office_sessions.specs.Replies.{search_begins, search_goes_on, look_begins, look_goes_on}
+use Rattle.office_sessions.specs.Replies.{HasSeenAll, IsToldBy, AreToldBy, AreWithoutReference}
+use Rattle.office_sessions.specs.Replies.{AreAboveSeen, IsEnough, AreAboveEarlier, IsLearned}
+use Rattle.office_sessions.specs.Replies.{IsAboveSeen, IsWithin, RiseFromEarlier, nothing_since}
+use Rattle.office_sessions.specs.Replies.{IsFirst, HasSeenLast, SearchesOn, step_of_search}
+use Rattle.office_sessions.specs.Replies.{step_of_look}
+use Rattle.office_sessions.specs.declared.look.Look.{Look}
+use Rattle.office_sessions.specs.declared.look.LookAnswer.{LookAnswer}
+use Rattle.office_sessions.specs.declared.search.Search.{Search}
+use Rattle.office_sessions.specs.declared.session.Earlier.{Earlier}
+use Rattle.office_sessions.specs.declared.session.Earlier.TheVariants as earlier
+use Rattle.office_sessions.specs.declared.replies.Reply.{Reply}
+use Rattle.office_sessions.specs.declared.responses.Response.{Response}
+use Rattle.office_sessions.specs.declared.responses.Response.TheVariants as response
+
+-- what is so now was so at some moment
+pub once-now : (So : List Reply → Type 0) (heard : List Reply) → So heard → Once So heard
+once-now So heard so =
+    record { before = heard; later = []; all = sym (append-nil heard); so = so }
+
+-- and still was, with one reply more
+pub once-more : (So : List Reply → Type 0) (heard : List Reply) (one : Reply) {more : List Reply}
+    → more ≡ heard ++ one ∷ [] → Once So heard → Once So more
+once-more So heard one is once = record {
+  before = once.before;
+  later = once.later ++ one ∷ [];
+  all = is ∙ ap (λ (front : List Reply). front ++ one ∷ []) once.all
+      ∙ append_assoc once.before once.later (one ∷ []);
+  so = once.so;
+}
+
+-- what was put behind others is among them
+pub among-last : {X : Type 0} (before : List X) (one : X) {all : List X} → all ≡ before ++ one ∷ []
+    → Contains all one
+among-last {X} before one is =
+    subst (λ (l : List X). Contains l one) (sym is)
+    (Contains-append_right before (one ∷ []) one (0, omega arith, refl))
+
+-- what came last is among what came
+pub last-among : (one : Reply) (heard : List Reply) → CameLast one heard → Contains heard one
+last-among one heard last = among-last last.before one last.all
+
+-- a search, and a look, stand on what came
+searched-on : (heard : List Reply) (one : Reply) (search : Search) → HasSearched heard search
+    → HasSearched (heard ++ one ∷ []) search
+searched-on heard one search (search_begins reference) = search_begins reference
+searched-on heard one search (search_goes_on before after step was among on) =
+    search_goes_on before after step (searched-on heard one before was)
+    (Contains-append_left heard (one ∷ []) _ among) on
+
+pub searched-more : (heard : List Reply) (one : Reply) (search : Search) {more : List Reply}
+    → more ≡ heard ++ one ∷ [] → ∥ HasSearched heard search ∥₁ → ∥ HasSearched more search ∥₁
+searched-more heard one search is was =
+    ∥∥₁_map was (λ so. subst (λ (l : List Reply). HasSearched l search) (sym is)
+    (searched-on heard one search so))
+
+looked-on : (station limit : ℕ) (heard : List Reply) (one : Reply) (look : Look)
+    → HasLooked station limit heard look → HasLooked station limit (heard ++ one ∷ []) look
+looked-on station limit heard one look (look_begins first) = look_begins first
+looked-on station limit heard one look (look_goes_on before after step was among on) =
+    look_goes_on before after step (looked-on station limit heard one before was)
+    (Contains-append_left heard (one ∷ []) _ among) on
+
+pub looked-more : (station limit : ℕ) (heard : List Reply) (one : Reply) (look : Look)
+    {more : List Reply} → more ≡ heard ++ one ∷ [] → ∥ HasLooked station limit heard look ∥₁
+    → ∥ HasLooked station limit more look ∥₁
+looked-more station limit heard one look is was =
+    ∥∥₁_map was (λ so. subst (λ (l : List Reply). HasLooked station limit l look) (sym is)
+    (looked-on station limit heard one look so))
+
+-- what was told was right by what had come, also where more has come
+pub told-heard : (station : ℕ) (told : List Response) (heard : List Reply) (one : Reply)
+    {more : List Reply} → more ≡ heard ++ one ∷ [] → AreToldBy station told heard
+    → AreToldBy station told more
+told-heard station told heard one is right =
+    λ k other low. ∥∥₁_map (right k other low) (once-more _ heard one is)
+
+-- and is, with one response more that is right by now
+pub told-more : (station : ℕ) (told : List Response) (heard : List Reply) (one : Response)
+    {more : List Response} → more ≡ told ++ one ∷ [] → ∥ IsToldBy station one heard ∥₁
+    → AreToldBy station told heard → AreToldBy station more heard
+told-more station told heard one is by right =
+    let So : Response → Type 0 = λ each. ∥ Once (IsToldBy station each) heard ∥₁ in
+    subst (λ (l : List Response). AreToldBy station l heard) (sym is)
+    (All-append So told (one ∷ []) right
+    (All-cons So one [] (∥∥₁_map by (once-now (IsToldBy station one) heard)) (All-nil So)))
+
+-- what a look saw before still counts, with one reply more
+pub far-heard : (station : ℕ) (heard : List Reply) (one : Reply) (since : Option ℕ)
+    {more : List Reply} → more ≡ heard ++ one ∷ []
+    → IfSome since (λ number. Once (HasSeenLast station (2 ^ 64 - 1) (nothing_since number)) heard)
+    → IfSome since (λ number. Once (HasSeenLast station (2 ^ 64 - 1) (nothing_since number)) more)
+far-heard station heard one None is so = so
+far-heard station heard one (Some number) is so =
+    once-more (HasSeenLast station (2 ^ 64 - 1) (nothing_since number)) heard one is so
+
+-- what a session has learned, with one reply more
+module _ (station : ℕ) (heard : List Reply) (one : Reply) (told : List Response)
+    (asked : List Entry) (posted : ℕ) where
+  above-heard : {more : List Reply} → more ≡ heard ++ one ∷ []
+      → AreAboveEarlier station heard told asked → AreAboveEarlier station more told asked
+  above-heard is above = record {
+    seen = above.seen;
+    looked = once-more (HasSeenAll station above.seen) heard one is above.looked;
+    enough = above.enough;
+    above = above.above;
+  }
+
+  pub learned-heard : (known : Earlier) {more : List Reply} → more ≡ heard ++ one ∷ []
+      → IsLearned station heard told asked posted known
+      → IsLearned station more told asked posted known
+  unfolding above-heard
+  learned-heard earlier.Unlooked is so = so
+  learned-heard (earlier.OutOfSight since) is so =
+      (so.0, once-more (HasSeenAll station (nothing_since since)) heard one is so.1)
+  learned-heard earlier.Known is so = (above-heard is so.0, so.1)
+
+-- with one response more
+module _ (station : ℕ) (heard : List Reply) (told : List Response) (one : Response)
+    (asked : List Entry) where
+  enough-told : (seen : LookAnswer) {more : List Response} → more ≡ told ++ one ∷ []
+      → IsEnough seen told → IsEnough seen more
+  enough-told seen is (inl all) = inl all
+  enough-told seen is (inr first) =
+      inr (
+        first.0,
+        subst (λ (l : List Response). Contains l (response.First first.0)) (sym is)
+            (Contains-append_left told (one ∷ []) _ first.1),
+      )
+
+  above-told : {more : List Response} → more ≡ told ++ one ∷ []
+      → AreAboveEarlier station heard told asked → AreAboveEarlier station heard more asked
+  above-told is above = record {
+    seen = above.seen;
+    looked = above.looked;
+    enough = enough-told above.seen is above.enough;
+    above = above.above;
+  }
+
+  pub rise-told : {more : List Response} → more ≡ told ++ one ∷ []
+      → RiseFromEarlier station heard told asked → RiseFromEarlier station heard more asked
+  rise-told is (inl none) = inl none
+  rise-told is (inr above) = inr (above-told is above)
+
+  pub learned-told : (posted : ℕ) (known : Earlier) {more : List Response}
+      → more ≡ told ++ one ∷ [] → IsLearned station heard told asked posted known
+      → IsLearned station heard more asked posted known
+  unfolding above-told
+  learned-told posted earlier.Unlooked is so = so
+  learned-told posted (earlier.OutOfSight since) is so = so
+  learned-told posted earlier.Known is so = (above-told is so.0, so.1)
+
+-- entries without a reference are above whatever was seen
+pub above-any : (seen : LookAnswer) (asked : List Entry) → AreWithoutReference asked
+    → AreAboveSeen seen asked
+above-any seen asked none =
+    λ k entry low above. absurd (omega (arith, above, none k entry low))
+
+-- the reference that was seen is within a greater one too
+pub within-more : (posting : Option Posting) (posted most : ℕ) → posted ≤ most
+    → IfSome posting (λ last. reference_of last.entry ≤ posted)
+    → IfSome posting (λ last. reference_of last.entry ≤ most)
+within-more None posted most low within = within
+within-more (Some last) posted most low within = omega (arith, low, within)
+
+-- a reference that is above all that are known is above the one that was seen
+above-within : (posting : Option Posting) (posted reference : ℕ) → posted < reference
+    → IfSome posting (λ last. reference_of last.entry ≤ posted)
+    → IfSome posting (λ last. reference_of last.entry < reference)
+above-within None posted reference above within = within
+above-within (Some last) posted reference above within = omega (arith, above, within)
+
+above-more : (seen : LookAnswer) (asked : List Entry) (posted : ℕ) (entry : Entry)
+    {more : List Entry} → more ≡ asked ++ entry ∷ []
+    → (0 < reference_of entry → posted < reference_of entry) → IsWithin posted seen
+    → AreAboveSeen seen asked → AreAboveSeen seen more
+above-more seen asked posted entry is above within before =
+    let So : Entry → Type 0 = λ one. 0 < reference_of one → IsAboveSeen seen (reference_of one) in
+    subst (All So) (sym is)
+    (All-append So asked (entry ∷ []) before
+    (All-cons So entry []
+    (λ some. above-within seen.posting posted (reference_of entry) (above some) within)
+    (All-nil So)))
+
+no-reference : (reference : ℕ) → (0 < reference → ⊥)
+    → (0 < reference) ⊎ (reference ≤ 0) → reference ≡ 0
+no-reference reference none (inl some) = absurd (none some)
+no-reference reference none (inr low) = omega (arith, low)
+
+none-more : (asked : List Entry) (entry : Entry) {more : List Entry} → more ≡ asked ++ entry ∷ []
+    → reference_of entry ≡ 0 → AreWithoutReference asked → AreWithoutReference more
+none-more asked entry is lacks before =
+    let So : Entry → Type 0 = λ one. reference_of one ≡ 0 in
+    subst (All So) (sym is)
+    (All-append So asked (entry ∷ []) before (All-cons So entry [] lacks (All-nil So)))
+
+-- with one entry more, whose reference is above all that are known
+pub learned-asked : (station : ℕ) (heard : List Reply) (told : List Response) (asked : List Entry)
+    (posted : ℕ) (known : Earlier) (entry : Entry) {more : List Entry}
+    → more ≡ asked ++ entry ∷ []
+    → (0 < reference_of entry → known ≡ earlier.Known)
+    → (0 < reference_of entry → posted < reference_of entry)
+    → IsLearned station heard told asked posted known
+    → IsLearned station heard told more posted known
+learned-asked station heard told asked posted earlier.Unlooked entry is only above so =
+    none-more asked entry is
+    (no-reference (reference_of entry) (λ some. let known = only some in absurd (cc))
+    (cases_lt 0 (reference_of entry))) so
+learned-asked station heard told asked posted (earlier.OutOfSight since) entry is only above so = (
+  none-more asked entry is
+      (no-reference (reference_of entry) (λ some. let known = only some in absurd (cc))
+      (cases_lt 0 (reference_of entry))) so.0,
+  so.1,
+)
+learned-asked station heard told asked posted earlier.Known entry is only above so = (
+  record {
+    seen = so.0.seen;
+    looked = so.0.looked;
+    enough = so.0.enough;
+    above = above-more so.0.seen asked posted entry is above so.1 so.0.above;
+  },
+  so.1,
+)
+
+-- where more is known to be posted
+pub learned-raised : (station : ℕ) (heard : List Reply) (told : List Response) (asked : List Entry)
+    (posted most : ℕ) (known : Earlier) → posted ≤ most
+    → IsLearned station heard told asked posted known
+    → IsLearned station heard told asked most known
+learned-raised station heard told asked posted most earlier.Unlooked low so = so
+learned-raised station heard told asked posted most (earlier.OutOfSight since) low so = so
+learned-raised station heard told asked posted most earlier.Known low so =
+    (so.0, within-more so.0.seen.posting posted most low so.1)
+
+-- what entries a session that has learned asks to post rise
+pub rise-learned : (station : ℕ) (heard : List Reply) (told : List Response) (asked : List Entry)
+    (posted : ℕ) (known : Earlier) → IsLearned station heard told asked posted known
+    → RiseFromEarlier station heard told asked
+rise-learned station heard told asked posted earlier.Unlooked so = inl so
+rise-learned station heard told asked posted (earlier.OutOfSight since) so = inl so.0
+rise-learned station heard told asked posted earlier.Known so = inr so.0
+
+by-seen : (station : ℕ) (heard : List Reply) (told : List Response) (asked : List Entry)
+    (posted : ℕ) (posting : Option Posting) (since : ℕ) → AreWithoutReference asked
+    → Once (HasSeenAll station (record { posting = posting; since = since })) heard
+    → IfSome posting (λ last. reference_of last.entry ≤ posted)
+    → IsLearned station heard told asked posted (earlier_of posting since)
+by-seen station heard told asked posted (Some last) since none looked within = (
+  record {
+    seen = record { posting = Some last; since = since };
+    looked = looked;
+    enough = inl refl;
+    above = above-any (record { posting = Some last; since = since }) asked none;
+  },
+  within,
+)
+by-seen station heard told asked posted None zero none looked within = (
+  record {
+    seen = record { posting = None; since = zero };
+    looked = looked;
+    enough = inl refl;
+    above = above-any (record { posting = None; since = zero }) asked none;
+  },
+  tt,
+)
+by-seen station heard told asked posted None (suc before) none looked within = (none, looked)
+
+-- a look at all that was posted says what is known
+pub learned-seen : (station : ℕ) (heard : List Reply) (told : List Response) (asked : List Entry)
+    (posted : ℕ) (seen : LookAnswer) → AreWithoutReference asked
+    → Once (HasSeenAll station seen) heard → IsWithin posted seen
+    → IsLearned station heard told asked posted (earlier_by seen)
+learned-seen station heard told asked posted seen none looked within =
+    by-seen station heard told asked posted seen.posting seen.since none looked within
+
+-- a session that has looked knows that the reference is above what was posted before
+pub first-learned : (station : ℕ) (heard : List Reply) (told : List Response) (asked : List Entry)
+    (posted : ℕ) (known : Earlier) (reference : ℕ) → (known ≡ earlier.Unlooked → ⊥)
+    → posted < reference → IsLearned station heard told asked posted known
+    → IsFirst station reference heard
+first-learned station heard told asked posted earlier.Unlooked reference looked above so =
+    absurd (looked refl)
+first-learned station heard told asked posted (earlier.OutOfSight since) reference looked above so =
+    record { seen = nothing_since since; looked = so.1; above = tt }
+first-learned station heard told asked posted earlier.Known reference looked above so = record {
+  seen = so.0.seen;
+  looked = so.0.looked;
+  above = above-within so.0.seen.posting posted reference above so.1;
+}
+
+-- from then on references begin there
+pub learned-first : (station : ℕ) (heard : List Reply) (told : List Response) (asked : List Entry)
+    (posted most : ℕ) (known : Earlier) (reference : ℕ) → (known ≡ earlier.Unlooked → ⊥)
+    → posted ≤ most → Contains told (response.First reference)
+    → IsLearned station heard told asked posted known
+    → IsLearned station heard told asked most earlier.Known
+learned-first station heard told asked posted most earlier.Unlooked reference looked low first so =
+    absurd (looked refl)
+learned-first station heard told asked posted most (earlier.OutOfSight since) reference looked low
+    first so = (
+      record {
+        seen = nothing_since since;
+        looked = so.1;
+        enough = inr (reference, first);
+        above = above-any (nothing_since since) asked so.0;
+      },
+      tt,
+    )
+learned-first station heard told asked posted most earlier.Known reference looked low first so =
+    (so.0, within-more so.0.seen.posting posted most low so.1)
+
+-- at most one reply more came
+pub Grows : List Reply → List Reply → Type 0
+Grows heard more = (more ≡ heard) ⊎ ((one : Reply) × (more ≡ heard ++ one ∷ []))
+
+-- as what a ring gave says
+pub grows : {E : Type 0} {Came : Reply → Type 0} {Lacks : Type 0} (result : Result Reply E)
+    (heard more : List Reply) → ((one : Reply) → Came one → more ≡ heard ++ one ∷ [])
+    → (Lacks → more ≡ heard) → IfOk result Came → OnErr result Lacks → Grows heard more
+unfolding Grows
+grows (Ok one) heard more some none came lacks = inr (one, some one came)
+grows (Err error) heard more some none came lacks = inl (none lacks)
+
+-- what stays with one reply more stays
+pub grown : (So : List Reply → Type 0) (heard more : List Reply)
+    → ((one : Reply) → more ≡ heard ++ one ∷ [] → So heard → So more)
+    → Grows heard more → So heard → So more
+unfolding Grows
+grown So heard more stays (inl same) so = subst So (sym same) so
+grown So heard more stays (inr one) so = stays one.0 one.1 so
+
+-- what is told of an answer tells of its entry alone
+told-outcome : (station reference : ℕ) (heard : List Reply) (what : Outcome)
+    → IsToldBy station (told_of reference what) heard
+told-outcome station reference heard (outcome.Posted number) = tt
+told-outcome station reference heard (outcome.Refused refusal) = tt
+told-outcome station reference heard outcome.Undecided = tt
+
+pub told-answer : (station : ℕ) (heard : List Reply) (answer : Answer)
+    → IsToldBy station (response_of answer) heard
+told-answer station heard answer =
+    told-outcome station (reference_of answer.entry) heard answer.outcome
+
+-- a search goes on by a step that came last, or stays where the step failed
+pub searched-by : (heard : List Reply) (found : Result SearchStep FindRefusal)
+    (before after : Search) → IfOk found (λ step. SearchesOn before step after)
+    → IfErr found (λ refusal. after ≡ before) → CameLast (step_of_search before found) heard
+    → ∥ HasSearched heard before ∥₁ → ∥ HasSearched heard after ∥₁
+searched-by heard (Ok step) before after on failed came was =
+    ∥∥₁_map was (λ so. search_goes_on before after step so
+    (last-among (step_of_search before (Ok step)) heard came) on)
+searched-by heard (Err refusal) before after on failed came was =
+    subst (λ (search : Search). ∥ HasSearched heard search ∥₁) (sym failed) was
+
+-- and so a look
+pub looked-by : (station limit : ℕ) (heard : List Reply) (found : Result SearchStep FindRefusal)
+    (before after : Look)
+    → IfOk found (λ step. GoesOnBy before step.posting step.reached after)
+    → IfErr found (λ refusal. after ≡ before)
+    → CameLast (step_of_look station limit before found) heard
+    → ∥ HasLooked station limit heard before ∥₁ → ∥ HasLooked station limit heard after ∥₁
+looked-by station limit heard (Ok step) before after on failed came was =
+    ∥∥₁_map was (λ so. look_goes_on before after step so
+    (last-among (step_of_look station limit before (Ok step)) heard came) on)
+looked-by station limit heard (Err refusal) before after on failed came was =
+    subst (λ (look : Look). ∥ HasLooked station limit heard look ∥₁) (sym failed) was

@@ -1,0 +1,68 @@
+use Rattle.std.specs.Prelude.{◌≤◌, ℕ, map, max}
+use Rattle.std.proofs.Common.{sym, ◌∙◌, ap, subst, arith}
+use Rattle.std.proofs.Math.Logic.{∥∥₁_elim, ∥∥₁_map}
+use Rattle.rtrb.specs.Ring.{sent, received}
+use Rattle.station_desk.specs.Messages.{entries_of}
+use Rattle.station_desk.specs.Rings.{FeedState}
+use Rattle.office_sessions.specs.Conversation.{WereTakenUp, pending, response_of}
+use Rattle.office_sessions.specs.Looked.{earlier_by}
+use Rattle.office_sessions.specs.Replies.{HasSeenAll, IsLearned}
+use Rattle.office_sessions.specs.declared.session.Earlier.{Earlier}
+use Rattle.office_sessions.specs.declared.session.Earlier.TheVariants as earlier
+use Rattle.office_sessions.proofs.ToldBy.{once-now, learned-seen, learned-raised, within-more}
+use Rattle.office_sessions.proofs.session.Session.learn.Goals as goal
+
+pub invariant_of-self-clause-learned : goal.invariant_of-self-clause-learned
+invariant_of-self-clause-learned c =
+    let old = c.args.self.now in
+    let seen = c.args.seen in
+    let heard = received old.replies in
+    let told = sent old.responses in
+    let posted = c.raise.new.self.posted in
+    subst (λ (known : Earlier). ∥ IsLearned old.station heard told
+    (entries_of c.raise.new.self.feed.asked) posted known ∥₁) (sym c.by-self.ensures.by)
+    (subst (λ (feed : FeedState). ∥ IsLearned old.station heard told (entries_of feed.asked) posted
+    (earlier_by seen) ∥₁) (sym c.raise.ensures.feed)
+    (∥∥₁_elim c.requires.seen squash₁ (λ looked. ∥∥₁_map old.learned (λ so.
+    learned-seen old.station heard told (entries_of old.postings.feed.asked) posted seen
+    (subst (λ (known : Earlier). IsLearned old.station heard told
+    (entries_of old.postings.feed.asked) old.postings.posted known) c.in-Unlooked.is so)
+    (once-now (HasSeenAll old.station seen) heard looked)
+    (within-more seen.posting c.greatest.result posted
+    (omega (arith, c.raise.ensures.greatest)) c.greatest.ensures)))))
+
+pub invariant_of-self-in-OutOfSight-clause-learned : goal.invariant_of-self-in-OutOfSight-clause-learned
+invariant_of-self-in-OutOfSight-clause-learned c =
+    let old = c.args.self.now in
+    let heard = received old.replies in
+    let told = sent old.responses in
+    let posted = c.raise.new.self.posted in
+    subst (λ (feed : FeedState). ∥ IsLearned old.station heard told (entries_of feed.asked) posted
+    old.earlier ∥₁) (sym c.raise.ensures.feed)
+    (∥∥₁_map old.learned
+    (learned-raised old.station heard told (entries_of old.postings.feed.asked)
+    old.postings.posted posted old.earlier (omega (arith, c.raise.ensures.greatest))))
+
+pub invariant_of-self-clause-said : goal.invariant_of-self-clause-said
+invariant_of-self-clause-said c =
+    let old = c.args.self.now in
+    subst (λ (feed : FeedState).
+    ∥ WereTakenUp (received old.messages) (sent old.responses) (entries_of feed.asked)
+    (pending old.next) ∥₁) (sym c.raise.ensures.feed) old.said
+
+pub invariant_of-self-clause-told : goal.invariant_of-self-clause-told
+invariant_of-self-clause-told c =
+    c.args.self.now.told
+    ∙ ap (λ (feed : FeedState). map response_of feed.collected) (sym c.raise.ensures.feed)
+
+pub invariant_of-self-in-OutOfSight-clause-said : goal.invariant_of-self-in-OutOfSight-clause-said
+invariant_of-self-in-OutOfSight-clause-said c =
+    let old = c.args.self.now in
+    subst (λ (feed : FeedState).
+    ∥ WereTakenUp (received old.messages) (sent old.responses) (entries_of feed.asked)
+    (pending old.next) ∥₁) (sym c.raise.ensures.feed) old.said
+
+pub invariant_of-self-in-OutOfSight-clause-told : goal.invariant_of-self-in-OutOfSight-clause-told
+invariant_of-self-in-OutOfSight-clause-told c =
+    c.args.self.now.told
+    ∙ ap (λ (feed : FeedState). map response_of feed.collected) (sym c.raise.ensures.feed)

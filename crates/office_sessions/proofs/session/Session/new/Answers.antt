@@ -1,0 +1,28 @@
+use Rattle.std.specs.Prelude.{◌^◌, ◌-◌, ◌≡◌, List, All}
+use Rattle.std.proofs.Common.{sym, ◌∙◌, ap, subst}
+use Rattle.std.proofs.lemmas.List.Elements.{All-nil}
+use Rattle.rtrb.specs.Ring.{received}
+use Rattle.turn_ledger.specs.declared.entry.Entry.{Entry}
+use Rattle.station_desk.specs.Messages.{entries_of}
+use Rattle.station_desk.specs.Rings.{FeedState}
+use Rattle.office_sessions.specs.declared.look.Look.{Look}
+use Rattle.office_sessions.specs.declared.responses.Response.{Response}
+use Rattle.office_sessions.specs.Replies.{AreToldBy, AreWithoutReference, HasLooked, look_begins}
+use Rattle.office_sessions.proofs.session.Session.new.Goals as goal
+
+pub invariant_of-result-clause-told_by : goal.invariant_of-result-clause-told_by
+invariant_of-result-clause-told_by c =
+    subst (λ (told : List Response). AreToldBy c.args.station told (received c.args.replies))
+    (sym c.requires.nothing_told) (All-nil _)
+
+pub invariant_of-result-clause-looked : goal.invariant_of-result-clause-looked
+invariant_of-result-clause-looked c =
+    ∣ subst (λ (look : Look). HasLooked c.args.station (2 ^ 64 - 1) (received c.args.replies) look)
+    (sym c.starting_at.ensures.begins) (look_begins c.args.first) ∣₁
+
+pub invariant_of-result-clause-learned : goal.invariant_of-result-clause-learned
+invariant_of-result-clause-learned c =
+    ∣ subst (λ (feed : FeedState). AreWithoutReference (entries_of feed.asked))
+    (sym c.new.ensures.feed)
+    (subst (λ (asked : List _). AreWithoutReference (entries_of asked))
+    (sym c.requires.nothing_asked) (All-nil _)) ∣₁

@@ -1,0 +1,35 @@
+use Rattle.std.specs.Prelude.{◌≡◌, List, map}
+use Rattle.std.proofs.Common.{sym, subst}
+use Rattle.rtrb.specs.Ring.{sent, received}
+use Rattle.station_desk.specs.Messages.{entries_of}
+use Rattle.office_sessions.specs.Conversation.{WereTakenUp, answers_among, pending, response_of}
+use Rattle.office_sessions.specs.Replies.{AreToldBy, IsLearned}
+use Rattle.office_sessions.specs.declared.responses.Response.{Response}
+use Rattle.office_sessions.proofs.session.Session.take_next.Goals as goal
+
+pub invariant_of-self-clause-said : goal.invariant_of-self-clause-said
+invariant_of-self-clause-said g c =
+    let old = c.args.self.now in
+    subst (λ (told : List Response). ∥ WereTakenUp (received old.messages) told
+    (entries_of old.postings.feed.asked) (pending old.next) ∥₁)
+    (sym c.slots.ensures.looked.1) old.said
+
+pub invariant_of-self-clause-told : goal.invariant_of-self-clause-told
+invariant_of-self-clause-told g c =
+    let old = c.args.self.now in
+    subst (λ (told : List Response).
+    answers_among told ≡ map response_of old.postings.feed.collected)
+    (sym c.slots.ensures.looked.1) old.told
+
+pub invariant_of-self-clause-told_by : goal.invariant_of-self-clause-told_by
+invariant_of-self-clause-told_by g c =
+    let old = c.args.self.now in
+    subst (λ (told : List Response). AreToldBy old.station told (received old.replies))
+    (sym c.slots.ensures.looked.1) old.told_by
+
+pub invariant_of-self-clause-learned : goal.invariant_of-self-clause-learned
+invariant_of-self-clause-learned g c =
+    let old = c.args.self.now in
+    subst (λ (told : List Response). ∥ IsLearned old.station (received old.replies) told
+    (entries_of old.postings.feed.asked) old.postings.posted old.earlier ∥₁)
+    (sym c.slots.ensures.looked.1) old.learned

@@ -1,0 +1,252 @@
+-- What a counter is told of the ledger: by the replies that came for it.
+use Rattle.std.specs.Prelude.{◌≡◌, ◌≢◌, ◌⊎◌, ◌^◌, ◌-◌, ◌<◌, ◌≤◌, ℕ, List, [], ◌∷◌, ◌++◌, All}
+use Rattle.std.specs.Prelude.{Contains, Option, Some, None, IfSome, Result, Ok, Err}
+use Rattle.turn_ledger.specs.declared.entry.Entry.{Entry}
+use Rattle.turn_ledger.specs.Entry.{reference_of}
+use Rattle.turn_clerk.specs.declared.searching.Reached.{Reached}
+use Rattle.turn_clerk.specs.declared.searching.Reached.TheVariants as reached
+use Rattle.turn_clerk.specs.declared.searching.SearchStep.{SearchStep}
+use Rattle.turn_clerk.specs.declared.search_target.Posting.{Posting}
+use Rattle.turn_clerk.specs.declared.search_target.SearchTarget.TheVariants as sought
+use Rattle.turn_clerk.specs.declared.refusals.FindRefusal.{FindRefusal}
+use Rattle.line_lock.specs.declared.told.Room.{Room}
+use Rattle.station_desk.specs.declared.errand.Question.{Question}
+use Rattle.station_desk.specs.declared.errand.Question.TheVariants as question
+use Rattle.station_desk.specs.declared.errand.Report.TheVariants as report
+use Rattle.office_sessions.specs.Conversation.{own_question, counted_by, MeetsAt, EndsAt}
+use Rattle.office_sessions.specs.Looked.{GoesOnBy, seen_at, seen_farther, earlier_by, IsUnder}
+use Rattle.office_sessions.specs.declared.look.Look.{Look}
+use Rattle.office_sessions.specs.declared.look.LookAnswer.{LookAnswer}
+use Rattle.office_sessions.specs.declared.search.Search.{Search}
+use Rattle.office_sessions.specs.declared.session.Earlier.{Earlier}
+use Rattle.office_sessions.specs.declared.session.Earlier.TheVariants as earlier
+use Rattle.office_sessions.specs.declared.recess.ArchiveState.TheVariants as archive
+use Rattle.office_sessions.specs.declared.recess.WishOutcome.TheVariants as outcome
+use Rattle.office_sessions.specs.declared.replies.Reply.{Reply}
+use Rattle.office_sessions.specs.declared.replies.Reply.TheVariants as reply
+use Rattle.office_sessions.specs.declared.responses.Judgement.{Judgement}
+use Rattle.office_sessions.specs.declared.responses.Judgement.TheVariants as judgement
+use Rattle.office_sessions.specs.declared.responses.Response.{Response}
+use Rattle.office_sessions.specs.declared.responses.Response.TheVariants as response
+use Rattle.office_sessions.specs.declared.status.OfficeStatus.{OfficeStatus}
+
+-- it came last
+pub record CameLast (reply : Reply) (heard : List Reply) : Type 0 where
+  pub before : List Reply
+  pub all : heard ≡ before ++ reply ∷ []
+
+-- It was so by what had come at some moment.
+pub record Once (So : List Reply → Type 0) (heard : List Reply) : Type 0 where
+  pub before : List Reply
+  pub later : List Reply
+  pub all : heard ≡ before ++ later
+  pub so : So before
+
+-- a step of a search, which is reported on what is asked where the search has come so far
+abbrev pub step_of_search : Search → Result SearchStep FindRefusal → Reply
+step_of_search search step =
+    reply.Report (question.Search (sought.Reference search.reference) search.from search.end)
+    (report.Searched step)
+
+-- How a search goes on by a step.
+pub record SearchesOn (before : Search) (step : SearchStep) (after : Search) : Type 0 where
+  pub reference : after.reference ≡ before.reference
+  pub from : MeetsAt before.from step.reached after.from
+  pub end : EndsAt before.end step.reached after.end
+  pub count : after.count ≡ counted_by before.count step.posting step.reached
+
+-- A search has come so far by steps that were reported, each from where the one before ended.
+pub data HasSearched (heard : List Reply) : Search → Type 0 where
+  search_begins : (reference : ℕ) → HasSearched heard
+      (record { reference = reference; from = 0; end = 2 ^ 64 - 1; count = 0 })
+  search_goes_on : (before after : Search) (step : SearchStep) → HasSearched heard before
+      → Contains heard (step_of_search before (Ok step)) → SearchesOn before step after
+      → HasSearched heard after
+
+-- the step came to the last record of a search, for which all from that number on were looked at
+abbrev pub IsLastStep : ℕ → SearchStep → Type 0
+IsLastStep since step = (began : ℕ) × (step.reached ≡ reached.All began since)
+
+-- A search ended with what was reported last, and had found so many records.
+pub record HasFound (count since : ℕ) (heard : List Reply) : Type 0 where
+  pub search : Search
+  pub searched : ∥ HasSearched heard search ∥₁
+  pub step : SearchStep
+  pub came : CameLast (step_of_search search (Ok step)) heard
+  pub last : IsLastStep since step
+  pub counted : search.count ≡ count
+
+-- A search came upon a record with what was reported last.
+pub record HasMet (number reference : ℕ) (heard : List Reply) : Type 0 where
+  pub search : Search
+  pub searched : ∥ HasSearched heard search ∥₁
+  pub named : search.reference ≡ reference
+  pub step : SearchStep
+  pub came : CameLast (step_of_search search (Ok step)) heard
+  pub posting : Posting
+  pub met : step.posting ≡ Some posting
+  pub at : posting.number ≡ number
+
+-- A step of a search, or of a look, failed last, for that reason.
+pub record FailedLast (refusal : FindRefusal) (heard : List Reply) : Type 0 where
+  pub asked : Question
+  pub came : CameLast (reply.Report asked (report.Searched (Err refusal))) heard
+
+-- a step of a look at what was posted at a station up to a reference
+abbrev pub step_of_look : ℕ → ℕ → Look → Result SearchStep FindRefusal → Reply
+step_of_look station limit look step =
+    reply.Report (own_question station limit look.from) (report.Searched step)
+
+-- A look has come so far by steps that were reported, each from where the one before ended.
+pub data HasLooked (station limit : ℕ) (heard : List Reply) : Look → Type 0 where
+  look_begins : (first : ℕ) → HasLooked station limit heard
+      (record { from = first; since = first; posting = None })
+  look_goes_on : (before after : Look) (step : SearchStep) → HasLooked station limit heard before
+      → Contains heard (step_of_look station limit before (Ok step))
+      → GoesOnBy before step.posting step.reached after → HasLooked station limit heard after
+
+-- A look told this with the step that was reported last.
+pub record HasSeenLast (station limit : ℕ) (seen : LookAnswer) (heard : List Reply) : Type 0 where
+  pub look : Look
+  pub looked : ∥ HasLooked station limit heard look ∥₁
+  pub step : SearchStep
+  pub came : CameLast (step_of_look station limit look (Ok step)) heard
+  pub after : Look
+  pub goes_on : GoesOnBy look step.posting step.reached after
+  pub tells : seen_at after step.reached ≡ Some (Ok seen)
+
+-- what a look tells that saw nothing from that number on
+abbrev pub nothing_since : ℕ → LookAnswer
+nothing_since since = record { posting = None; since = since }
+
+-- A look at all that was posted at a station told this in the end: by the records in sight, or by
+-- the archive, where nothing in sight was posted there.
+pub data HasSeenAll (station : ℕ) (seen : LookAnswer) (heard : List Reply) : Type 0 where
+  in_sight : HasSeenLast station (2 ^ 64 - 1) seen heard → HasSeenAll station seen heard
+  in_archive : (since : ℕ) (kept : Option LookAnswer)
+      → Once (HasSeenLast station (2 ^ 64 - 1) (nothing_since since)) heard
+      → CameLast (reply.Outcome (outcome.Last kept)) heard → seen ≡ seen_farther since kept
+      → HasSeenAll station seen heard
+
+-- The reference is above the one that was seen, if there is one.
+abbrev pub IsAboveSeen : LookAnswer → ℕ → Type 0
+IsAboveSeen seen reference = IfSome seen.posting (λ last. reference_of last.entry < reference)
+
+-- Neither this entry nor another one was seen under its reference, and batches are out of sight.
+pub record IsUnknown (entry : Entry) (seen : LookAnswer) (since : ℕ) : Type 0 where
+  pub there : 0 < since
+  pub told : since ≡ seen.since
+  pub none : IsUnder (reference_of entry) seen.posting → ⊥
+
+-- The entry wasn't seen, and if batches are out of sight another one was, under its reference.
+pub record IsUsed (entry : Entry) (seen : LookAnswer) : Type 0 where
+  pub other : (number : ℕ) → seen.posting ≢ Some (record { number = number; entry = entry })
+  pub under : 0 < seen.since → IsUnder (reference_of entry) seen.posting
+
+-- The look at the postings up to an entry's reference told last what is so.
+pub record HasSeenUpTo (station : ℕ) (entry : Entry) (So : LookAnswer → Type 0)
+    (heard : List Reply) : Type 0 where
+  pub seen : LookAnswer
+  pub last : HasSeenLast station (reference_of entry) seen heard
+  pub so : So seen
+
+-- What became of an entry that wasn't submitted: it is as the look at the postings up to its
+-- reference told; or nothing of its station is in sight; or its reference is too far above any.
+abbrev pub IsJudgedBy : ℕ → Entry → Judgement → List Reply → Type 0
+IsJudgedBy station entry (judgement.Posted number) heard =
+    HasSeenUpTo station entry
+    (λ seen. seen.posting ≡ Some (record { number = number; entry = entry })) heard
+IsJudgedBy station entry judgement.Reference heard =
+    HasSeenUpTo station entry (IsUsed entry) heard ⊎ (2 ^ 32 < reference_of entry)
+IsJudgedBy station entry (judgement.Unknown since) heard =
+    HasSeenUpTo station entry (λ seen. IsUnknown entry seen since) heard
+    ⊎ Once (HasSeenAll station (nothing_since since)) heard
+IsJudgedBy station entry (judgement.NotSeen refusal) heard = FailedLast refusal heard
+
+-- A look at all that was posted saw nothing above that reference, or nothing from it on.
+pub record IsFirst (station reference : ℕ) (heard : List Reply) : Type 0 where
+  pub seen : LookAnswer
+  pub looked : Once (HasSeenAll station seen) heard
+  pub above : IsAboveSeen seen reference
+
+-- An office stands as its station told last.
+pub record StandsAs (status : OfficeStatus) (heard : List Reply) : Type 0 where
+  pub room : Room
+  pub came : CameLast (reply.Report question.Room (report.Room room)) heard
+  pub next : status.next ≡ room.next
+  pub free : status.free ≡ room.free
+
+-- The response is one to what came last, so far as it tells of the ledger, the archive or copies.
+-- What is told of an entry that was submitted is its answer.
+abbrev pub IsToldBy : ℕ → Response → List Reply → Type 0
+IsToldBy station (response.Balance account amount) heard =
+    CameLast (reply.Report (question.Balance account) (report.Balance (Ok amount))) heard
+IsToldBy station (response.NoBalance refusal) heard =
+    (account : ℕ)
+    × CameLast (reply.Report (question.Balance account) (report.Balance (Err refusal))) heard
+IsToldBy station (response.Found number reference) heard = HasMet number reference heard
+IsToldBy station (response.FoundInAll count since) heard = HasFound count since heard
+IsToldBy station (response.NotFound refusal) heard = FailedLast refusal heard
+IsToldBy station (response.Judged entry judged) heard = IsJudgedBy station entry judged heard
+IsToldBy station (response.Last seen) heard = HasSeenAll station seen heard
+IsToldBy station (response.First reference) heard = IsFirst station reference heard
+IsToldBy station (response.Archived next) heard =
+    CameLast (reply.Outcome (outcome.Archive (archive.UpTo next))) heard
+IsToldBy station response.NoArchive heard =
+    CameLast (reply.Outcome (outcome.Archive archive.NoArchive)) heard
+IsToldBy station (response.Copied next) heard =
+    CameLast (reply.Outcome (outcome.Copy (Ok next))) heard
+IsToldBy station (response.NoCopy refusal) heard =
+    CameLast (reply.Outcome (outcome.Copy (Err refusal))) heard
+IsToldBy station (response.Status status) heard = StandsAs status heard
+IsToldBy station _ heard = Unit {0}
+
+-- It tells nothing of any of these.
+abbrev pub IsPlain : Response → Type 0
+IsPlain one = (station : ℕ) (heard : List Reply) → IsToldBy station one heard
+
+-- Each response was right by what had come when it was told.
+abbrev pub AreToldBy : ℕ → List Response → List Reply → Type 0
+AreToldBy station told heard = All (λ one. ∥ Once (IsToldBy station one) heard ∥₁) told
+
+-- none of the entries has a reference
+abbrev pub AreWithoutReference : List Entry → Type 0
+AreWithoutReference asked = All (λ entry. reference_of entry ≡ 0) asked
+
+-- each reference of the entries is above the one that was seen
+abbrev pub AreAboveSeen : LookAnswer → List Entry → Type 0
+AreAboveSeen seen asked =
+    All (λ entry. 0 < reference_of entry → IsAboveSeen seen (reference_of entry)) asked
+
+-- All that was posted was seen, or a client said with which reference its own begin.
+abbrev pub IsEnough : LookAnswer → List Response → Type 0
+IsEnough seen told =
+    (earlier_by seen ≡ earlier.Known)
+    ⊎ ((reference : ℕ) × Contains told (response.First reference))
+
+-- A look saw what was posted at a station before, which is enough to go by, and each reference of
+-- these entries is above the one that it saw.
+pub record AreAboveEarlier (station : ℕ) (heard : List Reply) (told : List Response)
+    (asked : List Entry) : Type 0 where
+  pub seen : LookAnswer
+  pub looked : Once (HasSeenAll station seen) heard
+  pub enough : IsEnough seen told
+  pub above : AreAboveSeen seen asked
+
+-- References are used only once it is known which of them were posted before.
+abbrev pub RiseFromEarlier : ℕ → List Reply → List Response → List Entry → Type 0
+RiseFromEarlier station heard told asked =
+    AreWithoutReference asked ⊎ AreAboveEarlier station heard told asked
+
+-- the reference that was seen is at most that one, if there is one
+abbrev pub IsWithin : ℕ → LookAnswer → Type 0
+IsWithin most seen = IfSome seen.posting (λ last. reference_of last.entry ≤ most)
+
+-- What a session knows of the references that were posted at its station before, none of which is
+-- above `posted`.
+abbrev pub IsLearned : ℕ → List Reply → List Response → List Entry → ℕ → Earlier → Type 0
+IsLearned station heard told asked posted earlier.Unlooked = AreWithoutReference asked
+IsLearned station heard told asked posted (earlier.OutOfSight since) =
+    AreWithoutReference asked × Once (HasSeenAll station (nothing_since since)) heard
+IsLearned station heard told asked posted earlier.Known =
+    (above : AreAboveEarlier station heard told asked) × IsWithin posted above.seen
