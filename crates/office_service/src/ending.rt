@@ -90,8 +90,8 @@ fn tell_untold<W: Write>(
 }
 
 // How an office ended: well, if each station did. A failed device is reported as one: other
-// stations, which met it later, name it otherwise. A station that stopped though none was refused
-// its turn waited for one that was refused its thread.
+// stations, which met it later, name it otherwise. No other end comes alone: a station stops only
+// behind one that was refused, and gives up only after 2^64 - 1 refusals in a row.
 fn ended<'a>(is_abandoned: bool, stations: &[StationDay]) -> Result<(), OfficeFault<'a>>
     ensures well { OnOk result (HaveEndedWell stations.now) }
     ensures threads { OnOk result (is_abandoned ≡ false) }
@@ -129,7 +129,7 @@ fn none_failed(stations: &[StationDay]) -> bool
         .all(|day| day.end != End::Refused(TurnRefusal::Device))
 }
 
-// Why the first station was refused its turn that was.
+// Why the first station that was refused a turn was refused it.
 fn refusal_of<'a>(stations: &[StationDay]) -> Result<(), OfficeFault<'a>>
     ensures none { OnOk result (NoneWasRefused stations.now) }
     ensures refused { IfErr result (TellsRefusal stations.now) }

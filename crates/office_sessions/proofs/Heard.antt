@@ -34,7 +34,7 @@ heard feed conversation part day over done = record {
       done.asked over.said;
   follows = subst
       (λ (asked : List Ask). FollowsReplies conversation.station conversation.told
-      conversation.heard (entries_of asked)) done.asked over.follows;
+      conversation.replies (entries_of asked)) done.asked over.follows;
   rising = posts-rising feed.asked feed.collected day.answers.items day.unanswered.items done.asked
       over.above;
 }

@@ -1,7 +1,6 @@
 -- What a counter was told stays right with each reply, response and entry more.
-use Rattle.std.specs.Prelude.{◌≡◌, ◌⊎◌, ◌^◌, ◌-◌, ◌<◌, ◌≤◌, ℕ, List, [], ◌∷◌, ◌++◌, All}
+use Rattle.std.specs.Prelude.{◌≡◌, ◌⊎◌, ◌+◌, ◌^◌, ◌<◌, ◌≤◌, ℕ, List, [], ◌∷◌, ◌++◌, All}
 use Rattle.std.specs.Prelude.{Contains, Option, None, Some, IfSome, Result, Ok, Err, IfOk, IfErr}
-use Rattle.std.specs.Prelude.{OnErr}
 use Rattle.std.specs.Prelude.{refl, zero, suc}
 use Rattle.std.proofs.Common.{sym, ◌∙◌, ap, subst, inl, inr, arith}
 use Rattle.std.proofs.Math.Logic.{∥∥₁_map}
@@ -19,12 +18,13 @@ use Rattle.station_desk.specs.declared.messages.Outcome.{Outcome}
 use Rattle.station_desk.specs.declared.messages.Outcome.TheVariants as outcome
 use Rattle.office_sessions.specs.Conversation.{told_of, response_of}
 use Rattle.office_sessions.specs.Looked.{earlier_by, earlier_of, GoesOnBy}
-use Rattle.office_sessions.specs.Replies.{CameLast, Once, HasSearched, HasLooked}
+use Rattle.office_sessions.specs.Replies.{CameLast, HeldAtSomeMoment, HasSearched, HasLooked}
 use Rattle.office_sessions.specs.Replies.{search_begins, search_goes_on, look_begins, look_goes_on}
 use Rattle.office_sessions.specs.Replies.{HasSeenAll, IsToldBy, AreToldBy, AreWithoutReference}
 use Rattle.office_sessions.specs.Replies.{AreAboveSeen, IsEnough, AreAboveEarlier, IsLearned}
 use Rattle.office_sessions.specs.Replies.{IsAboveSeen, IsWithin, RiseFromEarlier, nothing_since}
-use Rattle.office_sessions.specs.Replies.{IsFirst, HasSeenLast, SearchesOn, step_of_search}
+use Rattle.office_sessions.specs.Replies.{IsFirst, IsFrom, SearchesOn}
+use Rattle.office_sessions.specs.Replies.{IsTooFar, greatest_in, step_of_search}
 use Rattle.office_sessions.specs.Replies.{step_of_look}
 use Rattle.office_sessions.specs.declared.look.Look.{Look}
 use Rattle.office_sessions.specs.declared.look.LookAnswer.{LookAnswer}
@@ -36,13 +36,14 @@ use Rattle.office_sessions.specs.declared.responses.Response.{Response}
 use Rattle.office_sessions.specs.declared.responses.Response.TheVariants as response
 
 -- what is so now was so at some moment
-pub once-now : (So : List Reply → Type 0) (heard : List Reply) → So heard → Once So heard
+pub once-now : (So : List Reply → Type 0) (heard : List Reply) → So heard
+    → HeldAtSomeMoment So heard
 once-now So heard so =
     record { before = heard; later = []; all = sym (append-nil heard); so = so }
 
 -- and still was, with one reply more
 pub once-more : (So : List Reply → Type 0) (heard : List Reply) (one : Reply) {more : List Reply}
-    → more ≡ heard ++ one ∷ [] → Once So heard → Once So more
+    → more ≡ heard ++ one ∷ [] → HeldAtSomeMoment So heard → HeldAtSomeMoment So more
 once-more So heard one is once = record {
   before = once.before;
   later = once.later ++ one ∷ [];
@@ -102,19 +103,10 @@ pub told-more : (station : ℕ) (told : List Response) (heard : List Reply) (one
     {more : List Response} → more ≡ told ++ one ∷ [] → ∥ IsToldBy station one heard ∥₁
     → AreToldBy station told heard → AreToldBy station more heard
 told-more station told heard one is by right =
-    let So : Response → Type 0 = λ each. ∥ Once (IsToldBy station each) heard ∥₁ in
+    let So : Response → Type 0 = λ each. ∥ HeldAtSomeMoment (IsToldBy station each) heard ∥₁ in
     subst (λ (l : List Response). AreToldBy station l heard) (sym is)
     (All-append So told (one ∷ []) right
     (All-cons So one [] (∥∥₁_map by (once-now (IsToldBy station one) heard)) (All-nil So)))
-
--- what a look saw before still counts, with one reply more
-pub far-heard : (station : ℕ) (heard : List Reply) (one : Reply) (since : Option ℕ)
-    {more : List Reply} → more ≡ heard ++ one ∷ []
-    → IfSome since (λ number. Once (HasSeenLast station (2 ^ 64 - 1) (nothing_since number)) heard)
-    → IfSome since (λ number. Once (HasSeenLast station (2 ^ 64 - 1) (nothing_since number)) more)
-far-heard station heard one None is so = so
-far-heard station heard one (Some number) is so =
-    once-more (HasSeenLast station (2 ^ 64 - 1) (nothing_since number)) heard one is so
 
 -- what a session has learned, with one reply more
 module _ (station : ℕ) (heard : List Reply) (one : Reply) (told : List Response)
@@ -135,20 +127,27 @@ module _ (station : ℕ) (heard : List Reply) (one : Reply) (told : List Respons
   learned-heard earlier.Unlooked is so = so
   learned-heard (earlier.OutOfSight since) is so =
       (so.0, once-more (HasSeenAll station (nothing_since since)) heard one is so.1)
-  learned-heard earlier.Known is so = (above-heard is so.0, so.1)
+  learned-heard earlier.Known is so = (above-heard is so.0, so.1, so.2)
 
 -- with one response more
 module _ (station : ℕ) (heard : List Reply) (told : List Response) (one : Response)
     (asked : List Entry) where
   enough-told : (seen : LookAnswer) {more : List Response} → more ≡ told ++ one ∷ []
-      → IsEnough seen told → IsEnough seen more
+      → IsEnough seen told asked → IsEnough seen more asked
   enough-told seen is (inl all) = inl all
-  enough-told seen is (inr first) =
-      inr (
-        first.0,
-        subst (λ (l : List Response). Contains l (response.First first.0)) (sym is)
-            (Contains-append_left told (one ∷ []) _ first.1),
-      )
+  enough-told seen is (inr begins) = inr (record {
+    reference = begins.reference;
+    said = subst (λ (l : List Response). Contains l (response.First begins.reference)) (sym is)
+        (Contains-append_left told (one ∷ []) _ begins.said);
+    from = begins.from;
+  })
+
+  from-told : (seen : LookAnswer) (most : ℕ) {more : List Response} (is : more ≡ told ++ one ∷ [])
+      (enough : IsEnough seen told asked) → IsFrom seen told asked most enough
+      → IsFrom seen more asked most (enough-told seen is enough)
+  unfolding enough-told
+  from-told seen most is (inl all) so = so
+  from-told seen most is (inr begins) so = so
 
   above-told : {more : List Response} → more ≡ told ++ one ∷ []
       → AreAboveEarlier station heard told asked → AreAboveEarlier station heard more asked
@@ -170,7 +169,8 @@ module _ (station : ℕ) (heard : List Reply) (told : List Response) (one : Resp
   unfolding above-told
   learned-told posted earlier.Unlooked is so = so
   learned-told posted (earlier.OutOfSight since) is so = so
-  learned-told posted earlier.Known is so = (above-told is so.0, so.1)
+  learned-told posted earlier.Known is so =
+      (above-told is so.0, so.1, from-told so.0.seen posted is so.0.enough so.2)
 
 -- entries without a reference are above whatever was seen
 pub above-any : (seen : LookAnswer) (asked : List Entry) → AreWithoutReference asked
@@ -216,6 +216,25 @@ none-more asked entry is lacks before =
     subst (All So) (sym is)
     (All-append So asked (entry ∷ []) before (All-cons So entry [] lacks (All-nil So)))
 
+enough-more : (seen : LookAnswer) (told : List Response) (asked : List Entry) (posted : ℕ)
+    (entry : Entry) {more : List Entry} → more ≡ asked ++ entry ∷ []
+    → (0 < reference_of entry → posted < reference_of entry)
+    → (enough : IsEnough seen told asked) → IsFrom seen told asked posted enough
+    → (after : IsEnough seen told more) × IsFrom seen told more posted after
+enough-more seen told asked posted entry is above (inl known) so = (inl known, tt)
+enough-more seen told asked posted entry is above (inr begins) so =
+    let So : Entry → Type 0 =
+    λ one. 0 < reference_of one → begins.reference ≤ reference_of one in (
+      inr (record {
+        reference = begins.reference;
+        said = begins.said;
+        from = subst (All So) (sym is)
+            (All-append So asked (entry ∷ []) begins.from
+            (All-cons So entry [] (λ some. omega (arith, above some, so)) (All-nil So)));
+      }),
+      so,
+    )
+
 -- with one entry more, whose reference is above all that are known
 pub learned-asked : (station : ℕ) (heard : List Reply) (told : List Response) (asked : List Entry)
     (posted : ℕ) (known : Earlier) (entry : Entry) {more : List Entry}
@@ -234,15 +253,25 @@ learned-asked station heard told asked posted (earlier.OutOfSight since) entry i
       (cases_lt 0 (reference_of entry))) so.0,
   so.1,
 )
-learned-asked station heard told asked posted earlier.Known entry is only above so = (
-  record {
-    seen = so.0.seen;
-    looked = so.0.looked;
-    enough = so.0.enough;
-    above = above-more so.0.seen asked posted entry is above so.1 so.0.above;
-  },
-  so.1,
-)
+learned-asked station heard told asked posted earlier.Known entry is only above so =
+    let enough =
+    enough-more so.0.seen told asked posted entry is above so.0.enough so.2 in (
+      record {
+        seen = so.0.seen;
+        looked = so.0.looked;
+        enough = enough.0;
+        above = above-more so.0.seen asked posted entry is above so.1 so.0.above;
+      },
+      so.1,
+      enough.1,
+    )
+
+from-raised : (seen : LookAnswer) (told : List Response) (asked : List Entry) (posted most : ℕ)
+    → posted ≤ most → (enough : IsEnough seen told asked)
+    → IsFrom seen told asked posted enough
+    → IsFrom seen told asked most enough
+from-raised seen told asked posted most low (inl known) so = tt
+from-raised seen told asked posted most low (inr begins) so = omega (arith, low, so)
 
 -- where more is known to be posted
 pub learned-raised : (station : ℕ) (heard : List Reply) (told : List Response) (asked : List Entry)
@@ -251,8 +280,11 @@ pub learned-raised : (station : ℕ) (heard : List Reply) (told : List Response)
     → IsLearned station heard told asked most known
 learned-raised station heard told asked posted most earlier.Unlooked low so = so
 learned-raised station heard told asked posted most (earlier.OutOfSight since) low so = so
-learned-raised station heard told asked posted most earlier.Known low so =
-    (so.0, within-more so.0.seen.posting posted most low so.1)
+learned-raised station heard told asked posted most earlier.Known low so = (
+  so.0,
+  within-more so.0.seen.posting posted most low so.1,
+  from-raised so.0.seen told asked posted most low so.0.enough so.2,
+)
 
 -- what entries a session that has learned asks to post rise
 pub rise-learned : (station : ℕ) (heard : List Reply) (told : List Response) (asked : List Entry)
@@ -264,7 +296,7 @@ rise-learned station heard told asked posted earlier.Known so = inr so.0
 
 by-seen : (station : ℕ) (heard : List Reply) (told : List Response) (asked : List Entry)
     (posted : ℕ) (posting : Option Posting) (since : ℕ) → AreWithoutReference asked
-    → Once (HasSeenAll station (record { posting = posting; since = since })) heard
+    → HeldAtSomeMoment (HasSeenAll station (record { posting = posting; since = since })) heard
     → IfSome posting (λ last. reference_of last.entry ≤ posted)
     → IsLearned station heard told asked posted (earlier_of posting since)
 by-seen station heard told asked posted (Some last) since none looked within = (
@@ -275,6 +307,7 @@ by-seen station heard told asked posted (Some last) since none looked within = (
     above = above-any (record { posting = Some last; since = since }) asked none;
   },
   within,
+  tt,
 )
 by-seen station heard told asked posted None zero none looked within = (
   record {
@@ -284,13 +317,14 @@ by-seen station heard told asked posted None zero none looked within = (
     above = above-any (record { posting = None; since = zero }) asked none;
   },
   tt,
+  tt,
 )
 by-seen station heard told asked posted None (suc before) none looked within = (none, looked)
 
 -- a look at all that was posted says what is known
 pub learned-seen : (station : ℕ) (heard : List Reply) (told : List Response) (asked : List Entry)
     (posted : ℕ) (seen : LookAnswer) → AreWithoutReference asked
-    → Once (HasSeenAll station seen) heard → IsWithin posted seen
+    → HeldAtSomeMoment (HasSeenAll station seen) heard → IsWithin posted seen
     → IsLearned station heard told asked posted (earlier_by seen)
 learned-seen station heard told asked posted seen none looked within =
     by-seen station heard told asked posted seen.posting seen.since none looked within
@@ -313,43 +347,43 @@ first-learned station heard told asked posted earlier.Known reference looked abo
 -- from then on references begin there
 pub learned-first : (station : ℕ) (heard : List Reply) (told : List Response) (asked : List Entry)
     (posted most : ℕ) (known : Earlier) (reference : ℕ) → (known ≡ earlier.Unlooked → ⊥)
-    → posted ≤ most → Contains told (response.First reference)
+    → posted ≤ most → reference ≤ most + 1 → Contains told (response.First reference)
     → IsLearned station heard told asked posted known
     → IsLearned station heard told asked most earlier.Known
-learned-first station heard told asked posted most earlier.Unlooked reference looked low first so =
-    absurd (looked refl)
+learned-first station heard told asked posted most earlier.Unlooked reference looked low from first
+    so = absurd (looked refl)
 learned-first station heard told asked posted most (earlier.OutOfSight since) reference looked low
-    first so = (
+    from first so = (
       record {
         seen = nothing_since since;
         looked = so.1;
-        enough = inr (reference, first);
+        enough = inr (record {
+          reference = reference;
+          said = first;
+          from = λ k entry under some. absurd (omega (arith, some, so.0 k entry under));
+        });
         above = above-any (nothing_since since) asked so.0;
       },
       tt,
+      from,
     )
-learned-first station heard told asked posted most earlier.Known reference looked low first so =
-    (so.0, within-more so.0.seen.posting posted most low so.1)
+learned-first station heard told asked posted most earlier.Known reference looked low from first
+    so = (
+      so.0,
+      within-more so.0.seen.posting posted most low so.1,
+      from-raised so.0.seen told asked posted most low so.0.enough so.2,
+    )
 
--- at most one reply more came
-pub Grows : List Reply → List Reply → Type 0
-Grows heard more = (more ≡ heard) ⊎ ((one : Reply) × (more ≡ heard ++ one ∷ []))
-
--- as what a ring gave says
-pub grows : {E : Type 0} {Came : Reply → Type 0} {Lacks : Type 0} (result : Result Reply E)
-    (heard more : List Reply) → ((one : Reply) → Came one → more ≡ heard ++ one ∷ [])
-    → (Lacks → more ≡ heard) → IfOk result Came → OnErr result Lacks → Grows heard more
-unfolding Grows
-grows (Ok one) heard more some none came lacks = inr (one, some one came)
-grows (Err error) heard more some none came lacks = inl (none lacks)
-
--- what stays with one reply more stays
-pub grown : (So : List Reply → Type 0) (heard more : List Reply)
-    → ((one : Reply) → more ≡ heard ++ one ∷ [] → So heard → So more)
-    → Grows heard more → So heard → So more
-unfolding Grows
-grown So heard more stays (inl same) so = subst So (sym same) so
-grown So heard more stays (inr one) so = stays one.0 one.1 so
+-- a session that has looked has
+pub looked-learned : (station : ℕ) (heard : List Reply) (told : List Response)
+    (asked : List Entry) (posted : ℕ) (known : Earlier) → (known ≡ earlier.Unlooked → ⊥)
+    → IsLearned station heard told asked posted known
+    → (seen : LookAnswer) × HeldAtSomeMoment (HasSeenAll station seen) heard
+looked-learned station heard told asked posted earlier.Unlooked looked so = absurd (looked refl)
+looked-learned station heard told asked posted (earlier.OutOfSight since) looked so =
+    (nothing_since since, so.1)
+looked-learned station heard told asked posted earlier.Known looked so =
+    (so.0.seen, so.0.looked)
 
 -- what is told of an answer tells of its entry alone
 told-outcome : (station reference : ℕ) (heard : List Reply) (what : Outcome)
@@ -386,3 +420,22 @@ looked-by station limit heard (Ok step) before after on failed came was =
     (last-among (step_of_look station limit before (Ok step)) heard came) on)
 looked-by station limit heard (Err refusal) before after on failed came was =
     subst (λ (look : Look). ∥ HasLooked station limit heard look ∥₁) (sym failed) was
+
+-- a reference that is too far above all that are known is too far above the one that was seen
+greatest-within : (posting : Option Posting) (posted reference : ℕ) → posted + 2 ^ 32 < reference
+    → IfSome posting (λ last. reference_of last.entry ≤ posted)
+    → greatest_in posting + 2 ^ 32 < reference
+greatest-within None posted reference far within = omega (arith, far)
+greatest-within (Some last) posted reference far within = omega (arith, far, within)
+
+pub far-learned : (station : ℕ) (heard : List Reply) (told : List Response) (asked : List Entry)
+    (posted reference : ℕ) (what : Earlier) → what ≡ earlier.Known
+    → posted + 2 ^ 32 < reference → IsLearned station heard told asked posted what
+    → IsTooFar station reference heard
+far-learned station heard told asked posted reference what is far so =
+    let is-so = subst (λ (e : Earlier). IsLearned station heard told asked posted e) is so in
+    record {
+      seen = is-so.0.seen;
+      looked = is-so.0.looked;
+      far = greatest-within is-so.0.seen.posting posted reference far is-so.1;
+    }

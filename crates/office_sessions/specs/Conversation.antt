@@ -241,13 +241,13 @@ IsLast (Err refusal) = Unit {0}
 
 -- A conversation at one moment, with the counter of a station: every message that was taken from
 -- its reader, every response that was handed to its writer, and every reply that came to its
--- session, each in order, the entries that it asked to post and that nobody submitted, and whether
+-- session, each in order; the entries that it asked to post and that nobody submitted; and whether
 -- no question is answered any more.
 pub record ConversationState : Type 0 where
   pub station : ℕ
   pub said : List Message
   pub told : List Response
-  pub heard : List Reply
+  pub replies : List Reply
   pub unheard : List Entry
   pub is_silent : Bool
 

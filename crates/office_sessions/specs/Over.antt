@@ -12,9 +12,8 @@ use Rattle.office_sessions.specs.Replies.{AreToldBy, RiseFromEarlier}
 use Rattle.office_sessions.specs.declared.replies.Reply.{Reply}
 use Rattle.office_sessions.specs.declared.responses.Response.{Response}
 
--- Each response that tells of the ledger, of the archive or of copies was right by what had come;
--- and references were used only once it was known which were posted at the station before, and
--- above those.
+-- What was told of the ledger, of the archive or of copies is right by the replies; and references
+-- were used only above what some look at the station's postings saw.
 pub record FollowsReplies (station : ℕ) (told : List Response) (heard : List Reply)
     (asked : List Entry) : Type 0 where
   pub right : AreToldBy station told heard
@@ -23,13 +22,14 @@ pub record FollowsReplies (station : ℕ) (told : List Response) (heard : List R
 -- The conversation with a counter is over, whose requests went by this feed: of the responses those
 -- that tell of entries are the responses to the answers that were collected, in order, each once;
 -- each entry that it asked to post was submitted, or answered otherwise, or nobody took it up; the
--- references of those that were submitted are above; and all that else was told is right.
+-- references of those that were submitted are above; and what else was told follows from the
+-- replies.
 pub record IsOver (feed : FeedState) (conversation : ConversationState) : Type 0 where
   pub told : answers_among conversation.told ≡ map response_of feed.collected
   pub said : ∥ WereTakenUp conversation.said conversation.told (entries_of feed.asked)
       conversation.unheard ∥₁
   pub above : AreAbove feed.asked feed.collected
-  pub follows : FollowsReplies conversation.station conversation.told conversation.heard
+  pub follows : FollowsReplies conversation.station conversation.told conversation.replies
       (entries_of feed.asked)
 
 -- a conversation that is over stays so, whatever its feed
@@ -42,12 +42,14 @@ abbrev pub entries_asked : List Answer → StationDay → List Entry
 entries_asked collected day =
     entries_of (asks_of collected ++ asks_of day.answers.items ++ day.unanswered.items)
 
--- The same of what became of its requests. The references above 0 of those that were posted rise.
+-- The conversation is over, and so the counter's requests were answered: these answers were
+-- collected, and the rest is in what its station left. The references above 0 of those that were
+-- posted rise.
 pub record IsHeard (conversation : ConversationState) (collected : List Answer)
     (day : StationDay) : Type 0 where
   pub told : answers_among conversation.told ≡ map response_of collected
   pub said : ∥ WereTakenUp conversation.said conversation.told (entries_asked collected day)
       conversation.unheard ∥₁
   pub rising : PostsRising (collected ++ day.answers.items)
-  pub follows : FollowsReplies conversation.station conversation.told conversation.heard
+  pub follows : FollowsReplies conversation.station conversation.told conversation.replies
       (entries_asked collected day)

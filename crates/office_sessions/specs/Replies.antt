@@ -1,9 +1,9 @@
--- What a counter is told of the ledger: by the replies that came for it.
-use Rattle.std.specs.Prelude.{◌≡◌, ◌≢◌, ◌⊎◌, ◌^◌, ◌-◌, ◌<◌, ◌≤◌, ℕ, List, [], ◌∷◌, ◌++◌, All}
+-- What a counter may be told, by the replies that came to its session.
+use Rattle.std.specs.Prelude.{◌≡◌, ◌≢◌, ◌⊎◌, ◌+◌, ◌^◌, ◌-◌, ◌<◌, ◌≤◌, ℕ, List, [], ◌∷◌, ◌++◌, All}
 use Rattle.std.specs.Prelude.{Contains, Option, Some, None, IfSome, Result, Ok, Err}
+use Rattle.std.proofs.Common.{inl, inr}
 use Rattle.turn_ledger.specs.declared.entry.Entry.{Entry}
 use Rattle.turn_ledger.specs.Entry.{reference_of}
-use Rattle.turn_clerk.specs.declared.searching.Reached.{Reached}
 use Rattle.turn_clerk.specs.declared.searching.Reached.TheVariants as reached
 use Rattle.turn_clerk.specs.declared.searching.SearchStep.{SearchStep}
 use Rattle.turn_clerk.specs.declared.search_target.Posting.{Posting}
@@ -21,7 +21,7 @@ use Rattle.office_sessions.specs.declared.search.Search.{Search}
 use Rattle.office_sessions.specs.declared.session.Earlier.{Earlier}
 use Rattle.office_sessions.specs.declared.session.Earlier.TheVariants as earlier
 use Rattle.office_sessions.specs.declared.recess.ArchiveState.TheVariants as archive
-use Rattle.office_sessions.specs.declared.recess.WishOutcome.TheVariants as outcome
+use Rattle.office_sessions.specs.declared.recess.WishOutcome.TheVariants as wish
 use Rattle.office_sessions.specs.declared.replies.Reply.{Reply}
 use Rattle.office_sessions.specs.declared.replies.Reply.TheVariants as reply
 use Rattle.office_sessions.specs.declared.responses.Judgement.{Judgement}
@@ -35,14 +35,14 @@ pub record CameLast (reply : Reply) (heard : List Reply) : Type 0 where
   pub before : List Reply
   pub all : heard ≡ before ++ reply ∷ []
 
--- It was so by what had come at some moment.
-pub record Once (So : List Reply → Type 0) (heard : List Reply) : Type 0 where
+-- It held of what had come at some moment.
+pub record HeldAtSomeMoment (P : List Reply → Type 0) (heard : List Reply) : Type 0 where
   pub before : List Reply
   pub later : List Reply
   pub all : heard ≡ before ++ later
-  pub so : So before
+  pub so : P before
 
--- a step of a search, which is reported on what is asked where the search has come so far
+-- the reply that reports this step to what the search asks next
 abbrev pub step_of_search : Search → Result SearchStep FindRefusal → Reply
 step_of_search search step =
     reply.Report (question.Search (sought.Reference search.reference) search.from search.end)
@@ -105,7 +105,7 @@ pub data HasLooked (station limit : ℕ) (heard : List Reply) : Look → Type 0 
       → Contains heard (step_of_look station limit before (Ok step))
       → GoesOnBy before step.posting step.reached after → HasLooked station limit heard after
 
--- A look told this with the step that was reported last.
+-- A look ended with the last reply, and tells this.
 pub record HasSeenLast (station limit : ℕ) (seen : LookAnswer) (heard : List Reply) : Type 0 where
   pub look : Look
   pub looked : ∥ HasLooked station limit heard look ∥₁
@@ -115,18 +115,27 @@ pub record HasSeenLast (station limit : ℕ) (seen : LookAnswer) (heard : List R
   pub goes_on : GoesOnBy look step.posting step.reached after
   pub tells : seen_at after step.reached ≡ Some (Ok seen)
 
+abbrev pub greatest_in : Option Posting → ℕ
+greatest_in None = 0
+greatest_in (Some last) = reference_of last.entry
+
 -- what a look tells that saw nothing from that number on
 abbrev pub nothing_since : ℕ → LookAnswer
 nothing_since since = record { posting = None; since = since }
 
--- A look at all that was posted at a station told this in the end: by the records in sight, or by
--- the archive, where nothing in sight was posted there.
+-- A look at what was posted at a station tells this in the end: by the records in sight, if they
+-- are enough to know it, or by the archive, which was asked behind them if they weren't.
 pub data HasSeenAll (station : ℕ) (seen : LookAnswer) (heard : List Reply) : Type 0 where
-  in_sight : HasSeenLast station (2 ^ 64 - 1) seen heard → HasSeenAll station seen heard
-  in_archive : (since : ℕ) (kept : Option LookAnswer)
-      → Once (HasSeenLast station (2 ^ 64 - 1) (nothing_since since)) heard
-      → CameLast (reply.Outcome (outcome.Last kept)) heard → seen ≡ seen_farther since kept
+  in_sight : HasSeenLast station (2 ^ 64 - 1) seen heard → earlier_by seen ≡ earlier.Known
       → HasSeenAll station seen heard
+  in_archive : (since : ℕ) (kept : Option LookAnswer) (before : List Reply)
+      → HasSeenLast station (2 ^ 64 - 1) (nothing_since since) before
+      → heard ≡ before ++ reply.Outcome (wish.Last kept) ∷ [] → seen ≡ seen_farther since kept
+      → HasSeenAll station seen heard
+
+-- the greatest reference that was seen, 0 if none was
+abbrev pub greatest_of : LookAnswer → ℕ
+greatest_of seen = greatest_in seen.posting
 
 -- The reference is above the one that was seen, if there is one.
 abbrev pub IsAboveSeen : LookAnswer → ℕ → Type 0
@@ -143,12 +152,19 @@ pub record IsUsed (entry : Entry) (seen : LookAnswer) : Type 0 where
   pub other : (number : ℕ) → seen.posting ≢ Some (record { number = number; entry = entry })
   pub under : 0 < seen.since → IsUnder (reference_of entry) seen.posting
 
--- The look at the postings up to an entry's reference told last what is so.
-pub record HasSeenUpTo (station : ℕ) (entry : Entry) (So : LookAnswer → Type 0)
+-- With the last reply a look at the postings up to the entry's reference ended, and this holds of
+-- what it saw.
+pub record HasSeenUpTo (station : ℕ) (entry : Entry) (P : LookAnswer → Type 0)
     (heard : List Reply) : Type 0 where
   pub seen : LookAnswer
   pub last : HasSeenLast station (reference_of entry) seen heard
-  pub so : So seen
+  pub so : P seen
+
+-- The reference is more than 2^32 above the one that a look saw, or above 0 if it saw none.
+pub record IsTooFar (station reference : ℕ) (heard : List Reply) : Type 0 where
+  pub seen : LookAnswer
+  pub looked : HeldAtSomeMoment (HasSeenAll station seen) heard
+  pub far : greatest_of seen + 2 ^ 32 < reference
 
 -- What became of an entry that wasn't submitted: it is as the look at the postings up to its
 -- reference told; or nothing of its station is in sight; or its reference is too far above any.
@@ -157,16 +173,16 @@ IsJudgedBy station entry (judgement.Posted number) heard =
     HasSeenUpTo station entry
     (λ seen. seen.posting ≡ Some (record { number = number; entry = entry })) heard
 IsJudgedBy station entry judgement.Reference heard =
-    HasSeenUpTo station entry (IsUsed entry) heard ⊎ (2 ^ 32 < reference_of entry)
+    HasSeenUpTo station entry (IsUsed entry) heard ⊎ IsTooFar station (reference_of entry) heard
 IsJudgedBy station entry (judgement.Unknown since) heard =
     HasSeenUpTo station entry (λ seen. IsUnknown entry seen since) heard
-    ⊎ Once (HasSeenAll station (nothing_since since)) heard
+    ⊎ HeldAtSomeMoment (HasSeenAll station (nothing_since since)) heard
 IsJudgedBy station entry (judgement.NotSeen refusal) heard = FailedLast refusal heard
 
--- A look at all that was posted saw nothing above that reference, or nothing from it on.
+-- A look at what was posted at the station saw no posting with this reference or a greater one.
 pub record IsFirst (station reference : ℕ) (heard : List Reply) : Type 0 where
   pub seen : LookAnswer
-  pub looked : Once (HasSeenAll station seen) heard
+  pub looked : HeldAtSomeMoment (HasSeenAll station seen) heard
   pub above : IsAboveSeen seen reference
 
 -- An office stands as its station told last.
@@ -176,8 +192,9 @@ pub record StandsAs (status : OfficeStatus) (heard : List Reply) : Type 0 where
   pub next : status.next ≡ room.next
   pub free : status.free ≡ room.free
 
--- The response is one to what came last, so far as it tells of the ledger, the archive or copies.
--- What is told of an entry that was submitted is its answer.
+-- The response is right by the replies, so far as it tells of the ledger, the archive or copies.
+-- What is told of an entry that was submitted is its answer, which is no reply. That a first
+-- reference is refused says no more than that a look was made.
 abbrev pub IsToldBy : ℕ → Response → List Reply → Type 0
 IsToldBy station (response.Balance account amount) heard =
     CameLast (reply.Report (question.Balance account) (report.Balance (Ok amount))) heard
@@ -191,23 +208,33 @@ IsToldBy station (response.Judged entry judged) heard = IsJudgedBy station entry
 IsToldBy station (response.Last seen) heard = HasSeenAll station seen heard
 IsToldBy station (response.First reference) heard = IsFirst station reference heard
 IsToldBy station (response.Archived next) heard =
-    CameLast (reply.Outcome (outcome.Archive (archive.UpTo next))) heard
+    CameLast (reply.Outcome (wish.Archive (archive.UpTo next))) heard
 IsToldBy station response.NoArchive heard =
-    CameLast (reply.Outcome (outcome.Archive archive.NoArchive)) heard
+    CameLast (reply.Outcome (wish.Archive archive.NoArchive)) heard
 IsToldBy station (response.Copied next) heard =
-    CameLast (reply.Outcome (outcome.Copy (Ok next))) heard
+    CameLast (reply.Outcome (wish.Copy (Ok next))) heard
 IsToldBy station (response.NoCopy refusal) heard =
-    CameLast (reply.Outcome (outcome.Copy (Err refusal))) heard
+    CameLast (reply.Outcome (wish.Copy (Err refusal))) heard
 IsToldBy station (response.Status status) heard = StandsAs status heard
-IsToldBy station _ heard = Unit {0}
+IsToldBy station (response.NotFirst reference) heard =
+    (seen : LookAnswer) × HeldAtSomeMoment (HasSeenAll station seen) heard
+IsToldBy station (response.Posted number reference) heard = Unit {0}
+IsToldBy station (response.Refused refusal reference) heard = Unit {0}
+IsToldBy station (response.Undecided reference) heard = Unit {0}
+IsToldBy station (response.Hello number) heard = Unit {0}
+IsToldBy station response.Name heard = Unit {0}
+IsToldBy station response.Closed heard = Unit {0}
+IsToldBy station (response.Wrong wrong) heard = Unit {0}
+IsToldBy station response.Help heard = Unit {0}
+IsToldBy station response.Closing heard = Unit {0}
 
--- It tells nothing of any of these.
+-- The response tells nothing of the ledger, the archive or copies.
 abbrev pub IsPlain : Response → Type 0
 IsPlain one = (station : ℕ) (heard : List Reply) → IsToldBy station one heard
 
--- Each response was right by what had come when it was told.
+-- Each response was right by what had come at some moment.
 abbrev pub AreToldBy : ℕ → List Response → List Reply → Type 0
-AreToldBy station told heard = All (λ one. ∥ Once (IsToldBy station one) heard ∥₁) told
+AreToldBy station told heard = All (λ one. ∥ HeldAtSomeMoment (IsToldBy station one) heard ∥₁) told
 
 -- none of the entries has a reference
 abbrev pub AreWithoutReference : List Entry → Type 0
@@ -218,22 +245,27 @@ abbrev pub AreAboveSeen : LookAnswer → List Entry → Type 0
 AreAboveSeen seen asked =
     All (λ entry. 0 < reference_of entry → IsAboveSeen seen (reference_of entry)) asked
 
--- All that was posted was seen, or a client said with which reference its own begin.
-abbrev pub IsEnough : LookAnswer → List Response → Type 0
-IsEnough seen told =
-    (earlier_by seen ≡ earlier.Known)
-    ⊎ ((reference : ℕ) × Contains told (response.First reference))
+-- The client said with which reference its own begin, and no entry has one below.
+pub record BeginsWith (told : List Response) (asked : List Entry) : Type 0 where
+  pub reference : ℕ
+  pub said : Contains told (response.First reference)
+  pub from : All (λ entry. 0 < reference_of entry → reference ≤ reference_of entry) asked
+
+-- What was posted before is known by what was seen; or nobody knows, and the client said where to
+-- begin.
+abbrev pub IsEnough : LookAnswer → List Response → List Entry → Type 0
+IsEnough seen told asked = (earlier_by seen ≡ earlier.Known) ⊎ BeginsWith told asked
 
 -- A look saw what was posted at a station before, which is enough to go by, and each reference of
 -- these entries is above the one that it saw.
 pub record AreAboveEarlier (station : ℕ) (heard : List Reply) (told : List Response)
     (asked : List Entry) : Type 0 where
   pub seen : LookAnswer
-  pub looked : Once (HasSeenAll station seen) heard
-  pub enough : IsEnough seen told
+  pub looked : HeldAtSomeMoment (HasSeenAll station seen) heard
+  pub enough : IsEnough seen told asked
   pub above : AreAboveSeen seen asked
 
--- References are used only once it is known which of them were posted before.
+-- References are used only above what some look at the station's postings saw.
 abbrev pub RiseFromEarlier : ℕ → List Reply → List Response → List Entry → Type 0
 RiseFromEarlier station heard told asked =
     AreWithoutReference asked ⊎ AreAboveEarlier station heard told asked
@@ -242,11 +274,18 @@ RiseFromEarlier station heard told asked =
 abbrev pub IsWithin : ℕ → LookAnswer → Type 0
 IsWithin most seen = IfSome seen.posting (λ last. reference_of last.entry ≤ most)
 
+-- if the client said where to begin, it is at most behind that one
+abbrev pub IsFrom : (seen : LookAnswer) (told : List Response) (asked : List Entry) → ℕ
+    → IsEnough seen told asked → Type 0
+IsFrom seen told asked most (inl known) = Unit {0}
+IsFrom seen told asked most (inr begins) = begins.reference ≤ most + 1
+
 -- What a session knows of the references that were posted at its station before, none of which is
 -- above `posted`.
 abbrev pub IsLearned : ℕ → List Reply → List Response → List Entry → ℕ → Earlier → Type 0
 IsLearned station heard told asked posted earlier.Unlooked = AreWithoutReference asked
 IsLearned station heard told asked posted (earlier.OutOfSight since) =
-    AreWithoutReference asked × Once (HasSeenAll station (nothing_since since)) heard
+    AreWithoutReference asked × HeldAtSomeMoment (HasSeenAll station (nothing_since since)) heard
 IsLearned station heard told asked posted earlier.Known =
     (above : AreAboveEarlier station heard told asked) × IsWithin posted above.seen
+    × IsFrom above.seen told asked posted above.enough

@@ -26,7 +26,6 @@ pub record KeepsLearned (old new : Session) : Type 0 where
   pub station : new.station ≡ old.station
   pub earlier : new.earlier ≡ old.earlier
   pub posted : new.postings.posted ≡ old.postings.posted
-  pub out_of_sight : new.out_of_sight ≡ old.out_of_sight
 
 -- What it is looking for stays too.
 pub record KeepsLooking (old new : Session) : Type 0 where

@@ -30,8 +30,9 @@ const LOOKS: u64 = 400;
 const PAUSE: u64 = 5;
 
 /// What was said at a counter of an office that closes, and what it was told. Contracts see both,
-/// by the ends of the rings whose other ends the counter's threads have; a program sees what came
-/// too late, and what the counter wasn't told.
+/// by the ends of the rings whose other ends the counter's threads have, and the replies to its
+/// session, which came from the scheduler; a program sees what came too late, and what the counter
+/// wasn't told.
 #[derive(Drop)]
 pub struct Conversation {
     station: u8,
@@ -58,7 +59,7 @@ impl Model for Conversation {
       station = c.station;
       said = received c.messages;
       told = sent c.responses;
-      heard = received c.replies;
+      replies = received c.replies;
       unheard = c.unheard.items;
       is_silent = c.is_silent;
     } };
@@ -82,7 +83,7 @@ impl Conversation {
           station = station;
           said = received messages;
           told = sent responses;
-          heard = received replies;
+          replies = received replies;
           unheard = unheard.items;
           is_silent = is_told_closing;
         } }

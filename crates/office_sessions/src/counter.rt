@@ -117,7 +117,7 @@ pub(crate) fn begin_session<
     ))
 }
 
-// Where what comes of what is asked at a station comes in. One thing is asked at a time.
+// The ring out of which the replies for a station come. One thing is asked at a time.
 fn connect<R: Wait>(
     rt: &R,
     alloc: Global,
@@ -126,9 +126,9 @@ fn connect<R: Wait>(
 ) -> Result<Consumer<Reply>, AllocError>
     ensures nothing { IfOk result (λ replies. received replies ≡ []) }
 {
-    let (replies, heard) = RingBuffer::new(alloc, 1)?;
+    let (replies, incoming) = RingBuffer::new(alloc, 1)?;
     scheduler.connect(rt, station, replies);
-    Ok(heard)
+    Ok(incoming)
 }
 
 // What wakes the threads of one counter.

@@ -10,7 +10,7 @@ ghost use Rattle.office_sessions.specs.Conversation.{own_question};
 ghost use Rattle.office_sessions.specs.Looked.{seen_with, seen_farther, GoesOnBy, Meets};
 ghost use Rattle.office_sessions.specs.Looked.{BeginsAnew, HasSeen, IsAbove};
 ghost use Rattle.office_sessions.specs.Replies.{IsUnknown, IsUsed, IsJudgedBy, HasSeenLast};
-ghost use Rattle.office_sessions.specs.Replies.{IsWithin};
+ghost use Rattle.office_sessions.specs.Replies.{IsWithin, greatest_of};
 ghost use Rattle.office_sessions.specs.declared.replies.Reply.{Reply};
 
 use crate::responses::Judgement;
@@ -51,7 +51,8 @@ pub struct LookAnswer {
 impl LookAnswer {
     // The greatest reference that was seen; 0 if none was.
     pub(crate) fn greatest(&self) -> u64
-        ensures { IsWithin result self.now }
+        ensures value { result ≡ greatest_of self.now }
+        ensures within { IsWithin result self.now }
     {
         match self.posting {
             Some(last) => last.entry.reference(),

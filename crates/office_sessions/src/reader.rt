@@ -1,10 +1,10 @@
 //! The thread that reads what a counter says.
-ghost use Rattle.std.specs.Prelude.{◌≡◌, ℕ, List, [], ◌∷◌, ◌++◌, Some, None};
+ghost use Rattle.std.specs.Prelude.{◌≡◌, ◌↔◌, ℕ, List, [], ◌∷◌, ◌++◌, true, Some, None};
 ghost use Rattle.rtrb.specs.Ring.{sent};
 ghost use Rattle.text_grammar.specs.declared.cutting.Cut.TheVariants.{Line, Nothing};
 ghost use Rattle.text_grammar.specs.Requests.{SpellsRequest};
 ghost use Rattle.text_grammar.specs.Script.{words_of};
-ghost use Rattle.office_sessions.specs.Reading.{Says, HandsOn};
+ghost use Rattle.office_sessions.specs.Reading.{Says, HandsOn, IsHello};
 
 use crate::messages::{Message, WrongLine};
 use crate::scheduler::Scheduler;
@@ -137,6 +137,8 @@ impl<I: Read + Drop> Reader<I> {
     fn heard(&mut self, request: Request) -> Message
         ensures says { (line : List ℕ) → SpellsRequest (words_of line) request
             → Says self.old.awaits_hello line (Some result) }
+        ensures waits { (self.new.awaits_hello ≡ true)
+            ↔ (self.old.awaits_hello ≡ true) × (IsHello request → ⊥) }
         ensures messages { self.new.messages ≡ self.old.messages }
     {
         if matches!(request, Request::Hello { .. }) {

@@ -127,7 +127,8 @@ pub enum Response {
 pub enum Judgement {
     /// The same entry stands under this reference, in the batch of this number.
     Posted(u64),
-    /// Under its reference another entry stands, or none, and one above it was posted.
+    /// Under its reference another entry stands, or none, and one above it was posted; or it is too
+    /// far above all that were posted, or below the first one that the client said.
     Reference,
     /// What stands under its reference isn't in sight, from the batch of this number on: the entry
     /// may stand before it.

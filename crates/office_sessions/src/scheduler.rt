@@ -28,7 +28,7 @@ const PAUSE: u64 = 5;
 /// refuse a thread.
 const TRIES: u64 = 2;
 
-/// What is asked at a station, and where what comes of it goes.
+/// What is asked at a station, and the ring into which the replies go.
 #[derive(Drop)]
 struct Exchange {
     question: Option<Question>,
@@ -164,7 +164,7 @@ impl Scheduler {
         }
     }
 
-    /// What comes of what is asked at a station goes there.
+    /// From now on the replies for a station go into this ring.
     pub(crate) fn connect<R: Wait>(&self, rt: &R, station: u8, replies: Producer<Reply>) {
         if let Some(waker) = self.wakers.get(station as usize) {
             waker.exchange.lock(rt).replies = Some(replies);

@@ -5,7 +5,7 @@ ghost use Rattle.station_desk.specs.Messages.{entries_of};
 ghost use Rattle.office_sessions.specs.Conversation.{response_of, answers_among, pending};
 ghost use Rattle.office_sessions.specs.Conversation.{WereTakenUp};
 ghost use Rattle.office_sessions.specs.Looked.{earlier_by};
-ghost use Rattle.office_sessions.specs.Replies.{AreToldBy, HasSearched, HasLooked, IsLearned, Once};
+ghost use Rattle.office_sessions.specs.Replies.{AreToldBy, HasSearched, HasLooked, IsLearned};
 ghost use Rattle.office_sessions.specs.Replies.{HasSeenLast, nothing_since};
 
 use crate::look::{Look, LookAnswer};
@@ -81,8 +81,8 @@ pub(crate) struct Session {
     // The look that is under way, at the own postings up to a reference.
     look: Look,
     limit: u64,
-    // Where the records in sight begin, in which a look saw nothing, and which goes on in the
-    // archive.
+    // Set while a look that saw nothing in sight goes on in the archive: the number of the first
+    // record in sight.
     out_of_sight: Option<u64>,
     recent: Recent,
     // Whether the counter was told that the office closes.
@@ -95,7 +95,7 @@ pub(crate) struct Session {
     ghost searched: { ∥ HasSearched (received replies) search ∥₁ },
     ghost looked: { ∥ HasLooked station limit (received replies) look ∥₁ },
     ghost far: { ∥ IfSome out_of_sight (λ since.
-        Once (HasSeenLast station (2 ^ 64 - 1) (nothing_since since)) (received replies)) ∥₁ },
+        HasSeenLast station (2 ^ 64 - 1) (nothing_since since) (received replies)) ∥₁ },
     ghost learned: { ∥ IsLearned station (received replies) (sent responses)
         (entries_of postings.feed.asked) postings.posted earlier ∥₁ },
 }

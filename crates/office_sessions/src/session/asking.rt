@@ -1,5 +1,5 @@
 //! What a counter asks that is no entry: of its station, or of a recess.
-ghost use Rattle.std.specs.Prelude.{◌≡◌, IfSome, Some};
+ghost use Rattle.std.specs.Prelude.{◌≡◌, [], ◌∷◌, ◌++◌, IfSome, Some, None};
 ghost use Rattle.rtrb.specs.Ring.{received};
 ghost use Rattle.text_grammar.specs.declared.requests.Request.TheVariants.{Balance, Find, Archive};
 ghost use Rattle.text_grammar.specs.declared.requests.Request.TheVariants.{Copy, Status};
@@ -40,26 +40,31 @@ impl Session {
             scheduler.put_question(rt, self.station, question);
             return None;
         }
-        match self.hear()? {
+        match self.next_reply()? {
             Reply::Report {
                 question: asked,
                 report,
-            } if asked == question => {
-                self.is_asked = false;
-                Some(report)
-            }
+            } if asked == question => Some(report),
+            // asked again
             Reply::Report { .. } | Reply::Outcome(_) => None,
         }
     }
 
-    // The next reply that has come, if there is one.
-    fn hear(&mut self) -> Option<Reply>
+    // The reply to what was asked last, if it has come. A look that waits for the archive ends with
+    // it.
+    fn next_reply(&mut self) -> Option<Reply>
         ensures stays { TellsNothing self.old self.new }
         ensures keeps { KeepsLooking self.old self.new }
-        ensures last { IfSome result (λ reply. CameLast reply (received self.new.replies)) }
+        ensures last { IfSome result (λ reply.
+            received self.new.replies ≡ received self.old.replies ++ reply ∷ []) }
+        ensures none { result ≡ None → self.new.out_of_sight ≡ self.old.out_of_sight }
     {
         match self.replies.pop() {
-            Ok(reply) => Some(reply),
+            Ok(reply) => {
+                self.is_asked = false;
+                self.out_of_sight = None;
+                Some(reply)
+            }
             Err(_) => None,
         }
     }
@@ -123,19 +128,17 @@ impl Session {
         requires behind { self.old.postings.unanswered ≡ 0 }
         ensures stays { TellsNothing self.old self.new }
         ensures keeps { KeepsLooking self.old self.new }
-        ensures last { IfSome result (λ came.
-            CameLast (Reply.Outcome came) (received self.new.replies)) }
+        ensures last { IfSome result (λ came. received self.new.replies
+            ≡ received self.old.replies ++ Reply.Outcome came ∷ []) }
     {
         if !self.is_asked {
             self.is_asked = true;
             scheduler.call_recess(rt, self.station, wish);
             return None;
         }
-        match self.hear()? {
-            Reply::Outcome(came) => {
-                self.is_asked = false;
-                Some(came)
-            }
+        match self.next_reply()? {
+            Reply::Outcome(came) => Some(came),
+            // called again
             Reply::Report { .. } => None,
         }
     }

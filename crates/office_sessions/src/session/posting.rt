@@ -1,5 +1,5 @@
 //! How a counter's entries are posted: each reference once.
-ghost use Rattle.std.specs.Prelude.{◌≡◌, ◌≢◌, ◌^◌, ◌<◌, ◌≤◌, IsTrue, IfSome, IfOk, IfErr, Some};
+ghost use Rattle.std.specs.Prelude.{◌≡◌, ◌≢◌, ◌+◌, ◌^◌, ◌<◌, max, IsTrue, IfSome, IfOk, IfErr, Some};
 ghost use Rattle.std.specs.Prelude.{None, OnOk, IsOkAnd};
 ghost use Rattle.rtrb.specs.Ring.{received};
 ghost use Rattle.text_grammar.specs.declared.requests.Request.TheVariants.{Post, Last, First};
@@ -8,6 +8,7 @@ ghost use Rattle.office_sessions.specs.declared.messages.Message.TheVariants.{As
 ghost use Rattle.office_sessions.specs.Conversation.{MayLook};
 ghost use Rattle.office_sessions.specs.Looked.{earlier_by};
 ghost use Rattle.office_sessions.specs.Replies.{IsJudgedBy, HasSeenLast, HasSeenAll, FailedLast};
+ghost use Rattle.office_sessions.specs.Replies.{greatest_of};
 ghost use Rattle.office_sessions.specs.Session.{HasPlace, OnlyTells, TellsNothing, KeepsLearned};
 ghost use Rattle.turn_ledger.specs.Entry.{reference_of};
 
@@ -91,7 +92,10 @@ impl Session {
         ensures submitted { result ≡ Submission.Submitted → self.new.next ≡ None }
         ensures next { result ≢ Submission.Submitted → self.new.next ≡ self.old.next }
         ensures room { self.new.responses ≡ self.old.responses }
-        ensures too_far { result ≡ Submission.TooFar → 2 ^ 32 < reference_of entry }
+        ensures too_far { result ≡ Submission.TooFar
+            → self.old.postings.posted + 2 ^ 32 < reference_of entry }
+        ensures learned { result ≢ Submission.Submitted → KeepsLearned self.old self.new }
+        ensures replies { self.new.replies ≡ self.old.replies }
         ensures unanswered { result ≢ Submission.Submitted
             → self.new.postings.unanswered ≡ self.old.postings.unanswered }
     {
@@ -172,7 +176,8 @@ impl Session {
         None
     }
 
-    // Begins a look up to that reference, unless one is under way.
+    // Begins a look up to that reference, unless one up to it is under way. One up to another
+    // reference is given up.
     fn look_up_to(&mut self, limit: u64)
         ensures stays { TellsNothing self.old self.new }
         ensures learns { KeepsLearned self.old self.new }
@@ -229,14 +234,13 @@ impl Session {
             FailedLast refusal (received self.new.replies))) }
     {
         if self.out_of_sight.is_none() {
-            match self.look(rt, scheduler, u64::MAX)? {
-                Ok(
-                    LookAnswer {
-                        posting: None,
-                        since: since @ 1..,
-                    },
-                ) => self.out_of_sight = Some(since),
-                seen => return Some(seen),
+            let seen = match self.look(rt, scheduler, u64::MAX)? {
+                Ok(seen) => seen,
+                Err(refusal) => return Some(Err(refusal)),
+            };
+            match (seen.posting, seen.since) {
+                (None, 1..) => self.out_of_sight = Some(seen.since),
+                (Some(_), _) | (None, 0) => return Some(Ok(seen)),
             }
         }
         self.look_in_archive(rt, scheduler)
@@ -259,7 +263,6 @@ impl Session {
         let WishOutcome::Last(in_archive) = self.what_came(rt, scheduler, Wish::Last)? else {
             return None;
         };
-        self.out_of_sight = None;
         Some(Ok(farther(since, in_archive)))
     }
 
@@ -271,9 +274,8 @@ impl Session {
         ensures learned { self.old.earlier ≡ Earlier.Unlooked → self.new.earlier ≡ earlier_by seen }
         ensures known { self.new.earlier ≢ Earlier.Unlooked }
         ensures same { self.old.earlier ≢ Earlier.Unlooked → self.new.earlier ≡ self.old.earlier }
-        ensures greatest { IfSome seen.posting (λ last.
-            reference_of last.entry ≤ self.new.postings.posted) }
-        ensures never_falls { self.old.postings.posted ≤ self.new.postings.posted }
+        ensures greatest { self.new.postings.posted
+            ≡ max self.old.postings.posted (greatest_of seen) }
         ensures stays { TellsNothing self.old self.new }
     {
         self.postings.raise(seen.greatest());

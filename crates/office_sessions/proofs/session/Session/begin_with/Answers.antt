@@ -10,6 +10,7 @@ use Rattle.office_sessions.specs.Replies.{IsLearned}
 use Rattle.office_sessions.specs.declared.responses.Response.TheVariants as response
 use Rattle.office_sessions.specs.declared.session.Earlier.TheVariants as earlier
 use Rattle.office_sessions.proofs.ToldBy.{among-last, first-learned, learned-first}
+use Rattle.office_sessions.proofs.ToldBy.{looked-learned}
 use Rattle.office_sessions.proofs.session.Session.begin_with.Goals as goal
 
 pub respond-told-requires-clause-by : goal.respond-told-requires-clause-by
@@ -24,6 +25,18 @@ respond-told-requires-clause-by g c =
     (entries_of mid.postings.feed.asked) mid.postings.posted mid.earlier c.args.reference
     looked
     (omega (arith, c.if-reference-greatest.false, c.greatest.ensures)))
+
+pub respond-requires-then-reference-greatest-clause-by :
+    goal.respond-requires-then-reference-greatest-clause-by
+respond-requires-then-reference-greatest-clause-by g c =
+    let mid = c.look_back.new.self in
+    let looked = subst
+    (λ (told : Result (Unit {0}) FindRefusal). OnOk told
+    (c.look_back.new.self.earlier ≢ earlier.Unlooked))
+    c.in-Some-Ok.field-0-is c.in-Some-Ok.ensures.looked in
+    ∥∥₁_map mid.learned
+    (looked-learned mid.station (received mid.replies) (sent mid.responses)
+    (entries_of mid.postings.feed.asked) mid.postings.posted mid.earlier looked)
 
 pub invariant_of-self-clause-learned : goal.invariant_of-self-clause-learned
 invariant_of-self-clause-learned g c =
@@ -41,6 +54,7 @@ invariant_of-self-clause-learned g c =
     (learned-first mid.station (received mid.replies) (sent mid.responses)
     (entries_of mid.postings.feed.asked) mid.postings.posted posted mid.earlier c.args.reference
     (λ unlooked. looked (sym c.respond-told.ensures.keeps.learned.earlier ∙ unlooked))
+    (omega (arith, c.raise.ensures.greatest))
     (omega (arith, c.raise.ensures.greatest))
     (among-last (sent was.responses) (response.First c.args.reference)
     c.respond-told.ensures.told)))

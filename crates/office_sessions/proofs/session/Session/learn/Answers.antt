@@ -1,4 +1,4 @@
-use Rattle.std.specs.Prelude.{◌≤◌, ℕ, map, max}
+use Rattle.std.specs.Prelude.{map}
 use Rattle.std.proofs.Common.{sym, ◌∙◌, ap, subst, arith}
 use Rattle.std.proofs.Math.Logic.{∥∥₁_elim, ∥∥₁_map}
 use Rattle.rtrb.specs.Ring.{sent, received}
@@ -8,7 +8,6 @@ use Rattle.office_sessions.specs.Conversation.{WereTakenUp, pending, response_of
 use Rattle.office_sessions.specs.Looked.{earlier_by}
 use Rattle.office_sessions.specs.Replies.{HasSeenAll, IsLearned}
 use Rattle.office_sessions.specs.declared.session.Earlier.{Earlier}
-use Rattle.office_sessions.specs.declared.session.Earlier.TheVariants as earlier
 use Rattle.office_sessions.proofs.ToldBy.{once-now, learned-seen, learned-raised, within-more}
 use Rattle.office_sessions.proofs.session.Session.learn.Goals as goal
 
@@ -29,7 +28,7 @@ invariant_of-self-clause-learned c =
     (entries_of old.postings.feed.asked) old.postings.posted known) c.in-Unlooked.is so)
     (once-now (HasSeenAll old.station seen) heard looked)
     (within-more seen.posting c.greatest.result posted
-    (omega (arith, c.raise.ensures.greatest)) c.greatest.ensures)))))
+    (omega (arith, c.raise.ensures.greatest)) c.greatest.ensures.within)))))
 
 pub invariant_of-self-in-OutOfSight-clause-learned : goal.invariant_of-self-in-OutOfSight-clause-learned
 invariant_of-self-in-OutOfSight-clause-learned c =

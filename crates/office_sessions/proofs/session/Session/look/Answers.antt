@@ -1,12 +1,11 @@
 use Rattle.std.specs.Prelude.{◌≡◌}
 use Rattle.std.proofs.Common.{sym, ◌∙◌, ap, subst}
 use Rattle.rtrb.specs.Ring.{received}
-use Rattle.station_desk.specs.declared.errand.Report.TheVariants as report
 use Rattle.office_sessions.specs.Conversation.{own_question}
 use Rattle.office_sessions.specs.declared.look.Look.{Look}
 use Rattle.office_sessions.specs.declared.replies.Reply.{Reply}
 use Rattle.office_sessions.specs.declared.replies.Reply.TheVariants as reply
-use Rattle.office_sessions.specs.Replies.{CameLast, HasLooked, look_begins, step_of_look}
+use Rattle.office_sessions.specs.Replies.{CameLast, HasLooked, look_begins}
 use Rattle.office_sessions.proofs.ToldBy.{looked-by}
 use Rattle.office_sessions.proofs.session.Session.look.Goals as goal
 

@@ -1,6 +1,6 @@
 use Rattle.std.specs.Prelude.{◌≡◌, List, map}
 use Rattle.std.proofs.Common.{sym, subst}
-use Rattle.rtrb.specs.Ring.{sent, received}
+use Rattle.rtrb.specs.Ring.{received}
 use Rattle.station_desk.specs.Messages.{entries_of}
 use Rattle.office_sessions.specs.Conversation.{WereTakenUp, answers_among, pending, response_of}
 use Rattle.office_sessions.specs.Replies.{AreToldBy, IsLearned}

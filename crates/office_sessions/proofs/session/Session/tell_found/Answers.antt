@@ -1,4 +1,3 @@
-use Rattle.std.specs.Prelude.{◌≡◌}
 use Rattle.std.proofs.Common.{sym, ◌∙◌, ap, subst}
 use Rattle.rtrb.specs.Ring.{received}
 use Rattle.turn_clerk.specs.declared.search_target.SearchTarget.TheVariants as sought
