@@ -33,7 +33,7 @@ heard feed conversation part day over done = record {
       ∥ WereTakenUp conversation.said conversation.told (entries_of asked) conversation.unheard ∥₁)
       done.asked over.said;
   follows = subst
-      (λ (asked : List Ask). FollowsReplies conversation.station conversation.told
+      (λ (asked : List Ask). FollowsReplies conversation.own conversation.told
       conversation.replies (entries_of asked)) done.asked over.follows;
   rising = posts-rising feed.asked feed.collected day.answers.items day.unanswered.items done.asked
       over.above;

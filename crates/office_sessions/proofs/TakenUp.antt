@@ -144,10 +144,10 @@ over-told feed state one told more other plain over = record {
       (sym more) (taken-told one other.1 taken));
   above = over.above;
   follows = record {
-    right = told-more state.station state.told state.replies one more
-        ∣ plain state.station state.replies ∣₁ over.follows.right;
+    right = told-more state.own state.told state.replies one more
+        ∣ plain state.own state.replies ∣₁ over.follows.right;
     rise = ∥∥₁_map over.follows.rise
-        (rise-told state.station state.replies state.told one (entries_of feed.asked) more);
+        (rise-told state.own state.replies state.told one (entries_of feed.asked) more);
   };
 }
 

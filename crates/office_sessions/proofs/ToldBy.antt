@@ -16,7 +16,7 @@ use Rattle.turn_clerk.specs.declared.refusals.FindRefusal.{FindRefusal}
 use Rattle.station_desk.specs.declared.messages.Answer.{Answer}
 use Rattle.station_desk.specs.declared.messages.Outcome.{Outcome}
 use Rattle.station_desk.specs.declared.messages.Outcome.TheVariants as outcome
-use Rattle.office_sessions.specs.Conversation.{told_of, response_of}
+use Rattle.office_sessions.specs.Conversation.{OwnPostings, told_of, response_of}
 use Rattle.office_sessions.specs.Looked.{earlier_by, earlier_of, GoesOnBy}
 use Rattle.office_sessions.specs.Replies.{CameLast, HeldAtSomeMoment, HasSearched, HasLooked}
 use Rattle.office_sessions.specs.Replies.{search_begins, search_goes_on, look_begins, look_goes_on}
@@ -77,60 +77,60 @@ searched-more heard one search is was =
     ∥∥₁_map was (λ so. subst (λ (l : List Reply). HasSearched l search) (sym is)
     (searched-on heard one search so))
 
-looked-on : (station limit : ℕ) (heard : List Reply) (one : Reply) (look : Look)
-    → HasLooked station limit heard look → HasLooked station limit (heard ++ one ∷ []) look
-looked-on station limit heard one look (look_begins first) = look_begins first
-looked-on station limit heard one look (look_goes_on before after step was among on) =
-    look_goes_on before after step (looked-on station limit heard one before was)
+looked-on : (own : OwnPostings) (limit : ℕ) (heard : List Reply) (one : Reply) (look : Look)
+    → HasLooked own limit heard look → HasLooked own limit (heard ++ one ∷ []) look
+looked-on own limit heard one look look_begins = look_begins
+looked-on own limit heard one look (look_goes_on before after step was among on) =
+    look_goes_on before after step (looked-on own limit heard one before was)
     (Contains-append_left heard (one ∷ []) _ among) on
 
-pub looked-more : (station limit : ℕ) (heard : List Reply) (one : Reply) (look : Look)
-    {more : List Reply} → more ≡ heard ++ one ∷ [] → ∥ HasLooked station limit heard look ∥₁
-    → ∥ HasLooked station limit more look ∥₁
-looked-more station limit heard one look is was =
-    ∥∥₁_map was (λ so. subst (λ (l : List Reply). HasLooked station limit l look) (sym is)
-    (looked-on station limit heard one look so))
+pub looked-more : (own : OwnPostings) (limit : ℕ) (heard : List Reply) (one : Reply) (look : Look)
+    {more : List Reply} → more ≡ heard ++ one ∷ [] → ∥ HasLooked own limit heard look ∥₁
+    → ∥ HasLooked own limit more look ∥₁
+looked-more own limit heard one look is was =
+    ∥∥₁_map was (λ so. subst (λ (l : List Reply). HasLooked own limit l look) (sym is)
+    (looked-on own limit heard one look so))
 
 -- what was told was right by what had come, also where more has come
-pub told-heard : (station : ℕ) (told : List Response) (heard : List Reply) (one : Reply)
-    {more : List Reply} → more ≡ heard ++ one ∷ [] → AreToldBy station told heard
-    → AreToldBy station told more
-told-heard station told heard one is right =
+pub told-heard : (own : OwnPostings) (told : List Response) (heard : List Reply) (one : Reply)
+    {more : List Reply} → more ≡ heard ++ one ∷ [] → AreToldBy own told heard
+    → AreToldBy own told more
+told-heard own told heard one is right =
     λ k other low. ∥∥₁_map (right k other low) (once-more _ heard one is)
 
 -- and is, with one response more that is right by now
-pub told-more : (station : ℕ) (told : List Response) (heard : List Reply) (one : Response)
-    {more : List Response} → more ≡ told ++ one ∷ [] → ∥ IsToldBy station one heard ∥₁
-    → AreToldBy station told heard → AreToldBy station more heard
-told-more station told heard one is by right =
-    let So : Response → Type 0 = λ each. ∥ HeldAtSomeMoment (IsToldBy station each) heard ∥₁ in
-    subst (λ (l : List Response). AreToldBy station l heard) (sym is)
+pub told-more : (own : OwnPostings) (told : List Response) (heard : List Reply) (one : Response)
+    {more : List Response} → more ≡ told ++ one ∷ [] → ∥ IsToldBy own one heard ∥₁
+    → AreToldBy own told heard → AreToldBy own more heard
+told-more own told heard one is by right =
+    let So : Response → Type 0 = λ each. ∥ HeldAtSomeMoment (IsToldBy own each) heard ∥₁ in
+    subst (λ (l : List Response). AreToldBy own l heard) (sym is)
     (All-append So told (one ∷ []) right
-    (All-cons So one [] (∥∥₁_map by (once-now (IsToldBy station one) heard)) (All-nil So)))
+    (All-cons So one [] (∥∥₁_map by (once-now (IsToldBy own one) heard)) (All-nil So)))
 
 -- what a session has learned, with one reply more
-module _ (station : ℕ) (heard : List Reply) (one : Reply) (told : List Response)
+module _ (own : OwnPostings) (heard : List Reply) (one : Reply) (told : List Response)
     (asked : List Entry) (posted : ℕ) where
   above-heard : {more : List Reply} → more ≡ heard ++ one ∷ []
-      → AreAboveEarlier station heard told asked → AreAboveEarlier station more told asked
+      → AreAboveEarlier own heard told asked → AreAboveEarlier own more told asked
   above-heard is above = record {
     seen = above.seen;
-    looked = once-more (HasSeenAll station above.seen) heard one is above.looked;
+    looked = once-more (HasSeenAll own above.seen) heard one is above.looked;
     enough = above.enough;
     above = above.above;
   }
 
   pub learned-heard : (known : Earlier) {more : List Reply} → more ≡ heard ++ one ∷ []
-      → IsLearned station heard told asked posted known
-      → IsLearned station more told asked posted known
+      → IsLearned own heard told asked posted known
+      → IsLearned own more told asked posted known
   unfolding above-heard
   learned-heard earlier.Unlooked is so = so
   learned-heard (earlier.OutOfSight since) is so =
-      (so.0, once-more (HasSeenAll station (nothing_since since)) heard one is so.1)
+      (so.0, once-more (HasSeenAll own (nothing_since since)) heard one is so.1)
   learned-heard earlier.Known is so = (above-heard is so.0, so.1, so.2)
 
 -- with one response more
-module _ (station : ℕ) (heard : List Reply) (told : List Response) (one : Response)
+module _ (own : OwnPostings) (heard : List Reply) (told : List Response) (one : Response)
     (asked : List Entry) where
   enough-told : (seen : LookAnswer) {more : List Response} → more ≡ told ++ one ∷ []
       → IsEnough seen told asked → IsEnough seen more asked
@@ -150,7 +150,7 @@ module _ (station : ℕ) (heard : List Reply) (told : List Response) (one : Resp
   from-told seen most is (inr begins) so = so
 
   above-told : {more : List Response} → more ≡ told ++ one ∷ []
-      → AreAboveEarlier station heard told asked → AreAboveEarlier station heard more asked
+      → AreAboveEarlier own heard told asked → AreAboveEarlier own heard more asked
   above-told is above = record {
     seen = above.seen;
     looked = above.looked;
@@ -159,13 +159,13 @@ module _ (station : ℕ) (heard : List Reply) (told : List Response) (one : Resp
   }
 
   pub rise-told : {more : List Response} → more ≡ told ++ one ∷ []
-      → RiseFromEarlier station heard told asked → RiseFromEarlier station heard more asked
+      → RiseFromEarlier own heard told asked → RiseFromEarlier own heard more asked
   rise-told is (inl none) = inl none
   rise-told is (inr above) = inr (above-told is above)
 
   pub learned-told : (posted : ℕ) (known : Earlier) {more : List Response}
-      → more ≡ told ++ one ∷ [] → IsLearned station heard told asked posted known
-      → IsLearned station heard more asked posted known
+      → more ≡ told ++ one ∷ [] → IsLearned own heard told asked posted known
+      → IsLearned own heard more asked posted known
   unfolding above-told
   learned-told posted earlier.Unlooked is so = so
   learned-told posted (earlier.OutOfSight since) is so = so
@@ -236,24 +236,24 @@ enough-more seen told asked posted entry is above (inr begins) so =
     )
 
 -- with one entry more, whose reference is above all that are known
-pub learned-asked : (station : ℕ) (heard : List Reply) (told : List Response) (asked : List Entry)
-    (posted : ℕ) (known : Earlier) (entry : Entry) {more : List Entry}
+pub learned-asked : (own : OwnPostings) (heard : List Reply) (told : List Response)
+    (asked : List Entry) (posted : ℕ) (known : Earlier) (entry : Entry) {more : List Entry}
     → more ≡ asked ++ entry ∷ []
     → (0 < reference_of entry → known ≡ earlier.Known)
     → (0 < reference_of entry → posted < reference_of entry)
-    → IsLearned station heard told asked posted known
-    → IsLearned station heard told more posted known
-learned-asked station heard told asked posted earlier.Unlooked entry is only above so =
+    → IsLearned own heard told asked posted known
+    → IsLearned own heard told more posted known
+learned-asked own heard told asked posted earlier.Unlooked entry is only above so =
     none-more asked entry is
     (no-reference (reference_of entry) (λ some. let known = only some in absurd (cc))
     (cases_lt 0 (reference_of entry))) so
-learned-asked station heard told asked posted (earlier.OutOfSight since) entry is only above so = (
+learned-asked own heard told asked posted (earlier.OutOfSight since) entry is only above so = (
   none-more asked entry is
       (no-reference (reference_of entry) (λ some. let known = only some in absurd (cc))
       (cases_lt 0 (reference_of entry))) so.0,
   so.1,
 )
-learned-asked station heard told asked posted earlier.Known entry is only above so =
+learned-asked own heard told asked posted earlier.Known entry is only above so =
     let enough =
     enough-more so.0.seen told asked posted entry is above so.0.enough so.2 in (
       record {
@@ -274,32 +274,32 @@ from-raised seen told asked posted most low (inl known) so = tt
 from-raised seen told asked posted most low (inr begins) so = omega (arith, low, so)
 
 -- where more is known to be posted
-pub learned-raised : (station : ℕ) (heard : List Reply) (told : List Response) (asked : List Entry)
-    (posted most : ℕ) (known : Earlier) → posted ≤ most
-    → IsLearned station heard told asked posted known
-    → IsLearned station heard told asked most known
-learned-raised station heard told asked posted most earlier.Unlooked low so = so
-learned-raised station heard told asked posted most (earlier.OutOfSight since) low so = so
-learned-raised station heard told asked posted most earlier.Known low so = (
+pub learned-raised : (own : OwnPostings) (heard : List Reply) (told : List Response)
+    (asked : List Entry) (posted most : ℕ) (known : Earlier) → posted ≤ most
+    → IsLearned own heard told asked posted known
+    → IsLearned own heard told asked most known
+learned-raised own heard told asked posted most earlier.Unlooked low so = so
+learned-raised own heard told asked posted most (earlier.OutOfSight since) low so = so
+learned-raised own heard told asked posted most earlier.Known low so = (
   so.0,
   within-more so.0.seen.posting posted most low so.1,
   from-raised so.0.seen told asked posted most low so.0.enough so.2,
 )
 
 -- what entries a session that has learned asks to post rise
-pub rise-learned : (station : ℕ) (heard : List Reply) (told : List Response) (asked : List Entry)
-    (posted : ℕ) (known : Earlier) → IsLearned station heard told asked posted known
-    → RiseFromEarlier station heard told asked
-rise-learned station heard told asked posted earlier.Unlooked so = inl so
-rise-learned station heard told asked posted (earlier.OutOfSight since) so = inl so.0
-rise-learned station heard told asked posted earlier.Known so = inr so.0
+pub rise-learned : (own : OwnPostings) (heard : List Reply) (told : List Response)
+    (asked : List Entry) (posted : ℕ) (known : Earlier) → IsLearned own heard told asked posted known
+    → RiseFromEarlier own heard told asked
+rise-learned own heard told asked posted earlier.Unlooked so = inl so
+rise-learned own heard told asked posted (earlier.OutOfSight since) so = inl so.0
+rise-learned own heard told asked posted earlier.Known so = inr so.0
 
-by-seen : (station : ℕ) (heard : List Reply) (told : List Response) (asked : List Entry)
-    (posted : ℕ) (posting : Option Posting) (since : ℕ) → AreWithoutReference asked
-    → HeldAtSomeMoment (HasSeenAll station (record { posting = posting; since = since })) heard
+by-seen : (own : OwnPostings) (heard : List Reply) (told : List Response)
+    (asked : List Entry) (posted : ℕ) (posting : Option Posting) (since : ℕ) → AreWithoutReference asked
+    → HeldAtSomeMoment (HasSeenAll own (record { posting = posting; since = since })) heard
     → IfSome posting (λ last. reference_of last.entry ≤ posted)
-    → IsLearned station heard told asked posted (earlier_of posting since)
-by-seen station heard told asked posted (Some last) since none looked within = (
+    → IsLearned own heard told asked posted (earlier_of posting since)
+by-seen own heard told asked posted (Some last) since none looked within = (
   record {
     seen = record { posting = Some last; since = since };
     looked = looked;
@@ -309,7 +309,7 @@ by-seen station heard told asked posted (Some last) since none looked within = (
   within,
   tt,
 )
-by-seen station heard told asked posted None zero none looked within = (
+by-seen own heard told asked posted None zero none looked within = (
   record {
     seen = record { posting = None; since = zero };
     looked = looked;
@@ -319,40 +319,40 @@ by-seen station heard told asked posted None zero none looked within = (
   tt,
   tt,
 )
-by-seen station heard told asked posted None (suc before) none looked within = (none, looked)
+by-seen own heard told asked posted None (suc before) none looked within = (none, looked)
 
 -- a look at all that was posted says what is known
-pub learned-seen : (station : ℕ) (heard : List Reply) (told : List Response) (asked : List Entry)
-    (posted : ℕ) (seen : LookAnswer) → AreWithoutReference asked
-    → HeldAtSomeMoment (HasSeenAll station seen) heard → IsWithin posted seen
-    → IsLearned station heard told asked posted (earlier_by seen)
-learned-seen station heard told asked posted seen none looked within =
-    by-seen station heard told asked posted seen.posting seen.since none looked within
+pub learned-seen : (own : OwnPostings) (heard : List Reply) (told : List Response)
+    (asked : List Entry) (posted : ℕ) (seen : LookAnswer) → AreWithoutReference asked
+    → HeldAtSomeMoment (HasSeenAll own seen) heard → IsWithin posted seen
+    → IsLearned own heard told asked posted (earlier_by seen)
+learned-seen own heard told asked posted seen none looked within =
+    by-seen own heard told asked posted seen.posting seen.since none looked within
 
 -- a session that has looked knows that the reference is above what was posted before
-pub first-learned : (station : ℕ) (heard : List Reply) (told : List Response) (asked : List Entry)
-    (posted : ℕ) (known : Earlier) (reference : ℕ) → (known ≡ earlier.Unlooked → ⊥)
-    → posted < reference → IsLearned station heard told asked posted known
-    → IsFirst station reference heard
-first-learned station heard told asked posted earlier.Unlooked reference looked above so =
+pub first-learned : (own : OwnPostings) (heard : List Reply) (told : List Response)
+    (asked : List Entry) (posted : ℕ) (known : Earlier) (reference : ℕ) → (known ≡ earlier.Unlooked → ⊥)
+    → posted < reference → IsLearned own heard told asked posted known
+    → IsFirst own reference heard
+first-learned own heard told asked posted earlier.Unlooked reference looked above so =
     absurd (looked refl)
-first-learned station heard told asked posted (earlier.OutOfSight since) reference looked above so =
+first-learned own heard told asked posted (earlier.OutOfSight since) reference looked above so =
     record { seen = nothing_since since; looked = so.1; above = tt }
-first-learned station heard told asked posted earlier.Known reference looked above so = record {
+first-learned own heard told asked posted earlier.Known reference looked above so = record {
   seen = so.0.seen;
   looked = so.0.looked;
   above = above-within so.0.seen.posting posted reference above so.1;
 }
 
 -- from then on references begin there
-pub learned-first : (station : ℕ) (heard : List Reply) (told : List Response) (asked : List Entry)
-    (posted most : ℕ) (known : Earlier) (reference : ℕ) → (known ≡ earlier.Unlooked → ⊥)
+pub learned-first : (own : OwnPostings) (heard : List Reply) (told : List Response)
+    (asked : List Entry) (posted most : ℕ) (known : Earlier) (reference : ℕ) → (known ≡ earlier.Unlooked → ⊥)
     → posted ≤ most → reference ≤ most + 1 → Contains told (response.First reference)
-    → IsLearned station heard told asked posted known
-    → IsLearned station heard told asked most earlier.Known
-learned-first station heard told asked posted most earlier.Unlooked reference looked low from first
+    → IsLearned own heard told asked posted known
+    → IsLearned own heard told asked most earlier.Known
+learned-first own heard told asked posted most earlier.Unlooked reference looked low from first
     so = absurd (looked refl)
-learned-first station heard told asked posted most (earlier.OutOfSight since) reference looked low
+learned-first own heard told asked posted most (earlier.OutOfSight since) reference looked low
     from first so = (
       record {
         seen = nothing_since since;
@@ -367,7 +367,7 @@ learned-first station heard told asked posted most (earlier.OutOfSight since) re
       tt,
       from,
     )
-learned-first station heard told asked posted most earlier.Known reference looked low from first
+learned-first own heard told asked posted most earlier.Known reference looked low from first
     so = (
       so.0,
       within-more so.0.seen.posting posted most low so.1,
@@ -375,27 +375,27 @@ learned-first station heard told asked posted most earlier.Known reference looke
     )
 
 -- a session that has looked has
-pub looked-learned : (station : ℕ) (heard : List Reply) (told : List Response)
+pub looked-learned : (own : OwnPostings) (heard : List Reply) (told : List Response)
     (asked : List Entry) (posted : ℕ) (known : Earlier) → (known ≡ earlier.Unlooked → ⊥)
-    → IsLearned station heard told asked posted known
-    → (seen : LookAnswer) × HeldAtSomeMoment (HasSeenAll station seen) heard
-looked-learned station heard told asked posted earlier.Unlooked looked so = absurd (looked refl)
-looked-learned station heard told asked posted (earlier.OutOfSight since) looked so =
+    → IsLearned own heard told asked posted known
+    → (seen : LookAnswer) × HeldAtSomeMoment (HasSeenAll own seen) heard
+looked-learned own heard told asked posted earlier.Unlooked looked so = absurd (looked refl)
+looked-learned own heard told asked posted (earlier.OutOfSight since) looked so =
     (nothing_since since, so.1)
-looked-learned station heard told asked posted earlier.Known looked so =
+looked-learned own heard told asked posted earlier.Known looked so =
     (so.0.seen, so.0.looked)
 
 -- what is told of an answer tells of its entry alone
-told-outcome : (station reference : ℕ) (heard : List Reply) (what : Outcome)
-    → IsToldBy station (told_of reference what) heard
-told-outcome station reference heard (outcome.Posted number) = tt
-told-outcome station reference heard (outcome.Refused refusal) = tt
-told-outcome station reference heard outcome.Undecided = tt
+told-outcome : (own : OwnPostings) (reference : ℕ) (heard : List Reply) (what : Outcome)
+    → IsToldBy own (told_of reference what) heard
+told-outcome own reference heard (outcome.Posted number) = tt
+told-outcome own reference heard (outcome.Refused refusal) = tt
+told-outcome own reference heard outcome.Undecided = tt
 
-pub told-answer : (station : ℕ) (heard : List Reply) (answer : Answer)
-    → IsToldBy station (response_of answer) heard
-told-answer station heard answer =
-    told-outcome station (reference_of answer.entry) heard answer.outcome
+pub told-answer : (own : OwnPostings) (heard : List Reply) (answer : Answer)
+    → IsToldBy own (response_of answer) heard
+told-answer own heard answer =
+    told-outcome own (reference_of answer.entry) heard answer.outcome
 
 -- a search goes on by a step that came last, or stays where the step failed
 pub searched-by : (heard : List Reply) (found : Result SearchStep FindRefusal)
@@ -409,17 +409,17 @@ searched-by heard (Err refusal) before after on failed came was =
     subst (λ (search : Search). ∥ HasSearched heard search ∥₁) (sym failed) was
 
 -- and so a look
-pub looked-by : (station limit : ℕ) (heard : List Reply) (found : Result SearchStep FindRefusal)
-    (before after : Look)
+pub looked-by : (own : OwnPostings) (limit : ℕ) (heard : List Reply)
+    (found : Result SearchStep FindRefusal) (before after : Look)
     → IfOk found (λ step. GoesOnBy before step.posting step.reached after)
     → IfErr found (λ refusal. after ≡ before)
-    → CameLast (step_of_look station limit before found) heard
-    → ∥ HasLooked station limit heard before ∥₁ → ∥ HasLooked station limit heard after ∥₁
-looked-by station limit heard (Ok step) before after on failed came was =
+    → CameLast (step_of_look own limit before found) heard
+    → ∥ HasLooked own limit heard before ∥₁ → ∥ HasLooked own limit heard after ∥₁
+looked-by own limit heard (Ok step) before after on failed came was =
     ∥∥₁_map was (λ so. look_goes_on before after step so
-    (last-among (step_of_look station limit before (Ok step)) heard came) on)
-looked-by station limit heard (Err refusal) before after on failed came was =
-    subst (λ (look : Look). ∥ HasLooked station limit heard look ∥₁) (sym failed) was
+    (last-among (step_of_look own limit before (Ok step)) heard came) on)
+looked-by own limit heard (Err refusal) before after on failed came was =
+    subst (λ (look : Look). ∥ HasLooked own limit heard look ∥₁) (sym failed) was
 
 -- a reference that is too far above all that are known is too far above the one that was seen
 greatest-within : (posting : Option Posting) (posted reference : ℕ) → posted + 2 ^ 32 < reference
@@ -428,12 +428,12 @@ greatest-within : (posting : Option Posting) (posted reference : ℕ) → posted
 greatest-within None posted reference far within = omega (arith, far)
 greatest-within (Some last) posted reference far within = omega (arith, far, within)
 
-pub far-learned : (station : ℕ) (heard : List Reply) (told : List Response) (asked : List Entry)
-    (posted reference : ℕ) (what : Earlier) → what ≡ earlier.Known
-    → posted + 2 ^ 32 < reference → IsLearned station heard told asked posted what
-    → IsTooFar station reference heard
-far-learned station heard told asked posted reference what is far so =
-    let is-so = subst (λ (e : Earlier). IsLearned station heard told asked posted e) is so in
+pub far-learned : (own : OwnPostings) (heard : List Reply) (told : List Response)
+    (asked : List Entry) (posted reference : ℕ) (what : Earlier) → what ≡ earlier.Known
+    → posted + 2 ^ 32 < reference → IsLearned own heard told asked posted what
+    → IsTooFar own reference heard
+far-learned own heard told asked posted reference what is far so =
+    let is-so = subst (λ (e : Earlier). IsLearned own heard told asked posted e) is so in
     record {
       seen = is-so.0.seen;
       looked = is-so.0.looked;

@@ -239,12 +239,21 @@ abbrev pub IsLast : Result SearchStep FindRefusal → Type 0
 IsLast (Ok step) = IsAll step.reached
 IsLast (Err refusal) = Unit {0}
 
+-- whose postings a session looks at: those of a station, from the first batch on that only offices
+-- posted
+pub record OwnPostings : Type 0 where
+  pub station : ℕ
+  pub first : ℕ
+
+abbrev pub own_postings : ℕ → ℕ → OwnPostings
+own_postings station first = record { station = station; first = first }
+
 -- A conversation at one moment, with the counter of a station: every message that was taken from
 -- its reader, every response that was handed to its writer, and every reply that came to its
 -- session, each in order; the entries that it asked to post and that nobody submitted; and whether
 -- no question is answered any more.
 pub record ConversationState : Type 0 where
-  pub station : ℕ
+  pub own : OwnPostings
   pub said : List Message
   pub told : List Response
   pub replies : List Reply

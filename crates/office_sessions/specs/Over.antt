@@ -6,18 +6,18 @@ use Rattle.station_desk.specs.declared.messages.Answer.{Answer}
 use Rattle.office_day.specs.declared.reconciled.StationDay.{StationDay}
 use Rattle.turn_ledger.specs.declared.entry.Entry.{Entry}
 use Rattle.office_sessions.specs.Rising.{AreAbove, PostsRising}
-use Rattle.office_sessions.specs.Conversation.{ConversationState, WereTakenUp, answers_among}
-use Rattle.office_sessions.specs.Conversation.{response_of}
+use Rattle.office_sessions.specs.Conversation.{ConversationState, OwnPostings, WereTakenUp}
+use Rattle.office_sessions.specs.Conversation.{answers_among, response_of}
 use Rattle.office_sessions.specs.Replies.{AreToldBy, RiseFromEarlier}
 use Rattle.office_sessions.specs.declared.replies.Reply.{Reply}
 use Rattle.office_sessions.specs.declared.responses.Response.{Response}
 
 -- What was told of the ledger, of the archive or of copies is right by the replies; and references
 -- were used only above what some look at the station's postings saw.
-pub record FollowsReplies (station : ℕ) (told : List Response) (heard : List Reply)
+pub record FollowsReplies (own : OwnPostings) (told : List Response) (heard : List Reply)
     (asked : List Entry) : Type 0 where
-  pub right : AreToldBy station told heard
-  pub rise : ∥ RiseFromEarlier station heard told asked ∥₁
+  pub right : AreToldBy own told heard
+  pub rise : ∥ RiseFromEarlier own heard told asked ∥₁
 
 -- The conversation with a counter is over, whose requests went by this feed: of the responses those
 -- that tell of entries are the responses to the answers that were collected, in order, each once;
@@ -29,7 +29,7 @@ pub record IsOver (feed : FeedState) (conversation : ConversationState) : Type 0
   pub said : ∥ WereTakenUp conversation.said conversation.told (entries_of feed.asked)
       conversation.unheard ∥₁
   pub above : AreAbove feed.asked feed.collected
-  pub follows : FollowsReplies conversation.station conversation.told conversation.replies
+  pub follows : FollowsReplies conversation.own conversation.told conversation.replies
       (entries_of feed.asked)
 
 -- a conversation that is over stays so, whatever its feed
@@ -51,5 +51,5 @@ pub record IsHeard (conversation : ConversationState) (collected : List Answer)
   pub said : ∥ WereTakenUp conversation.said conversation.told (entries_asked collected day)
       conversation.unheard ∥₁
   pub rising : PostsRising (collected ++ day.answers.items)
-  pub follows : FollowsReplies conversation.station conversation.told conversation.replies
+  pub follows : FollowsReplies conversation.own conversation.told conversation.replies
       (entries_asked collected day)

@@ -13,7 +13,8 @@ use Rattle.line_lock.specs.declared.told.Room.{Room}
 use Rattle.station_desk.specs.declared.errand.Question.{Question}
 use Rattle.station_desk.specs.declared.errand.Question.TheVariants as question
 use Rattle.station_desk.specs.declared.errand.Report.TheVariants as report
-use Rattle.office_sessions.specs.Conversation.{own_question, counted_by, MeetsAt, EndsAt}
+use Rattle.office_sessions.specs.Conversation.{OwnPostings, own_question, counted_by, MeetsAt}
+use Rattle.office_sessions.specs.Conversation.{EndsAt, IsAll}
 use Rattle.office_sessions.specs.Looked.{GoesOnBy, seen_at, seen_farther, earlier_by, IsUnder}
 use Rattle.office_sessions.specs.declared.look.Look.{Look}
 use Rattle.office_sessions.specs.declared.look.LookAnswer.{LookAnswer}
@@ -50,6 +51,7 @@ step_of_search search step =
 
 -- How a search goes on by a step.
 pub record SearchesOn (before : Search) (step : SearchStep) (after : Search) : Type 0 where
+  pub over : IsAll step.reached → after ≡ before
   pub reference : after.reference ≡ before.reference
   pub from : MeetsAt before.from step.reached after.from
   pub end : EndsAt before.end step.reached after.end
@@ -93,28 +95,30 @@ pub record FailedLast (refusal : FindRefusal) (heard : List Reply) : Type 0 wher
   pub came : CameLast (reply.Report asked (report.Searched (Err refusal))) heard
 
 -- a step of a look at what was posted at a station up to a reference
-abbrev pub step_of_look : ℕ → ℕ → Look → Result SearchStep FindRefusal → Reply
-step_of_look station limit look step =
-    reply.Report (own_question station limit look.from) (report.Searched step)
+abbrev pub step_of_look : OwnPostings → ℕ → Look → Result SearchStep FindRefusal → Reply
+step_of_look own limit look step =
+    reply.Report (own_question own.station limit look.from) (report.Searched step)
 
 -- A look has come so far by steps that were reported, each from where the one before ended.
-pub data HasLooked (station limit : ℕ) (heard : List Reply) : Look → Type 0 where
-  look_begins : (first : ℕ) → HasLooked station limit heard
-      (record { from = first; since = first; posting = None })
-  look_goes_on : (before after : Look) (step : SearchStep) → HasLooked station limit heard before
-      → Contains heard (step_of_look station limit before (Ok step))
-      → GoesOnBy before step.posting step.reached after → HasLooked station limit heard after
+pub data HasLooked (own : OwnPostings) (limit : ℕ) (heard : List Reply) : Look → Type 0 where
+  look_begins : HasLooked own limit heard
+      (record { from = own.first; since = own.first; posting = None })
+  look_goes_on : (before after : Look) (step : SearchStep) → HasLooked own limit heard before
+      → Contains heard (step_of_look own limit before (Ok step))
+      → GoesOnBy before step.posting step.reached after → HasLooked own limit heard after
 
 -- A look ended with the last reply, and tells this.
-pub record HasSeenLast (station limit : ℕ) (seen : LookAnswer) (heard : List Reply) : Type 0 where
+pub record HasSeenLast (own : OwnPostings) (limit : ℕ) (seen : LookAnswer)
+    (heard : List Reply) : Type 0 where
   pub look : Look
-  pub looked : ∥ HasLooked station limit heard look ∥₁
+  pub looked : ∥ HasLooked own limit heard look ∥₁
   pub step : SearchStep
-  pub came : CameLast (step_of_look station limit look (Ok step)) heard
+  pub came : CameLast (step_of_look own limit look (Ok step)) heard
   pub after : Look
   pub goes_on : GoesOnBy look step.posting step.reached after
   pub tells : seen_at after step.reached ≡ Some (Ok seen)
 
+-- the reference of that posting, 0 if there is none
 abbrev pub greatest_in : Option Posting → ℕ
 greatest_in None = 0
 greatest_in (Some last) = reference_of last.entry
@@ -125,13 +129,13 @@ nothing_since since = record { posting = None; since = since }
 
 -- A look at what was posted at a station tells this in the end: by the records in sight, if they
 -- are enough to know it, or by the archive, which was asked behind them if they weren't.
-pub data HasSeenAll (station : ℕ) (seen : LookAnswer) (heard : List Reply) : Type 0 where
-  in_sight : HasSeenLast station (2 ^ 64 - 1) seen heard → earlier_by seen ≡ earlier.Known
-      → HasSeenAll station seen heard
+pub data HasSeenAll (own : OwnPostings) (seen : LookAnswer) (heard : List Reply) : Type 0 where
+  in_sight : HasSeenLast own (2 ^ 64 - 1) seen heard → earlier_by seen ≡ earlier.Known
+      → HasSeenAll own seen heard
   in_archive : (since : ℕ) (kept : Option LookAnswer) (before : List Reply)
-      → HasSeenLast station (2 ^ 64 - 1) (nothing_since since) before
+      → HasSeenLast own (2 ^ 64 - 1) (nothing_since since) before
       → heard ≡ before ++ reply.Outcome (wish.Last kept) ∷ [] → seen ≡ seen_farther since kept
-      → HasSeenAll station seen heard
+      → HasSeenAll own seen heard
 
 -- the greatest reference that was seen, 0 if none was
 abbrev pub greatest_of : LookAnswer → ℕ
@@ -154,35 +158,35 @@ pub record IsUsed (entry : Entry) (seen : LookAnswer) : Type 0 where
 
 -- With the last reply a look at the postings up to the entry's reference ended, and this holds of
 -- what it saw.
-pub record HasSeenUpTo (station : ℕ) (entry : Entry) (P : LookAnswer → Type 0)
+pub record HasSeenUpTo (own : OwnPostings) (entry : Entry) (P : LookAnswer → Type 0)
     (heard : List Reply) : Type 0 where
   pub seen : LookAnswer
-  pub last : HasSeenLast station (reference_of entry) seen heard
+  pub last : HasSeenLast own (reference_of entry) seen heard
   pub so : P seen
 
 -- The reference is more than 2^32 above the one that a look saw, or above 0 if it saw none.
-pub record IsTooFar (station reference : ℕ) (heard : List Reply) : Type 0 where
+pub record IsTooFar (own : OwnPostings) (reference : ℕ) (heard : List Reply) : Type 0 where
   pub seen : LookAnswer
-  pub looked : HeldAtSomeMoment (HasSeenAll station seen) heard
+  pub looked : HeldAtSomeMoment (HasSeenAll own seen) heard
   pub far : greatest_of seen + 2 ^ 32 < reference
 
 -- What became of an entry that wasn't submitted: it is as the look at the postings up to its
 -- reference told; or nothing of its station is in sight; or its reference is too far above any.
-abbrev pub IsJudgedBy : ℕ → Entry → Judgement → List Reply → Type 0
-IsJudgedBy station entry (judgement.Posted number) heard =
-    HasSeenUpTo station entry
+abbrev pub IsJudgedBy : OwnPostings → Entry → Judgement → List Reply → Type 0
+IsJudgedBy own entry (judgement.Posted number) heard =
+    HasSeenUpTo own entry
     (λ seen. seen.posting ≡ Some (record { number = number; entry = entry })) heard
-IsJudgedBy station entry judgement.Reference heard =
-    HasSeenUpTo station entry (IsUsed entry) heard ⊎ IsTooFar station (reference_of entry) heard
-IsJudgedBy station entry (judgement.Unknown since) heard =
-    HasSeenUpTo station entry (λ seen. IsUnknown entry seen since) heard
-    ⊎ HeldAtSomeMoment (HasSeenAll station (nothing_since since)) heard
-IsJudgedBy station entry (judgement.NotSeen refusal) heard = FailedLast refusal heard
+IsJudgedBy own entry judgement.Reference heard =
+    HasSeenUpTo own entry (IsUsed entry) heard ⊎ IsTooFar own (reference_of entry) heard
+IsJudgedBy own entry (judgement.Unknown since) heard =
+    HasSeenUpTo own entry (λ seen. IsUnknown entry seen since) heard
+    ⊎ HeldAtSomeMoment (HasSeenAll own (nothing_since since)) heard
+IsJudgedBy own entry (judgement.NotSeen refusal) heard = FailedLast refusal heard
 
 -- A look at what was posted at the station saw no posting with this reference or a greater one.
-pub record IsFirst (station reference : ℕ) (heard : List Reply) : Type 0 where
+pub record IsFirst (own : OwnPostings) (reference : ℕ) (heard : List Reply) : Type 0 where
   pub seen : LookAnswer
-  pub looked : HeldAtSomeMoment (HasSeenAll station seen) heard
+  pub looked : HeldAtSomeMoment (HasSeenAll own seen) heard
   pub above : IsAboveSeen seen reference
 
 -- An office stands as its station told last.
@@ -195,46 +199,46 @@ pub record StandsAs (status : OfficeStatus) (heard : List Reply) : Type 0 where
 -- The response is right by the replies, so far as it tells of the ledger, the archive or copies.
 -- What is told of an entry that was submitted is its answer, which is no reply. That a first
 -- reference is refused says no more than that a look was made.
-abbrev pub IsToldBy : ℕ → Response → List Reply → Type 0
-IsToldBy station (response.Balance account amount) heard =
+abbrev pub IsToldBy : OwnPostings → Response → List Reply → Type 0
+IsToldBy own (response.Balance account amount) heard =
     CameLast (reply.Report (question.Balance account) (report.Balance (Ok amount))) heard
-IsToldBy station (response.NoBalance refusal) heard =
+IsToldBy own (response.NoBalance refusal) heard =
     (account : ℕ)
     × CameLast (reply.Report (question.Balance account) (report.Balance (Err refusal))) heard
-IsToldBy station (response.Found number reference) heard = HasMet number reference heard
-IsToldBy station (response.FoundInAll count since) heard = HasFound count since heard
-IsToldBy station (response.NotFound refusal) heard = FailedLast refusal heard
-IsToldBy station (response.Judged entry judged) heard = IsJudgedBy station entry judged heard
-IsToldBy station (response.Last seen) heard = HasSeenAll station seen heard
-IsToldBy station (response.First reference) heard = IsFirst station reference heard
-IsToldBy station (response.Archived next) heard =
+IsToldBy own (response.Found number reference) heard = HasMet number reference heard
+IsToldBy own (response.FoundInAll count since) heard = HasFound count since heard
+IsToldBy own (response.NotFound refusal) heard = FailedLast refusal heard
+IsToldBy own (response.Judged entry judged) heard = IsJudgedBy own entry judged heard
+IsToldBy own (response.Last seen) heard = HasSeenAll own seen heard
+IsToldBy own (response.First reference) heard = IsFirst own reference heard
+IsToldBy own (response.Archived next) heard =
     CameLast (reply.Outcome (wish.Archive (archive.UpTo next))) heard
-IsToldBy station response.NoArchive heard =
+IsToldBy own response.NoArchive heard =
     CameLast (reply.Outcome (wish.Archive archive.NoArchive)) heard
-IsToldBy station (response.Copied next) heard =
+IsToldBy own (response.Copied next) heard =
     CameLast (reply.Outcome (wish.Copy (Ok next))) heard
-IsToldBy station (response.NoCopy refusal) heard =
+IsToldBy own (response.NoCopy refusal) heard =
     CameLast (reply.Outcome (wish.Copy (Err refusal))) heard
-IsToldBy station (response.Status status) heard = StandsAs status heard
-IsToldBy station (response.NotFirst reference) heard =
-    (seen : LookAnswer) × HeldAtSomeMoment (HasSeenAll station seen) heard
-IsToldBy station (response.Posted number reference) heard = Unit {0}
-IsToldBy station (response.Refused refusal reference) heard = Unit {0}
-IsToldBy station (response.Undecided reference) heard = Unit {0}
-IsToldBy station (response.Hello number) heard = Unit {0}
-IsToldBy station response.Name heard = Unit {0}
-IsToldBy station response.Closed heard = Unit {0}
-IsToldBy station (response.Wrong wrong) heard = Unit {0}
-IsToldBy station response.Help heard = Unit {0}
-IsToldBy station response.Closing heard = Unit {0}
+IsToldBy own (response.Status status) heard = StandsAs status heard
+IsToldBy own (response.NotFirst reference) heard =
+    (seen : LookAnswer) × HeldAtSomeMoment (HasSeenAll own seen) heard
+IsToldBy own (response.Posted number reference) heard = Unit {0}
+IsToldBy own (response.Refused refusal reference) heard = Unit {0}
+IsToldBy own (response.Undecided reference) heard = Unit {0}
+IsToldBy own (response.Hello number) heard = Unit {0}
+IsToldBy own response.Name heard = Unit {0}
+IsToldBy own response.Closed heard = Unit {0}
+IsToldBy own (response.Wrong wrong) heard = Unit {0}
+IsToldBy own response.Help heard = Unit {0}
+IsToldBy own response.Closing heard = Unit {0}
 
 -- The response tells nothing of the ledger, the archive or copies.
 abbrev pub IsPlain : Response → Type 0
-IsPlain one = (station : ℕ) (heard : List Reply) → IsToldBy station one heard
+IsPlain one = (own : OwnPostings) (heard : List Reply) → IsToldBy own one heard
 
 -- Each response was right by what had come at some moment.
-abbrev pub AreToldBy : ℕ → List Response → List Reply → Type 0
-AreToldBy station told heard = All (λ one. ∥ HeldAtSomeMoment (IsToldBy station one) heard ∥₁) told
+abbrev pub AreToldBy : OwnPostings → List Response → List Reply → Type 0
+AreToldBy own told heard = All (λ one. ∥ HeldAtSomeMoment (IsToldBy own one) heard ∥₁) told
 
 -- none of the entries has a reference
 abbrev pub AreWithoutReference : List Entry → Type 0
@@ -258,17 +262,17 @@ IsEnough seen told asked = (earlier_by seen ≡ earlier.Known) ⊎ BeginsWith to
 
 -- A look saw what was posted at a station before, which is enough to go by, and each reference of
 -- these entries is above the one that it saw.
-pub record AreAboveEarlier (station : ℕ) (heard : List Reply) (told : List Response)
+pub record AreAboveEarlier (own : OwnPostings) (heard : List Reply) (told : List Response)
     (asked : List Entry) : Type 0 where
   pub seen : LookAnswer
-  pub looked : HeldAtSomeMoment (HasSeenAll station seen) heard
+  pub looked : HeldAtSomeMoment (HasSeenAll own seen) heard
   pub enough : IsEnough seen told asked
   pub above : AreAboveSeen seen asked
 
 -- References are used only above what some look at the station's postings saw.
-abbrev pub RiseFromEarlier : ℕ → List Reply → List Response → List Entry → Type 0
-RiseFromEarlier station heard told asked =
-    AreWithoutReference asked ⊎ AreAboveEarlier station heard told asked
+abbrev pub RiseFromEarlier : OwnPostings → List Reply → List Response → List Entry → Type 0
+RiseFromEarlier own heard told asked =
+    AreWithoutReference asked ⊎ AreAboveEarlier own heard told asked
 
 -- the reference that was seen is at most that one, if there is one
 abbrev pub IsWithin : ℕ → LookAnswer → Type 0
@@ -282,10 +286,10 @@ IsFrom seen told asked most (inr begins) = begins.reference ≤ most + 1
 
 -- What a session knows of the references that were posted at its station before, none of which is
 -- above `posted`.
-abbrev pub IsLearned : ℕ → List Reply → List Response → List Entry → ℕ → Earlier → Type 0
-IsLearned station heard told asked posted earlier.Unlooked = AreWithoutReference asked
-IsLearned station heard told asked posted (earlier.OutOfSight since) =
-    AreWithoutReference asked × HeldAtSomeMoment (HasSeenAll station (nothing_since since)) heard
-IsLearned station heard told asked posted earlier.Known =
-    (above : AreAboveEarlier station heard told asked) × IsWithin posted above.seen
+abbrev pub IsLearned : OwnPostings → List Reply → List Response → List Entry → ℕ → Earlier → Type 0
+IsLearned own heard told asked posted earlier.Unlooked = AreWithoutReference asked
+IsLearned own heard told asked posted (earlier.OutOfSight since) =
+    AreWithoutReference asked × HeldAtSomeMoment (HasSeenAll own (nothing_since since)) heard
+IsLearned own heard told asked posted earlier.Known =
+    (above : AreAboveEarlier own heard told asked) × IsWithin posted above.seen
     × IsFrom above.seen told asked posted above.enough

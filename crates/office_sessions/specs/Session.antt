@@ -1,7 +1,12 @@
 -- What a counter's session keeps while the counter is told something, or nothing.
 use Rattle.std.specs.Prelude.{◌≡◌, ◌<◌}
 use Rattle.rtrb.specs.Ring.{known_free}
+use Rattle.office_sessions.specs.Conversation.{OwnPostings, own_postings}
 use Rattle.office_sessions.specs.declared.session.Session.{Session}
+
+-- whose postings it looks at
+abbrev pub own_of : Session → OwnPostings
+own_of session = own_postings session.station session.first
 
 -- There is a place for one response more than those to the entries that are under way.
 abbrev pub HasPlace : Session → Type 0
@@ -24,6 +29,7 @@ pub record TellsNothing (old new : Session) : Type 0 where
 -- What it knows of earlier references stays.
 pub record KeepsLearned (old new : Session) : Type 0 where
   pub station : new.station ≡ old.station
+  pub first : new.first ≡ old.first
   pub earlier : new.earlier ≡ old.earlier
   pub posted : new.postings.posted ≡ old.postings.posted
 
@@ -33,4 +39,3 @@ pub record KeepsLooking (old new : Session) : Type 0 where
   pub search : new.search ≡ old.search
   pub look : new.look ≡ old.look
   pub limit : new.limit ≡ old.limit
-  pub first : new.first ≡ old.first

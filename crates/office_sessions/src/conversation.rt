@@ -3,7 +3,7 @@ ghost use Rattle.std.specs.Prelude.{◌≡◌, ◌⊎◌, ◌<◌, ◌≤◌, []
 ghost use Rattle.std.specs.Prelude.{IsTrue, OnOk};
 ghost use Rattle.office_sessions.specs.Conversation.{pending, posting_of, IsOther};
 ghost use Rattle.office_sessions.specs.Replies.{IsPlain};
-ghost use Rattle.office_sessions.specs.Conversation.{IsBehindUnanswered, IsToldNoMore};
+ghost use Rattle.office_sessions.specs.Conversation.{IsBehindUnanswered, IsToldNoMore, own_postings};
 ghost use Rattle.office_sessions.specs.Over.{StaysOver};
 
 use crate::messages::Message;
@@ -36,6 +36,8 @@ const PAUSE: u64 = 5;
 #[derive(Drop)]
 pub struct Conversation {
     station: u8,
+    // The number of the batch from which on only offices posted.
+    first: u64,
     messages: Consumer<Message>,
     responses: Producer<Response>,
     replies: Consumer<Reply>,
@@ -51,12 +53,12 @@ pub struct Conversation {
 
 impl Model for Conversation {
     ghost use Rattle.rtrb.specs.Ring.{sent, received};
-    ghost use Rattle.office_sessions.specs.Conversation.{ConversationState};
+    ghost use Rattle.office_sessions.specs.Conversation.{ConversationState, own_postings};
 
     ghost Value = { ConversationState };
 
     ghost view = { λ c. record {
-      station = c.station;
+      own = own_postings c.station c.first;
       said = received c.messages;
       told = sent c.responses;
       replies = received c.replies;
@@ -71,6 +73,7 @@ impl Conversation {
     /// With these ends of the rings, and these entries that nobody submitted.
     pub(crate) fn new(
         station: u8,
+        first: u64,
         messages: Consumer<Message>,
         responses: Producer<Response>,
         replies: Consumer<Reply>,
@@ -80,7 +83,7 @@ impl Conversation {
         is_told_closing: bool,
     ) -> Conversation
         ensures { result ≡ record {
-          station = station;
+          own = own_postings station first;
           said = received messages;
           told = sent responses;
           replies = received replies;
@@ -90,6 +93,7 @@ impl Conversation {
     {
         Conversation {
             station,
+            first,
             messages,
             responses,
             replies,

@@ -6,7 +6,7 @@ ghost use Rattle.gate_journal.specs.Journal.{after_reads};
 ghost use Rattle.journal_recovery.specs.LookBack.{FitsSlots};
 ghost use Rattle.turn_clerk.specs.declared.refusals.FindRefusal.{FindRefusal};
 ghost use Rattle.turn_ledger.specs.Entry.{reference_of};
-ghost use Rattle.office_sessions.specs.Conversation.{own_question};
+ghost use Rattle.office_sessions.specs.Conversation.{own_question, OwnPostings};
 ghost use Rattle.office_sessions.specs.Looked.{seen_with, seen_farther, GoesOnBy, Meets};
 ghost use Rattle.office_sessions.specs.Looked.{BeginsAnew, HasSeen, IsAbove};
 ghost use Rattle.office_sessions.specs.Replies.{IsUnknown, IsUsed, IsJudgedBy, HasSeenLast};
@@ -226,9 +226,9 @@ pub(crate) fn judge(entry: &Entry, seen: &LookAnswer) -> Judgement
         ↔ IsUnknown entry.now seen.now since }
     ensures used { result ≡ Judgement.Reference → IsUsed entry.now seen.now }
     ensures seen { (refusal : FindRefusal) → result ≢ Judgement.NotSeen refusal }
-    ensures by { (station : ℕ) (heard : List Reply)
-        → HasSeenLast station (reference_of entry.now) seen.now heard
-        → IsJudgedBy station entry.now result heard }
+    ensures by { (own : OwnPostings) (heard : List Reply)
+        → HasSeenLast own (reference_of entry.now) seen.now heard
+        → IsJudgedBy own entry.now result heard }
 {
     match seen.posting {
         Some(found) if found.entry == *entry => Judgement::Posted(found.number),

@@ -5,7 +5,7 @@ ghost use Rattle.station_desk.specs.declared.errand.Report.{Report};
 ghost use Rattle.text_grammar.specs.declared.requests.Request.TheVariants.{Balance};
 ghost use Rattle.office_sessions.specs.declared.messages.Message.TheVariants.{Asked};
 ghost use Rattle.office_sessions.specs.Conversation.{is_answer, told_of_balance, IsOther};
-ghost use Rattle.office_sessions.specs.Conversation.{IsResponseTo};
+ghost use Rattle.office_sessions.specs.Conversation.{IsResponseTo, OwnPostings};
 ghost use Rattle.office_sessions.specs.Replies.{CameLast, IsToldBy};
 ghost use Rattle.office_sessions.specs.declared.replies.Reply.{Reply};
 
@@ -143,9 +143,9 @@ impl Response {
         ensures told { result ≡ told_of_balance account answer }
         ensures right { IsResponseTo (Asked (Balance account)) result }
         ensures other { IsOther result }
-        ensures by { (station : ℕ) (heard : List Reply)
+        ensures by { (own : OwnPostings) (heard : List Reply)
             → CameLast (Reply.Report (Question.Balance account) (Report.Balance answer)) heard
-            → IsToldBy station result heard }
+            → IsToldBy own result heard }
     {
         match answer {
             Ok(amount) => Response::Balance { account, amount },

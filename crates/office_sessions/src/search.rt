@@ -5,6 +5,7 @@ ghost use Rattle.text_grammar.specs.declared.requests.Request.TheVariants.{Find}
 ghost use Rattle.office_sessions.specs.declared.messages.Message.TheVariants.{Asked};
 ghost use Rattle.office_sessions.specs.Conversation.{IsOther, told_of_posting, told_of_step};
 ghost use Rattle.office_sessions.specs.Conversation.{counted_with, IsResponseTo, IsLast};
+ghost use Rattle.office_sessions.specs.Conversation.{OwnPostings};
 ghost use Rattle.office_sessions.specs.Replies.{HasSearched, SearchesOn, CameLast, IsToldBy};
 ghost use Rattle.office_sessions.specs.Replies.{step_of_search};
 ghost use Rattle.office_sessions.specs.declared.replies.Reply.{Reply};
@@ -97,9 +98,9 @@ impl Search {
         ensures failed { IfErr found (λ refusal. self.new ≡ self.old) }
         ensures told { result.response ≡ told_of_step self.old.count self.old.reference found }
         ensures last { IsTrue result.is_last ↔ IsLast found }
-        ensures by { (station : ℕ) (heard : List Reply) → ∥ HasSearched heard self.old ∥₁
+        ensures by { (own : OwnPostings) (heard : List Reply) → ∥ HasSearched heard self.old ∥₁
             → CameLast (step_of_search self.old found) heard
-            → IfSome result.response (λ one. IsToldBy station one heard) }
+            → IfSome result.response (λ one. IsToldBy own one heard) }
     {
         let step = match found {
             Ok(step) => step,

@@ -3,7 +3,7 @@ ghost use Rattle.std.specs.Prelude.{◌≡◌, ◌≢◌, ◌≤◌, ◌^◌, �
 ghost use Rattle.rtrb.specs.Ring.{known_free, sent, received};
 ghost use Rattle.station_desk.specs.Messages.{entries_of};
 ghost use Rattle.office_sessions.specs.Conversation.{response_of, answers_among, pending};
-ghost use Rattle.office_sessions.specs.Conversation.{WereTakenUp};
+ghost use Rattle.office_sessions.specs.Conversation.{WereTakenUp, own_postings};
 ghost use Rattle.office_sessions.specs.Looked.{earlier_by};
 ghost use Rattle.office_sessions.specs.Replies.{AreToldBy, HasSearched, HasLooked, IsLearned};
 ghost use Rattle.office_sessions.specs.Replies.{HasSeenLast, nothing_since};
@@ -91,12 +91,12 @@ pub(crate) struct Session {
     ghost said: { ∥ WereTakenUp (received messages) (sent responses)
         (entries_of postings.feed.asked) (pending next) ∥₁ },
     ghost told: { answers_among (sent responses) ≡ map response_of postings.feed.collected },
-    ghost told_by: { AreToldBy station (sent responses) (received replies) },
+    ghost told_by: { AreToldBy (own_postings station first) (sent responses) (received replies) },
     ghost searched: { ∥ HasSearched (received replies) search ∥₁ },
-    ghost looked: { ∥ HasLooked station limit (received replies) look ∥₁ },
-    ghost far: { ∥ IfSome out_of_sight (λ since.
-        HasSeenLast station (2 ^ 64 - 1) (nothing_since since) (received replies)) ∥₁ },
-    ghost learned: { ∥ IsLearned station (received replies) (sent responses)
+    ghost looked: { ∥ HasLooked (own_postings station first) limit (received replies) look ∥₁ },
+    ghost far: { ∥ IfSome out_of_sight (λ since. HasSeenLast (own_postings station first)
+        (2 ^ 64 - 1) (nothing_since since) (received replies)) ∥₁ },
+    ghost learned: { ∥ IsLearned (own_postings station first) (received replies) (sent responses)
         (entries_of postings.feed.asked) postings.posted earlier ∥₁ },
 }
 

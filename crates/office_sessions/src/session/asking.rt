@@ -7,6 +7,7 @@ ghost use Rattle.office_sessions.specs.declared.messages.Message.TheVariants.{As
 ghost use Rattle.office_sessions.specs.Conversation.{IsOther, IsAskedBy, IsResponseTo};
 ghost use Rattle.office_sessions.specs.Replies.{CameLast, IsToldBy};
 ghost use Rattle.office_sessions.specs.Session.{HasPlace, OnlyTells, TellsNothing, KeepsLooking};
+ghost use Rattle.office_sessions.specs.Session.{own_of};
 
 use crate::recess::{ArchiveState, Wish, WishOutcome};
 use crate::replies::Reply;
@@ -208,7 +209,7 @@ impl Session {
         requires right { IfSome self.old.next (λ message.
             IfSome step.response (IsResponseTo message)) }
         requires by { IfSome step.response (λ one.
-            IsToldBy self.old.station one (received self.old.replies)) }
+            IsToldBy (own_of self.old) one (received self.old.replies)) }
         ensures keeps { KeepsLooking self.old self.new }
         ensures heard { self.new.replies ≡ self.old.replies }
         ensures stays { OnlyTells self.old self.new }

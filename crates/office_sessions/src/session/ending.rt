@@ -29,6 +29,7 @@ impl Session {
     {
         let Session {
             station,
+            first,
             next,
             messages,
             responses,
@@ -42,6 +43,7 @@ impl Session {
         let unheard = listed(alloc, next)?;
         let mut conversation = Conversation::new(
             station,
+            first,
             messages,
             responses,
             replies,

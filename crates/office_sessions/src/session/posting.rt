@@ -10,6 +10,7 @@ ghost use Rattle.office_sessions.specs.Looked.{earlier_by};
 ghost use Rattle.office_sessions.specs.Replies.{IsJudgedBy, HasSeenLast, HasSeenAll, FailedLast};
 ghost use Rattle.office_sessions.specs.Replies.{greatest_of};
 ghost use Rattle.office_sessions.specs.Session.{HasPlace, OnlyTells, TellsNothing, KeepsLearned};
+ghost use Rattle.office_sessions.specs.Session.{own_of};
 ghost use Rattle.turn_ledger.specs.Entry.{reference_of};
 
 use crate::look::{Look, LookAnswer, farther, judge};
@@ -130,7 +131,7 @@ impl Session {
     fn tell_judgement(&mut self, entry: Entry, judgement: Judgement) -> bool
         requires place { HasPlace self.old }
         requires next { self.old.next ≡ Some (Asked (Post entry)) }
-        requires by { ∥ IsJudgedBy self.old.station entry judgement
+        requires by { ∥ IsJudgedBy (own_of self.old) entry judgement
             (received self.old.replies) ∥₁ }
         ensures told { IsTrue result }
         ensures feed { self.new.postings.feed ≡ self.old.postings.feed }
@@ -157,7 +158,7 @@ impl Session {
         ensures stays { TellsNothing self.old self.new }
         ensures learns { KeepsLearned self.old self.new }
         ensures seen { IfSome result (λ told. IfOk told (λ seen.
-            HasSeenLast self.old.station limit seen (received self.new.replies))) }
+            HasSeenLast (own_of self.old) limit seen (received self.new.replies))) }
         ensures failed { IfSome result (λ told. IfErr told (λ refusal.
             FailedLast refusal (received self.new.replies))) }
     {
@@ -200,6 +201,7 @@ impl Session {
         requires right { MayLook self.old.next self.old.station u64.MAX }
         ensures stays { TellsNothing self.old self.new }
         ensures station { self.new.station ≡ self.old.station }
+        ensures first { self.new.first ≡ self.old.first }
         ensures looked { IfSome result (λ told. OnOk told (self.new.earlier ≢ Earlier.Unlooked)) }
         ensures failed { IfSome result (λ told. IfErr told (λ refusal.
             FailedLast refusal (received self.new.replies))) }
@@ -227,9 +229,10 @@ impl Session {
         requires right { MayLook self.old.next self.old.station u64.MAX }
         ensures stays { TellsNothing self.old self.new }
         ensures station { self.new.station ≡ self.old.station }
+        ensures first { self.new.first ≡ self.old.first }
         ensures earlier { self.new.earlier ≡ self.old.earlier }
         ensures seen { IfSome result (λ told. IfOk told (λ seen.
-            ∥ HasSeenAll self.old.station seen (received self.new.replies) ∥₁)) }
+            ∥ HasSeenAll (own_of self.old) seen (received self.new.replies) ∥₁)) }
         ensures failed { IfSome result (λ told. IfErr told (λ refusal.
             FailedLast refusal (received self.new.replies))) }
     {
@@ -255,9 +258,10 @@ impl Session {
         requires behind { self.old.postings.unanswered ≡ 0 }
         ensures stays { TellsNothing self.old self.new }
         ensures station { self.new.station ≡ self.old.station }
+        ensures first { self.new.first ≡ self.old.first }
         ensures earlier { self.new.earlier ≡ self.old.earlier }
         ensures seen { IfSome result (λ told. IsOkAnd told (λ seen.
-            ∥ HasSeenAll self.old.station seen (received self.new.replies) ∥₁)) }
+            ∥ HasSeenAll (own_of self.old) seen (received self.new.replies) ∥₁)) }
     {
         let since = self.out_of_sight?;
         let WishOutcome::Last(in_archive) = self.what_came(rt, scheduler, Wish::Last)? else {
@@ -268,8 +272,9 @@ impl Session {
 
     // Learns which reference was posted last.
     fn learn(&mut self, seen: LookAnswer)
-        requires seen { ∥ HasSeenAll self.old.station seen (received self.old.replies) ∥₁ }
+        requires seen { ∥ HasSeenAll (own_of self.old) seen (received self.old.replies) ∥₁ }
         ensures station { self.new.station ≡ self.old.station }
+        ensures first { self.new.first ≡ self.old.first }
         ensures heard { self.new.replies ≡ self.old.replies }
         ensures learned { self.old.earlier ≡ Earlier.Unlooked → self.new.earlier ≡ earlier_by seen }
         ensures known { self.new.earlier ≢ Earlier.Unlooked }

@@ -6,7 +6,7 @@ ghost use Rattle.station_desk.specs.Rings.{StandsAt};
 ghost use Rattle.office_sessions.specs.declared.messages.Message.TheVariants.{Asked};
 ghost use Rattle.office_sessions.specs.Conversation.{pending, IsOther, IsResponseTo};
 ghost use Rattle.office_sessions.specs.Replies.{IsToldBy};
-ghost use Rattle.office_sessions.specs.Session.{HasPlace, OnlyTells, KeepsLooking};
+ghost use Rattle.office_sessions.specs.Session.{HasPlace, OnlyTells, KeepsLooking, own_of};
 
 use crate::messages::Message;
 use crate::responses::Response;
@@ -169,7 +169,7 @@ impl Session {
         requires place { HasPlace self.old }
         requires other { IsOther response }
         requires right { IfSome self.old.next (λ message. IsResponseTo message response) }
-        requires by { ∥ IsToldBy self.old.station response (received self.old.replies) ∥₁ }
+        requires by { ∥ IsToldBy (own_of self.old) response (received self.old.replies) ∥₁ }
         ensures stays { OnlyTells self.old self.new }
         ensures keeps { KeepsLooking self.old self.new }
         ensures heard { self.new.replies ≡ self.old.replies }

@@ -8,6 +8,7 @@ use Rattle.office_sessions.specs.Conversation.{WereTakenUp, pending, response_of
 use Rattle.station_desk.specs.declared.messages.Ask.{Ask}
 use Rattle.office_sessions.specs.Conversation.{judged_of}
 use Rattle.office_sessions.specs.Replies.{IsToldBy, IsLearned}
+use Rattle.office_sessions.specs.Session.{own_of}
 use Rattle.office_sessions.proofs.TakenUp.{taken-told, no-judgement, more-answers}
 use Rattle.office_sessions.proofs.ToldBy.{told-more, learned-told, learned-raised, told-answer}
 use Rattle.office_sessions.proofs.session.Session.collect.Goals as goal
@@ -36,11 +37,11 @@ invariant_of-self-in-loop-clause-told c =
 pub invariant_of-self-in-loop-clause-told_by : goal.invariant_of-self-in-loop-clause-told_by
 invariant_of-self-in-loop-clause-told_by c =
     let old = c.loop.self in
-    told-more old.station (sent old.responses) (received old.replies) c.from-response.result
+    told-more (own_of old) (sent old.responses) (received old.replies) c.from-response.result
     c.push_reserved.ensures.sent.0
-    ∣ subst (λ (one : Response). IsToldBy old.station one (received old.replies))
+    ∣ subst (λ (one : Response). IsToldBy (own_of old) one (received old.replies))
     (sym c.from-response.ensures)
-    (told-answer old.station (received old.replies) c.in-Some.answer) ∣₁
+    (told-answer (own_of old) (received old.replies) c.in-Some.answer) ∣₁
     old.told_by
 
 pub invariant_of-self-in-loop-clause-learned : goal.invariant_of-self-in-loop-clause-learned
@@ -50,11 +51,11 @@ invariant_of-self-in-loop-clause-learned c =
     let heard = received old.replies in
     let entries = entries_of old.postings.feed.asked in
     ∥∥₁_map old.learned (λ so.
-    subst (λ (asked : List Ask). IsLearned old.station heard (sent c.push_reserved.new.self)
+    subst (λ (asked : List Ask). IsLearned (own_of old) heard (sent c.push_reserved.new.self)
     (entries_of asked) new.posted old.earlier) (sym c.collect.ensures.asked)
-    (learned-told old.station heard (sent old.responses) c.from-response.result entries new.posted
+    (learned-told (own_of old) heard (sent old.responses) c.from-response.result entries new.posted
     old.earlier c.push_reserved.ensures.sent.0
-    (learned-raised old.station heard (sent old.responses) entries old.postings.posted new.posted
+    (learned-raised (own_of old) heard (sent old.responses) entries old.postings.posted new.posted
     old.earlier c.collect.ensures.never_falls so)))
 
 pub invariant_of-self-clause-learned : goal.invariant_of-self-clause-learned
@@ -63,9 +64,9 @@ invariant_of-self-clause-learned c =
     let new = c.collect.new.self in
     let heard = received old.replies in
     ∥∥₁_map old.learned (λ so.
-    subst (λ (asked : List Ask). IsLearned old.station heard (sent old.responses)
+    subst (λ (asked : List Ask). IsLearned (own_of old) heard (sent old.responses)
     (entries_of asked) new.posted old.earlier) (sym c.collect.ensures.asked)
-    (learned-raised old.station heard (sent old.responses) (entries_of old.postings.feed.asked)
+    (learned-raised (own_of old) heard (sent old.responses) (entries_of old.postings.feed.asked)
     old.postings.posted new.posted old.earlier c.collect.ensures.never_falls so))
 
 pub invariant_of-self-clause-said : goal.invariant_of-self-clause-said

@@ -8,6 +8,7 @@ use Rattle.station_desk.specs.Rings.{FeedState}
 use Rattle.office_sessions.specs.Rising.{AreAbove}
 use Rattle.office_sessions.specs.Conversation.{WereTakenUp}
 use Rattle.office_sessions.specs.Over.{IsOver}
+use Rattle.office_sessions.specs.Session.{own_of}
 use Rattle.office_sessions.proofs.ToldBy.{rise-learned}
 use Rattle.office_sessions.proofs.session.Session.end.Goals as goal
 
@@ -26,7 +27,7 @@ returns-clause-over g c =
       follows = record {
         right = old.told_by;
         rise = ∥∥₁_map old.learned
-            (rise-learned old.station (received old.replies) (sent old.responses)
+            (rise-learned (own_of old) (received old.replies) (sent old.responses)
             (entries_of feed.asked) old.postings.posted old.earlier);
       };
     }) in

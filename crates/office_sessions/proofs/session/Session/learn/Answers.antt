@@ -8,6 +8,7 @@ use Rattle.office_sessions.specs.Conversation.{WereTakenUp, pending, response_of
 use Rattle.office_sessions.specs.Looked.{earlier_by}
 use Rattle.office_sessions.specs.Replies.{HasSeenAll, IsLearned}
 use Rattle.office_sessions.specs.declared.session.Earlier.{Earlier}
+use Rattle.office_sessions.specs.Session.{own_of}
 use Rattle.office_sessions.proofs.ToldBy.{once-now, learned-seen, learned-raised, within-more}
 use Rattle.office_sessions.proofs.session.Session.learn.Goals as goal
 
@@ -18,15 +19,15 @@ invariant_of-self-clause-learned c =
     let heard = received old.replies in
     let told = sent old.responses in
     let posted = c.raise.new.self.posted in
-    subst (λ (known : Earlier). ∥ IsLearned old.station heard told
+    subst (λ (known : Earlier). ∥ IsLearned (own_of old) heard told
     (entries_of c.raise.new.self.feed.asked) posted known ∥₁) (sym c.by-self.ensures.by)
-    (subst (λ (feed : FeedState). ∥ IsLearned old.station heard told (entries_of feed.asked) posted
+    (subst (λ (feed : FeedState). ∥ IsLearned (own_of old) heard told (entries_of feed.asked) posted
     (earlier_by seen) ∥₁) (sym c.raise.ensures.feed)
     (∥∥₁_elim c.requires.seen squash₁ (λ looked. ∥∥₁_map old.learned (λ so.
-    learned-seen old.station heard told (entries_of old.postings.feed.asked) posted seen
-    (subst (λ (known : Earlier). IsLearned old.station heard told
+    learned-seen (own_of old) heard told (entries_of old.postings.feed.asked) posted seen
+    (subst (λ (known : Earlier). IsLearned (own_of old) heard told
     (entries_of old.postings.feed.asked) old.postings.posted known) c.in-Unlooked.is so)
-    (once-now (HasSeenAll old.station seen) heard looked)
+    (once-now (HasSeenAll (own_of old) seen) heard looked)
     (within-more seen.posting c.greatest.result posted
     (omega (arith, c.raise.ensures.greatest)) c.greatest.ensures.within)))))
 
@@ -36,10 +37,10 @@ invariant_of-self-in-OutOfSight-clause-learned c =
     let heard = received old.replies in
     let told = sent old.responses in
     let posted = c.raise.new.self.posted in
-    subst (λ (feed : FeedState). ∥ IsLearned old.station heard told (entries_of feed.asked) posted
+    subst (λ (feed : FeedState). ∥ IsLearned (own_of old) heard told (entries_of feed.asked) posted
     old.earlier ∥₁) (sym c.raise.ensures.feed)
     (∥∥₁_map old.learned
-    (learned-raised old.station heard told (entries_of old.postings.feed.asked)
+    (learned-raised (own_of old) heard told (entries_of old.postings.feed.asked)
     old.postings.posted posted old.earlier (omega (arith, c.raise.ensures.greatest))))
 
 pub invariant_of-self-clause-said : goal.invariant_of-self-clause-said

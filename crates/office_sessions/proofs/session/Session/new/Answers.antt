@@ -8,17 +8,20 @@ use Rattle.station_desk.specs.Rings.{FeedState}
 use Rattle.office_sessions.specs.declared.look.Look.{Look}
 use Rattle.office_sessions.specs.declared.responses.Response.{Response}
 use Rattle.office_sessions.specs.Replies.{AreToldBy, AreWithoutReference, HasLooked, look_begins}
+use Rattle.office_sessions.specs.Conversation.{own_postings}
 use Rattle.office_sessions.proofs.session.Session.new.Goals as goal
 
 pub invariant_of-result-clause-told_by : goal.invariant_of-result-clause-told_by
 invariant_of-result-clause-told_by c =
-    subst (λ (told : List Response). AreToldBy c.args.station told (received c.args.replies))
+    subst (λ (told : List Response). AreToldBy (own_postings c.args.station c.args.first) told
+    (received c.args.replies))
     (sym c.requires.nothing_told) (All-nil _)
 
 pub invariant_of-result-clause-looked : goal.invariant_of-result-clause-looked
 invariant_of-result-clause-looked c =
-    ∣ subst (λ (look : Look). HasLooked c.args.station (2 ^ 64 - 1) (received c.args.replies) look)
-    (sym c.starting_at.ensures.begins) (look_begins c.args.first) ∣₁
+    ∣ subst (λ (look : Look). HasLooked (own_postings c.args.station c.args.first) (2 ^ 64 - 1)
+    (received c.args.replies) look)
+    (sym c.starting_at.ensures.begins) look_begins ∣₁
 
 pub invariant_of-result-clause-learned : goal.invariant_of-result-clause-learned
 invariant_of-result-clause-learned c =

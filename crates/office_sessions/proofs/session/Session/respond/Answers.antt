@@ -5,6 +5,7 @@ use Rattle.rtrb.specs.Ring.{sent, received}
 use Rattle.station_desk.specs.Messages.{entries_of}
 use Rattle.office_sessions.specs.declared.responses.Response.{Response}
 use Rattle.office_sessions.specs.Conversation.{WereTakenUp, pending}
+use Rattle.office_sessions.specs.Session.{own_of}
 use Rattle.office_sessions.proofs.TakenUp.{taken-told, other-answers}
 use Rattle.office_sessions.proofs.ToldBy.{told-more, learned-told}
 use Rattle.office_sessions.proofs.session.Session.respond.Goals as goal
@@ -26,13 +27,13 @@ invariant_of-self-clause-told c =
 pub invariant_of-self-clause-told_by : goal.invariant_of-self-clause-told_by
 invariant_of-self-clause-told_by c =
     let old = c.args.self.now in
-    told-more old.station (sent old.responses) (received old.replies) c.args.response
+    told-more (own_of old) (sent old.responses) (received old.replies) c.args.response
     c.push_reserved.ensures.sent.0 c.requires.by old.told_by
 
 pub invariant_of-self-clause-learned : goal.invariant_of-self-clause-learned
 invariant_of-self-clause-learned c =
     let old = c.args.self.now in
     ∥∥₁_map old.learned
-    (learned-told old.station (received old.replies) (sent old.responses) c.args.response
+    (learned-told (own_of old) (received old.replies) (sent old.responses) c.args.response
     (entries_of old.postings.feed.asked) old.postings.posted old.earlier
     c.push_reserved.ensures.sent.0)
