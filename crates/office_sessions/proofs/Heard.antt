@@ -17,7 +17,8 @@ use Rattle.office_day.specs.Day.{IsReconciled, AreReconciled}
 use Rattle.office_day.specs.Archive.{Archive}
 use Rattle.office_day.specs.Spans.{Span, Rest, HasLived, WasKeptOpen}
 use Rattle.office_day.proofs.Lists.{first, AllZip-at}
-use Rattle.office_sessions.specs.Conversation.{ConversationState, WereTakenUp}
+use Rattle.office_sessions.specs.Conversation.{ConversationState}
+use Rattle.office_sessions.specs.Exchange.{WereAnswered}
 use Rattle.office_sessions.specs.Over.{IsOver, IsHeard, FollowsReplies}
 use Rattle.office_sessions.specs.Kept.{WasKeptFor, WasLeftOpen}
 use Rattle.office_sessions.proofs.Rising.{posts-rising}
@@ -29,9 +30,9 @@ heard : (feed : FeedState) (conversation : ConversationState) (part : StationRem
     → IsHeard conversation feed.collected day
 heard feed conversation part day over done = record {
   told = over.told;
-  said = subst (λ (asked : List Ask).
-      ∥ WereTakenUp conversation.said conversation.told (entries_of asked) conversation.unheard ∥₁)
-      done.asked over.said;
+  answered = subst (λ (asked : List Ask).
+      ∥ WereAnswered conversation.said conversation.told (entries_of asked) conversation.unheard ∥₁)
+      done.asked over.answered;
   follows = subst
       (λ (asked : List Ask). FollowsReplies conversation.own conversation.told
       conversation.replies (entries_of asked)) done.asked over.follows;

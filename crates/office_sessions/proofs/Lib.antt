@@ -1,7 +1,8 @@
+pub mod Exchanges
 pub mod Feeds
 pub mod Heard
+pub mod LateExchanges
 mod Looks
 mod Rising
 mod Runs
-mod TakenUp
 mod ToldBy

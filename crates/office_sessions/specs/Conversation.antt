@@ -1,6 +1,6 @@
 -- What a counter says and is told, message by message and response by response.
-use Rattle.std.specs.Prelude.{◌≡◌, ◌⊎◌, ◌+◌, ◌-◌, ◌^◌, ◌<◌, ℕ, Bool, true, false, not, min, List}
-use Rattle.std.specs.Prelude.{[], ◌∷◌, ◌++◌, map, filter, length, Option, Some, None, IfSome}
+use Rattle.std.specs.Prelude.{◌≡◌, ◌⊎◌, ◌+◌, ◌-◌, ◌^◌, ◌<◌, ℕ, Bool, true, false, min, List}
+use Rattle.std.specs.Prelude.{[], ◌∷◌, ◌++◌, filter, length, Option, Some, None, IfSome}
 use Rattle.std.specs.Prelude.{Result, Ok, Err}
 use Rattle.std.specs.List.{flat_map}
 use Rattle.turn_ledger.specs.declared.entry.Entry.{Entry}
@@ -22,6 +22,8 @@ use Rattle.office_sessions.specs.declared.messages.Message.{Message}
 use Rattle.office_sessions.specs.declared.messages.Message.TheVariants.{Asked, Wrong, Ended}
 use Rattle.office_sessions.specs.declared.replies.Reply.{Reply}
 use Rattle.office_sessions.specs.declared.search.Search.{Search}
+use Rattle.office_sessions.specs.declared.search.Step.{Step}
+use Rattle.office_sessions.specs.declared.search.Step.TheVariants as stepped
 use Rattle.office_sessions.specs.declared.responses.Response.{Response}
 use Rattle.office_sessions.specs.declared.responses.Response.TheVariants as response
 
@@ -65,39 +67,6 @@ is_answer response.Closing = false
 abbrev pub answers_among : List Response → List Response
 answers_among responses = filter is_answer responses
 
--- the entry that a response tells of, if that wasn't submitted for the sake of its reference
-abbrev pub judged_of : Response → List Entry
-judged_of (response.Judged entry judgement) = entry ∷ []
-judged_of (response.Posted number reference) = []
-judged_of (response.Refused refusal reference) = []
-judged_of (response.Undecided reference) = []
-judged_of (response.Found number reference) = []
-judged_of (response.Balance account amount) = []
-judged_of (response.NoBalance refusal) = []
-judged_of (response.FoundInAll count since) = []
-judged_of (response.NotFound refusal) = []
-judged_of (response.Last seen) = []
-judged_of (response.First reference) = []
-judged_of (response.NotFirst reference) = []
-judged_of (response.Hello number) = []
-judged_of (response.Archived next) = []
-judged_of response.NoArchive = []
-judged_of (response.Copied next) = []
-judged_of (response.NoCopy refusal) = []
-judged_of (response.Status status) = []
-judged_of response.Name = []
-judged_of response.Closed = []
-judged_of (response.Wrong wrong) = []
-judged_of response.Help = []
-judged_of response.Closing = []
-
--- these entries, in order
-abbrev pub judged_among : List Response → List Entry
-judged_among responses = flat_map judged_of responses
-
--- The response tells of no entry that the counter asked to post.
-abbrev pub IsOther : Response → Type 0
-IsOther told = (is_answer told ≡ false) × (judged_of told ≡ [])
 
 -- the entry that a message asks to post, if it does
 abbrev pub posting_of : Message → List Entry
@@ -125,9 +94,8 @@ abbrev pub pending : Option Message → List Entry
 pending None = []
 pending (Some message) = posting_of message
 
--- The response is one to that message, without which nothing is submitted.
+-- The response is the whole answer to that message, which is neither an entry nor a search.
 abbrev pub IsResponseTo : Message → Response → Type 0
-IsResponseTo (Asked (request.Post entry)) (response.Judged named judgement) = named ≡ entry
 IsResponseTo (Asked request.Last) (response.Last seen) = Unit {0}
 IsResponseTo (Asked request.Last) (response.NotFound refusal) = Unit {0}
 IsResponseTo (Asked (request.First reference)) (response.First named) = named ≡ reference
@@ -135,9 +103,6 @@ IsResponseTo (Asked (request.First reference)) (response.NotFirst named) = named
 IsResponseTo (Asked (request.First reference)) (response.NotFound refusal) = Unit {0}
 IsResponseTo (Asked (request.Balance account)) (response.Balance named amount) = named ≡ account
 IsResponseTo (Asked (request.Balance account)) (response.NoBalance refusal) = Unit {0}
-IsResponseTo (Asked (request.Find reference)) (response.Found number named) = named ≡ reference
-IsResponseTo (Asked (request.Find reference)) (response.FoundInAll count since) = Unit {0}
-IsResponseTo (Asked (request.Find reference)) (response.NotFound refusal) = Unit {0}
 IsResponseTo (Asked (request.Hello number)) (response.Hello told) = told ≡ number
 IsResponseTo (Asked request.Copy) (response.Copied next) = Unit {0}
 IsResponseTo (Asked request.Copy) (response.NoCopy refusal) = Unit {0}
@@ -155,21 +120,35 @@ abbrev pub told_of_balance : ℕ → Result ℕ BalanceRefusal → Response
 told_of_balance account (Ok amount) = response.Balance account amount
 told_of_balance account (Err refusal) = response.NoBalance refusal
 
--- what it is told of a record that its search found, if it found one
-abbrev pub told_of_posting : ℕ → Option Posting → Option Response
-told_of_posting reference None = None
-told_of_posting reference (Some posting) = Some (response.Found posting.number reference)
+-- what comes of a record that its search found, if it found one
+abbrev pub step_of_posting : Option Posting → Step
+step_of_posting None = stepped.UnderWay
+step_of_posting (Some posting) = stepped.Found posting.number
 
--- what it is told of a step of its search, which found that many records before
-abbrev pub told_by : ℕ → ℕ → Option Posting → Reached → Option Response
-told_by before reference posting (reached.Further began number end) =
-    told_of_posting reference posting
-told_by before reference posting (reached.All began since) = Some (response.FoundInAll before since)
-told_by before reference posting reached.LookingBack = None
+-- what comes of a step of its search, which found that many records before
+abbrev pub step_by : ℕ → Option Posting → Reached → Step
+step_by before posting (reached.Further began number end) = step_of_posting posting
+step_by before posting (reached.All began since) = stepped.Last (response.FoundInAll before since)
+step_by before posting reached.LookingBack = stepped.UnderWay
 
-abbrev pub told_of_step : ℕ → ℕ → Result SearchStep FindRefusal → Option Response
-told_of_step before reference (Ok step) = told_by before reference step.posting step.reached
-told_of_step before reference (Err refusal) = Some (response.NotFound refusal)
+abbrev pub step_of : ℕ → Result SearchStep FindRefusal → Step
+step_of before (Ok told) = step_by before told.posting told.reached
+step_of before (Err refusal) = stepped.Last (response.NotFound refusal)
+
+-- A search that counted so many records ends by how many they are, or by why it didn't come to its
+-- end.
+abbrev pub EndsCount : ℕ → Response → Type 0
+EndsCount counted last =
+    ((since : ℕ) × (last ≡ response.FoundInAll counted since))
+    ⊎ ((refusal : FindRefusal) × (last ≡ response.NotFound refusal))
+
+-- A search looks for the same reference as before, and counts each record that it tells of.
+abbrev pub IsCountedBy : Search → Step → Search → Type 0
+IsCountedBy before stepped.UnderWay after =
+    (after.reference ≡ before.reference) × (after.count ≡ before.count)
+IsCountedBy before (stepped.Found number) after =
+    (after.reference ≡ before.reference) × (after.count ≡ min (before.count + 1) (2 ^ 64 - 1))
+IsCountedBy before (stepped.Last last) after = EndsCount before.count last
 
 -- how many it found with that record, and with that step
 abbrev pub counted_with : ℕ → Option Posting → ℕ
@@ -234,11 +213,6 @@ IsAll (reached.Further began number end) = ⊥
 IsAll (reached.All began since) = Unit {0}
 IsAll reached.LookingBack = ⊥
 
--- A search is over there, and where it failed.
-abbrev pub IsLast : Result SearchStep FindRefusal → Type 0
-IsLast (Ok step) = IsAll step.reached
-IsLast (Err refusal) = Unit {0}
-
 -- whose postings a session looks at: those of a station, from the first batch on that only offices
 -- posted
 pub record OwnPostings : Type 0 where
@@ -260,21 +234,9 @@ pub record ConversationState : Type 0 where
   pub unheard : List Entry
   pub is_silent : Bool
 
--- What became of the entries that a counter asked to post, in the order in which it said them: each
--- was submitted, or it was answered otherwise, for the sake of its reference; but for the last
--- ones, which nobody took up.
-pub record WereTakenUp (said : List Message) (told : List Response)
-    (asked rest : List Entry) : Type 0 where
-  -- the entries that were taken up, each with whether it was submitted
-  pub dealt : List (Entry × Bool)
-  pub all : postings_among said ≡ map (λ one. one.0) dealt ++ rest
-  pub submitted : asked ≡ map (λ one. one.0) (filter (λ one. one.1) dealt)
-  pub judged : judged_among told ≡ map (λ one. one.0) (filter (λ one. not one.1) dealt)
-
--- Something that was asked before isn't answered: a request that was submitted, or an entry that
--- nobody submitted.
-abbrev pub IsBehindUnanswered : Bool → List Entry → Type 0
-IsBehindUnanswered is_answered unheard = (is_answered ≡ false) ⊎ (0 < length unheard)
+-- Nothing is answered any more: a question was left without an answer, or an entry is unheard.
+abbrev pub IsSilent : ConversationState → Type 0
+IsSilent conversation = (conversation.is_silent ≡ true) ⊎ (0 < length conversation.unheard)
 
 -- A counter is told nothing more, but at most that the office closes.
 abbrev pub IsToldNoMore : List Response → List Response → Type 0

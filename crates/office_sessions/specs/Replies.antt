@@ -19,6 +19,8 @@ use Rattle.office_sessions.specs.Looked.{GoesOnBy, seen_at, seen_farther, earlie
 use Rattle.office_sessions.specs.declared.look.Look.{Look}
 use Rattle.office_sessions.specs.declared.look.LookAnswer.{LookAnswer}
 use Rattle.office_sessions.specs.declared.search.Search.{Search}
+use Rattle.office_sessions.specs.declared.search.Step.{Step}
+use Rattle.office_sessions.specs.declared.search.Step.TheVariants as stepped
 use Rattle.office_sessions.specs.declared.session.Earlier.{Earlier}
 use Rattle.office_sessions.specs.declared.session.Earlier.TheVariants as earlier
 use Rattle.office_sessions.specs.declared.recess.ArchiveState.TheVariants as archive
@@ -231,6 +233,13 @@ IsToldBy own response.Closed heard = Unit {0}
 IsToldBy own (response.Wrong wrong) heard = Unit {0}
 IsToldBy own response.Help heard = Unit {0}
 IsToldBy own response.Closing heard = Unit {0}
+
+-- What is told of a step of a search for a reference is right.
+abbrev pub IsToldByStep : OwnPostings → ℕ → Step → List Reply → Type 0
+IsToldByStep own reference stepped.UnderWay heard = Unit {0}
+IsToldByStep own reference (stepped.Found number) heard =
+    IsToldBy own (response.Found number reference) heard
+IsToldByStep own reference (stepped.Last last) heard = IsToldBy own last heard
 
 -- The response tells nothing of the ledger, the archive or copies.
 abbrev pub IsPlain : Response → Type 0

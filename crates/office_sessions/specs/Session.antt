@@ -12,11 +12,9 @@ own_of session = own_postings session.station session.first
 abbrev pub HasPlace : Session → Type 0
 HasPlace session = session.postings.unanswered < known_free session.responses
 
--- The counter was told at most something else than an answer: nothing was submitted or collected,
--- and what is handled next stays.
+-- The counter was told at most something else than an answer: nothing was submitted or collected.
 pub record OnlyTells (old new : Session) : Type 0 where
   pub feed : new.postings.feed ≡ old.postings.feed
-  pub next : new.next ≡ old.next
   pub unanswered : new.postings.unanswered ≡ old.postings.unanswered
 
 -- It was told nothing at all.

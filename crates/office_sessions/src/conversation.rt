@@ -1,10 +1,10 @@
 //! What was said at a counter, and what it was told.
-ghost use Rattle.std.specs.Prelude.{◌≡◌, ◌⊎◌, ◌<◌, ◌≤◌, [], ◌∷◌, ◌++◌, false, length, true, IfOk};
-ghost use Rattle.std.specs.Prelude.{IsTrue, OnOk};
-ghost use Rattle.office_sessions.specs.Conversation.{pending, posting_of, IsOther};
-ghost use Rattle.office_sessions.specs.Replies.{IsPlain};
-ghost use Rattle.office_sessions.specs.Conversation.{IsBehindUnanswered, IsToldNoMore, own_postings};
-ghost use Rattle.office_sessions.specs.Over.{StaysOver};
+ghost use Rattle.std.specs.Prelude.{◌≡◌, ◌↔◌, [], ◌∷◌, ◌++◌, false, true, IfOk, IsTrue, OnOk};
+ghost use Rattle.station_desk.specs.Rings.{FeedState};
+ghost use Rattle.office_sessions.specs.Conversation.{pending, posting_of, IsSilent};
+ghost use Rattle.office_sessions.specs.Conversation.{IsToldNoMore, own_postings};
+ghost use Rattle.office_sessions.specs.Exchange.{one_of, late_answer};
+ghost use Rattle.office_sessions.specs.Over.{EndsOn, IsEnding, IsOpen, IsOver};
 
 use crate::messages::Message;
 use crate::recent::Recent;
@@ -80,6 +80,7 @@ impl Conversation {
         unheard: Vec<Entry>,
         recent: Recent,
         wakers: Arc<Wakers>,
+        is_silent: bool,
         is_told_closing: bool,
     ) -> Conversation
         ensures { result ≡ record {
@@ -88,7 +89,7 @@ impl Conversation {
           told = sent responses;
           replies = received replies;
           unheard = unheard.items;
-          is_silent = is_told_closing;
+          is_silent = is_silent;
         } }
     {
         Conversation {
@@ -100,25 +101,20 @@ impl Conversation {
             unheard,
             recent,
             wakers,
-            is_silent: is_told_closing,
+            is_silent,
             is_told_closing,
         }
     }
 
     /// Takes what the counter's reader still hands on, until that is all that it has read; but not
     /// for ever. Unless all before it is answered, nothing of it is.
-    pub(crate) fn take_late<C: Clock>(
-        &mut self,
-        clock: &C,
-        is_answered: bool,
-    ) -> Result<(), AllocError>
-        ensures over { OnOk result (StaysOver self.old self.new) }
-        ensures silent { OnOk result (IsBehindUnanswered is_answered self.old.unheard
-            → self.new.told ≡ self.old.told) }
+    pub(crate) fn take_late<C: Clock>(&mut self, clock: &C) -> Result<(), AllocError>
+        ensures ends { OnOk result (EndsOn [] [] self.old self.new) }
+        ensures silent { OnOk result (IsSilent self.old → self.new.told ≡ self.old.told) }
     {
         for _ in 0..LOOKS {
             let is_last = self.wakers.has_handed_on();
-            self.take_waiting(is_answered)?;
+            self.take_waiting()?;
             if is_last {
                 break;
             }
@@ -129,71 +125,55 @@ impl Conversation {
     }
 
     // Takes what the reader has handed on.
-    fn take_waiting(&mut self, is_answered: bool) -> Result<(), AllocError>
-        ensures over { OnOk result (StaysOver self.old self.new) }
-        ensures silent { OnOk result (IsBehindUnanswered is_answered self.old.unheard
-            → self.new.told ≡ self.old.told) }
-        ensures listed { OnOk result (length self.old.unheard ≤ length self.new.unheard) }
+    fn take_waiting(&mut self) -> Result<(), AllocError>
+        ensures ends { OnOk result (EndsOn [] [] self.old self.new) }
+        ensures silent { OnOk result (IsSilent self.old
+            → IsSilent self.new × (self.new.told ≡ self.old.told)) }
     {
         for _ in 0..CAPACITY {
             let Ok(message) = self.messages.pop() else {
                 break;
             };
             list(&message, &mut self.unheard)?;
-            self.refuse(&message, is_answered);
+            self.refuse(&message);
         }
         Ok(())
     }
 
-    /// Answers a question that comes too late, if all before it is answered.
-    pub(crate) fn refuse(&mut self, message: &Message, is_answered: bool)
-        ensures over { StaysOver self.old self.new }
-        ensures no_more { self.old.is_silent ≡ true → self.new ≡ self.old }
-        ensures silent { IsBehindUnanswered is_answered self.old.unheard
-            → self.new.told ≡ self.old.told }
-        ensures unheard { self.new.unheard ≡ self.old.unheard }
+    /// Answers a question that comes too late, if all before it is answered. Where there is no place
+    /// for the answer, nothing is answered any more.
+    pub(crate) fn refuse(&mut self, message: &Message)
+        ensures ends { EndsOn (message.now ∷ []) [] self.old self.new }
+        ensures silent { IsSilent self.old → self.new ≡ self.old }
     {
-        if !is_answered {
+        if !self.is_open() {
             return;
         }
-        if !self.unheard.is_empty() {
-            return;
-        }
-        match message {
-            Message::Asked(
-                Request::Balance { .. }
-                | Request::Find { .. }
-                | Request::Last
-                | Request::First { .. }
-                | Request::Copy
-                | Request::Archive
-                | Request::Status
-                | Request::Name,
-            ) => self.tell(Response::Closed),
-            Message::Asked(Request::Hello { number }) => {
-                self.tell(Response::Hello { number: *number })
-            }
-            Message::Asked(Request::Help) => self.tell(Response::Help),
-            Message::Wrong(wrong) => self.tell(Response::Wrong(*wrong)),
-            Message::Asked(Request::Post(_) | Request::Close) | Message::Ended => {}
+        if let Some(response) = late_answer(message) {
+            self.is_silent = !self.hand_on(response);
         }
     }
 
+    // Whether the counter may be told something more.
+    fn is_open(&self) -> bool
+        ensures { IsTrue result ↔ IsOpen self.now }
+    {
+        !self.is_silent && self.unheard.is_empty()
+    }
+
     /// Answers the question that would have come next, if all before it is answered.
-    pub(crate) fn refuse_next(&mut self, next: Option<Message>, is_answered: bool)
-        ensures over { StaysOver self.old self.new }
-        ensures silent { IsBehindUnanswered is_answered self.old.unheard
-            → self.new.told ≡ self.old.told }
-        ensures unheard { self.new.unheard ≡ self.old.unheard }
+    pub(crate) fn refuse_next(&mut self, next: Option<Message>)
+        ensures ends { EndsOn (one_of next) [] self.old self.new }
+        ensures silent { IsSilent self.old → self.new ≡ self.old }
     {
         if let Some(message) = next {
-            self.refuse(&message, is_answered);
+            self.refuse(&message);
         }
     }
 
     /// Tells the counter that the office closes.
     pub(crate) fn tell_closing(&mut self)
-        ensures over { StaysOver self.old self.new }
+        ensures over { (feed : FeedState) → IsEnding [] feed self.old → IsOver feed self.new }
         ensures told { IsToldNoMore self.old.told self.new.told }
     {
         if !self.is_told_closing {
@@ -203,34 +183,11 @@ impl Conversation {
         self.is_told_closing = true;
     }
 
-    // Tells the counter something else than an answer. Where there is no place for it, it is told
-    // no more of that kind.
-    fn tell(&mut self, response: Response)
-        requires other { IsOther response }
-        requires plain { IsPlain response }
-        ensures over { StaysOver self.old self.new }
-        ensures no_more { self.old.is_silent ≡ true → self.new ≡ self.old }
-        ensures told { (self.new.told ≡ self.old.told ++ response ∷ [])
-            ⊎ ((self.new.told ≡ self.old.told) × (self.new.is_silent ≡ true)) }
-        ensures unheard { self.new.unheard ≡ self.old.unheard }
-    {
-        if self.is_silent {
-            return;
-        }
-        if !self.hand_on(response) {
-            self.is_silent = true;
-        }
-    }
-
-    // Hands a response that is no answer to the counter's writer, if there is a place for it.
+    // Hands a response to the counter's writer, if there is a place for it.
     fn hand_on(&mut self, response: Response) -> bool
-        requires other { IsOther response }
-        requires plain { IsPlain response }
-        ensures over { StaysOver self.old self.new }
-        ensures told { IsTrue result → self.new.told ≡ self.old.told ++ response ∷ [] }
-        ensures untold { result ≡ false → self.new.told ≡ self.old.told }
-        ensures unheard { self.new.unheard ≡ self.old.unheard }
-        ensures silent { self.new.is_silent ≡ self.old.is_silent }
+        ensures told { IsTrue result
+            → self.new ≡ record self.old { told = self.old.told ++ response ∷ []; } }
+        ensures untold { result ≡ false → self.new ≡ self.old }
     {
         match self.responses.push(response) {
             Ok(()) => {
@@ -254,6 +211,28 @@ impl Conversation {
     /// stream takes no more.
     pub fn untold(&self) -> Skip<vec_deque::Iter<'_, Response>> {
         self.recent.last(self.wakers.unwritten())
+    }
+}
+
+// What is answered to a message that comes too late.
+fn late_answer(message: &Message) -> Option<Response>
+    ensures { result ≡ late_answer message.now }
+{
+    match message {
+        Message::Asked(
+            Request::Balance { .. }
+            | Request::Find { .. }
+            | Request::Last
+            | Request::First { .. }
+            | Request::Copy
+            | Request::Archive
+            | Request::Status
+            | Request::Name,
+        ) => Some(Response::Closed),
+        Message::Asked(Request::Hello { number }) => Some(Response::Hello { number: *number }),
+        Message::Asked(Request::Help) => Some(Response::Help),
+        Message::Wrong(wrong) => Some(Response::Wrong(*wrong)),
+        Message::Asked(Request::Post(_) | Request::Close) | Message::Ended => None,
     }
 }
 

@@ -1,10 +1,10 @@
 //! What counters are told.
-ghost use Rattle.std.specs.Prelude.{◌≡◌, ℕ, List};
+ghost use Rattle.std.specs.Prelude.{◌≡◌, false, List};
 ghost use Rattle.station_desk.specs.declared.errand.Question.{Question};
 ghost use Rattle.station_desk.specs.declared.errand.Report.{Report};
 ghost use Rattle.text_grammar.specs.declared.requests.Request.TheVariants.{Balance};
 ghost use Rattle.office_sessions.specs.declared.messages.Message.TheVariants.{Asked};
-ghost use Rattle.office_sessions.specs.Conversation.{is_answer, told_of_balance, IsOther};
+ghost use Rattle.office_sessions.specs.Conversation.{is_answer, told_of_balance};
 ghost use Rattle.office_sessions.specs.Conversation.{IsResponseTo, OwnPostings};
 ghost use Rattle.office_sessions.specs.Replies.{CameLast, IsToldBy};
 ghost use Rattle.office_sessions.specs.declared.replies.Reply.{Reply};
@@ -142,7 +142,7 @@ impl Response {
     pub(crate) fn of_balance(account: u32, answer: Result<u64, BalanceRefusal>) -> Response
         ensures told { result ≡ told_of_balance account answer }
         ensures right { IsResponseTo (Asked (Balance account)) result }
-        ensures other { IsOther result }
+        ensures other { is_answer result ≡ false }
         ensures by { (own : OwnPostings) (heard : List Reply)
             → CameLast (Reply.Report (Question.Balance account) (Report.Balance answer)) heard
             → IsToldBy own result heard }

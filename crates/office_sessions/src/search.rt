@@ -1,13 +1,9 @@
 //! A search for a reference, step by step.
-ghost use Rattle.std.specs.Prelude.{◌≡◌, ◌↔◌, ℕ, List, true, false, IsTrue, IfOk, IfErr, IfSome};
-ghost use Rattle.std.specs.Prelude.{Some};
-ghost use Rattle.text_grammar.specs.declared.requests.Request.TheVariants.{Find};
-ghost use Rattle.office_sessions.specs.declared.messages.Message.TheVariants.{Asked};
-ghost use Rattle.office_sessions.specs.Conversation.{IsOther, told_of_posting, told_of_step};
-ghost use Rattle.office_sessions.specs.Conversation.{counted_with, IsResponseTo, IsLast};
-ghost use Rattle.office_sessions.specs.Conversation.{OwnPostings};
-ghost use Rattle.office_sessions.specs.Replies.{HasSearched, SearchesOn, CameLast, IsToldBy};
-ghost use Rattle.office_sessions.specs.Replies.{step_of_search};
+ghost use Rattle.std.specs.Prelude.{◌≡◌, List, IfOk, IfErr};
+ghost use Rattle.office_sessions.specs.Conversation.{OwnPostings, step_of_posting, step_of};
+ghost use Rattle.office_sessions.specs.Conversation.{counted_with, IsCountedBy};
+ghost use Rattle.office_sessions.specs.Replies.{HasSearched, SearchesOn, CameLast, step_of_search};
+ghost use Rattle.office_sessions.specs.Replies.{IsToldByStep};
 ghost use Rattle.office_sessions.specs.declared.replies.Reply.{Reply};
 
 use crate::responses::Response;
@@ -30,29 +26,13 @@ pub(crate) struct Search {
 
 /// What comes of one step.
 #[derive(Clone, Copy, Debug)]
-pub(crate) struct Step {
-    /// What the counter is told of it, if anything.
-    pub response: Option<Response>,
-    /// Whether the search is over.
-    pub is_last: bool,
-}
-
-impl Step {
-    // A step of which nothing is told.
-    const UNDER_WAY: Step = Step {
-        response: None,
-        is_last: false,
-    };
-
-    // The last one, of which this is told.
-    fn last(response: Response) -> Step
-        ensures { result ≡ record { response = Some response; is_last = true } }
-    {
-        Step {
-            response: Some(response),
-            is_last: true,
-        }
-    }
+pub(crate) enum Step {
+    /// Nothing that is told: the search goes on.
+    UnderWay,
+    /// The reference was found in the batch of this number. The search goes on.
+    Found(u64),
+    /// The search is over, and the counter is told this.
+    Last(Response),
 }
 
 impl Search {
@@ -61,6 +41,7 @@ impl Search {
     pub(crate) fn of(reference: u64) -> Search
         ensures begins { (heard : List Reply) → HasSearched heard result }
         ensures reference { result.reference ≡ reference }
+        ensures count { result.count ≡ 0 }
     {
         Search {
             reference,
@@ -91,54 +72,44 @@ impl Search {
 
     /// Goes on by what was found.
     pub(crate) fn go_on(&mut self, found: Result<SearchStep, FindRefusal>) -> Step
-        ensures other { IfSome result.response IsOther }
-        ensures right { IfSome result.response
-            (IsResponseTo (Asked (Find self.old.reference))) }
+        ensures told { result ≡ step_of self.old.count found }
         ensures on { IfOk found (λ step. SearchesOn self.old step self.new) }
         ensures failed { IfErr found (λ refusal. self.new ≡ self.old) }
-        ensures told { result.response ≡ told_of_step self.old.count self.old.reference found }
-        ensures last { IsTrue result.is_last ↔ IsLast found }
+        ensures counts { IsCountedBy self.old result self.new }
         ensures by { (own : OwnPostings) (heard : List Reply) → ∥ HasSearched heard self.old ∥₁
             → CameLast (step_of_search self.old found) heard
-            → IfSome result.response (λ one. IsToldBy own one heard) }
+            → IsToldByStep own self.old.reference result heard }
     {
         let step = match found {
             Ok(step) => step,
-            Err(refusal) => return Step::last(Response::NotFound(refusal)),
+            Err(refusal) => return Step::Last(Response::NotFound(refusal)),
         };
         match step.reached {
             Reached::Further { number, end, .. } => {
                 self.from = number;
                 self.end = end;
-                self.tell(step.posting)
+                self.count(step.posting)
             }
-            Reached::LookingBack => Step::UNDER_WAY,
-            Reached::All { since, .. } => Step::last(Response::FoundInAll {
+            Reached::LookingBack => Step::UnderWay,
+            Reached::All { since, .. } => Step::Last(Response::FoundInAll {
                 count: self.count,
                 since,
             }),
         }
     }
 
-    // Tells of the record that was found, if one was.
-    fn tell(&mut self, posting: Option<Posting>) -> Step
-        ensures told { result.response ≡ told_of_posting self.old.reference posting }
+    // Counts the record that was found, if one was.
+    fn count(&mut self, posting: Option<Posting>) -> Step
+        ensures told { result ≡ step_of_posting posting }
         ensures counted { self.new.count ≡ counted_with self.old.count posting }
         ensures reference { self.new.reference ≡ self.old.reference }
         ensures from { self.new.from ≡ self.old.from }
         ensures end { self.new.end ≡ self.old.end }
-        ensures goes_on { result.is_last ≡ false }
     {
         let Some(posting) = posting else {
-            return Step::UNDER_WAY;
+            return Step::UnderWay;
         };
         self.count = self.count.saturating_add(1);
-        Step {
-            response: Some(Response::Found {
-                number: posting.number,
-                reference: self.reference,
-            }),
-            is_last: false,
-        }
+        Step::Found(posting.number)
     }
 }

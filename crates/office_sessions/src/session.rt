@@ -2,8 +2,8 @@
 ghost use Rattle.std.specs.Prelude.{◌≡◌, ◌≢◌, ◌≤◌, ◌^◌, ◌-◌, [], map, IfSome};
 ghost use Rattle.rtrb.specs.Ring.{known_free, sent, received};
 ghost use Rattle.station_desk.specs.Messages.{entries_of};
-ghost use Rattle.office_sessions.specs.Conversation.{response_of, answers_among, pending};
-ghost use Rattle.office_sessions.specs.Conversation.{WereTakenUp, own_postings};
+ghost use Rattle.office_sessions.specs.Conversation.{response_of, answers_among, own_postings};
+ghost use Rattle.office_sessions.specs.Exchange.{IsAnswering};
 ghost use Rattle.office_sessions.specs.Looked.{earlier_by};
 ghost use Rattle.office_sessions.specs.Replies.{AreToldBy, HasSearched, HasLooked, IsLearned};
 ghost use Rattle.office_sessions.specs.Replies.{HasSeenLast, nothing_since};
@@ -53,11 +53,10 @@ impl Earlier {
     }
 }
 
-/// A counter as the dispatcher sees it. What was submitted is what the counter's messages asked to
-/// post, in order, but for what was answered otherwise for the sake of its reference, and for the
-/// message that is handled next; and what its writer was handed of that are the answers that were
-/// collected, in order, each once. What else it was told of the ledger is right by what was replied
-/// to the session. For each request that is submitted a place is kept for the response to it, so
+/// A counter as the dispatcher sees it. Its messages are answered in order: an entry by its answer,
+/// once that is collected, or at once, for the sake of its reference; a search by a response for
+/// each record that it finds, and then by how many they are; all else by one response. What is told
+/// of the ledger is right by what was replied to the session. For each request that is submitted a place is kept for the response to it, so
 /// that a counter that reads nothing holds up nobody but itself.
 #[derive(Drop)]
 pub(crate) struct Session {
@@ -88,8 +87,8 @@ pub(crate) struct Session {
     // Whether the counter was told that the office closes.
     is_told_closing: bool,
     ghost kept_places: { postings.unanswered ≤ known_free responses },
-    ghost said: { ∥ WereTakenUp (received messages) (sent responses)
-        (entries_of postings.feed.asked) (pending next) ∥₁ },
+    ghost answered: { ∥ IsAnswering (received messages) (sent responses)
+        (entries_of postings.feed.asked) postings.unanswered next search ∥₁ },
     ghost told: { answers_among (sent responses) ≡ map response_of postings.feed.collected },
     ghost told_by: { AreToldBy (own_postings station first) (sent responses) (received replies) },
     ghost searched: { ∥ HasSearched (received replies) search ∥₁ },

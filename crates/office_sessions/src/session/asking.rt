@@ -1,13 +1,13 @@
 //! What a counter asks that is no entry: of its station, or of a recess.
-ghost use Rattle.std.specs.Prelude.{◌≡◌, [], ◌∷◌, ◌++◌, IfSome, Some, None};
+ghost use Rattle.std.specs.Prelude.{◌≡◌, [], ◌∷◌, ◌++◌, false, IsTrue, IfSome, Some, None};
 ghost use Rattle.rtrb.specs.Ring.{received};
 ghost use Rattle.text_grammar.specs.declared.requests.Request.TheVariants.{Balance, Find, Archive};
 ghost use Rattle.text_grammar.specs.declared.requests.Request.TheVariants.{Copy, Status};
 ghost use Rattle.office_sessions.specs.declared.messages.Message.TheVariants.{Asked};
-ghost use Rattle.office_sessions.specs.Conversation.{IsOther, IsAskedBy, IsResponseTo};
-ghost use Rattle.office_sessions.specs.Replies.{CameLast, IsToldBy};
+ghost use Rattle.office_sessions.specs.Conversation.{IsAskedBy, IsCountedBy, EndsCount};
+ghost use Rattle.office_sessions.specs.Replies.{CameLast, IsToldBy, HasSearched, step_of_search};
 ghost use Rattle.office_sessions.specs.Session.{HasPlace, OnlyTells, TellsNothing, KeepsLooking};
-ghost use Rattle.office_sessions.specs.Session.{own_of};
+ghost use Rattle.office_sessions.specs.Session.{KeepsLearned, own_of};
 
 use crate::recess::{ArchiveState, Wish, WishOutcome};
 use crate::replies::Reply;
@@ -18,6 +18,7 @@ use crate::session::Session;
 use crate::status::{Clients, OfficeStatus};
 use station_desk::{Question, Report};
 use std::sync::Wait;
+use turn_clerk::{FindRefusal, SearchStep};
 
 impl Session {
     // What the station reports on a question, which is put to it once, behind all that was asked
@@ -81,6 +82,7 @@ impl Session {
         requires behind { self.old.postings.unanswered ≡ 0 }
         requires next { self.old.next ≡ Some (Asked (Balance account)) }
         ensures stays { OnlyTells self.old self.new }
+        ensures handled { IsTrue result → self.new.next ≡ None }
     {
         match self.report(rt, scheduler, Question::Balance(account)) {
             Some(Report::Balance(answer)) => self.respond(Response::of_balance(account, answer)),
@@ -100,23 +102,95 @@ impl Session {
         requires behind { self.old.postings.unanswered ≡ 0 }
         requires next { self.old.next ≡ Some (Asked (Find reference)) }
         ensures stays { OnlyTells self.old self.new }
+        ensures handled { IsTrue result → self.new.next ≡ None }
     {
-        if self.search.reference() != reference {
-            self.search = Search::of(reference);
-        }
+        self.search_for(reference);
         let question = self.search.question();
         let Some(Report::Searched(found)) = self.report(rt, scheduler, question) else {
             return false;
         };
-        let step = self.search.go_on(found);
-        self.tell_step(step);
-        if step.is_last {
-            self.search = Search::of(reference);
+        if self.tell_step(found) {
             return true;
         }
         let question = self.search.question();
         let _ = self.report(rt, scheduler, question);
         false
+    }
+
+    // Begins a search, unless one for that reference is under way.
+    fn search_for(&mut self, reference: u64)
+        requires next { self.old.next ≡ Some (Asked (Find reference)) }
+        ensures stays { TellsNothing self.old self.new }
+        ensures learned { KeepsLearned self.old self.new }
+        ensures reference { self.new.search.reference ≡ reference }
+    {
+        if self.search.reference() != reference {
+            self.search = Search::of(reference);
+        }
+    }
+
+    // Goes on with the search by what was found, and tells that; false until the last is told.
+    fn tell_step(&mut self, found: Result<SearchStep, FindRefusal>) -> bool
+        requires place { HasPlace self.old }
+        requires behind { self.old.postings.unanswered ≡ 0 }
+        requires next { self.old.next ≡ Some (Asked (Find self.old.search.reference)) }
+        requires last { CameLast (step_of_search self.old.search found)
+            (received self.old.replies) }
+        ensures stays { OnlyTells self.old self.new }
+        ensures handled { IsTrue result → self.new.next ≡ None }
+        ensures goes_on { result ≡ false → (self.new.next ≡ self.old.next)
+            × (self.new.search.reference ≡ self.old.search.reference) }
+    {
+        let mut search = self.search;
+        let step = search.go_on(found);
+        match step {
+            Step::UnderWay => self.search = search,
+            Step::Found(number) => self.tell_record(search, number),
+            Step::Last(last) => return self.end_search(last),
+        }
+        false
+    }
+
+    // Tells of a record that the search found, and goes on with that one.
+    fn tell_record(&mut self, search: Search, number: u64)
+        requires place { HasPlace self.old }
+        requires behind { self.old.postings.unanswered ≡ 0 }
+        requires next { self.old.next ≡ Some (Asked (Find self.old.search.reference)) }
+        requires counted { IsCountedBy self.old.search (Step.Found number) search }
+        requires searched { ∥ HasSearched (received self.old.replies) search ∥₁ }
+        requires by { IsToldBy (own_of self.old)
+            (Response.Found number self.old.search.reference) (received self.old.replies) }
+        ensures stays { OnlyTells self.old self.new }
+        ensures goes_on { self.new.next ≡ self.old.next }
+        ensures search { self.new.search ≡ search }
+    {
+        let response = Response::Found {
+            number,
+            reference: self.search.reference(),
+        };
+        self.search = search;
+        self.responses.push_reserved(response);
+        self.recent.note(response);
+        self.wakers.note_given();
+    }
+
+    // Tells how the search ended; with it the message is answered, and another one begins anew.
+    fn end_search(&mut self, last: Response) -> bool
+        requires place { HasPlace self.old }
+        requires behind { self.old.postings.unanswered ≡ 0 }
+        requires next { self.old.next ≡ Some (Asked (Find self.old.search.reference)) }
+        requires counted { EndsCount self.old.search.count last }
+        requires by { IsToldBy (own_of self.old) last (received self.old.replies) }
+        ensures done { IsTrue result }
+        ensures stays { OnlyTells self.old self.new }
+        ensures handled { self.new.next ≡ None }
+    {
+        self.search = Search::of(self.search.reference());
+        self.next = None;
+        self.responses.push_reserved(last);
+        self.recent.note(last);
+        self.wakers.note_given();
+        true
     }
 
     // What came of a wish, for which a recess is called once, behind all that was asked before.
@@ -151,6 +225,7 @@ impl Session {
         requires behind { self.old.postings.unanswered ≡ 0 }
         requires next { self.old.next ≡ Some (Asked Archive) }
         ensures stays { OnlyTells self.old self.new }
+        ensures handled { IsTrue result → self.new.next ≡ None }
     {
         match self.what_came(rt, scheduler, Wish::Archive) {
             Some(WishOutcome::Archive(ArchiveState::UpTo(next))) => self.respond(
@@ -174,6 +249,7 @@ impl Session {
         requires behind { self.old.postings.unanswered ≡ 0 }
         requires next { self.old.next ≡ Some (Asked Copy) }
         ensures stays { OnlyTells self.old self.new }
+        ensures handled { IsTrue result → self.new.next ≡ None }
     {
         match self.what_came(rt, scheduler, Wish::Copy) {
             Some(WishOutcome::Copy(Ok(next))) => self.respond(Response::Copied { next }),
@@ -193,6 +269,7 @@ impl Session {
         requires behind { self.old.postings.unanswered ≡ 0 }
         requires next { self.old.next ≡ Some (Asked Status) }
         ensures stays { OnlyTells self.old self.new }
+        ensures handled { IsTrue result → self.new.next ≡ None }
     {
         let Some(Report::Room(room)) = self.report(rt, scheduler, Question::Room) else {
             return false;
@@ -200,22 +277,5 @@ impl Session {
         let (kept, turns) = (scheduler.kept(rt), scheduler.turns());
         let others = clients.others(self.station);
         self.respond(Response::Status(OfficeStatus::new(room, kept, turns, others)))
-    }
-
-    // Tells what comes of a step of a search, if anything.
-    fn tell_step(&mut self, step: Step)
-        requires place { HasPlace self.old }
-        requires other { IfSome step.response IsOther }
-        requires right { IfSome self.old.next (λ message.
-            IfSome step.response (IsResponseTo message)) }
-        requires by { IfSome step.response (λ one.
-            IsToldBy (own_of self.old) one (received self.old.replies)) }
-        ensures keeps { KeepsLooking self.old self.new }
-        ensures heard { self.new.replies ≡ self.old.replies }
-        ensures stays { OnlyTells self.old self.new }
-    {
-        if let Some(response) = step.response {
-            self.respond(response);
-        }
     }
 }

@@ -50,11 +50,11 @@ impl Session {
             unheard,
             recent,
             wakers,
+            is_told_closing || postings.unanswered > 0,
             is_told_closing,
         );
-        let is_answered = postings.unanswered == 0;
-        conversation.refuse_next(next, is_answered);
-        conversation.take_late(clock, is_answered)?;
+        conversation.refuse_next(next);
+        conversation.take_late(clock)?;
         conversation.tell_closing();
         Ok((postings.into_feed(), conversation))
     }

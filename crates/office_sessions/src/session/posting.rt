@@ -130,6 +130,7 @@ impl Session {
     // Tells what became of the entry that is asked for next, and isn't submitted.
     fn tell_judgement(&mut self, entry: Entry, judgement: Judgement) -> bool
         requires place { HasPlace self.old }
+        requires behind { self.old.postings.unanswered ≡ 0 }
         requires next { self.old.next ≡ Some (Asked (Post entry)) }
         requires by { ∥ IsJudgedBy (own_of self.old) entry judgement
             (received self.old.replies) ∥₁ }
@@ -296,6 +297,7 @@ impl Session {
         requires behind { self.old.postings.unanswered ≡ 0 }
         requires next { self.old.next ≡ Some (Asked Last) }
         ensures stays { OnlyTells self.old self.new }
+        ensures handled { IsTrue result → self.new.next ≡ None }
     {
         match self.look_far(rt, scheduler) {
             None => false,
@@ -319,6 +321,7 @@ impl Session {
         requires behind { self.old.postings.unanswered ≡ 0 }
         requires next { self.old.next ≡ Some (Asked (First reference)) }
         ensures stays { OnlyTells self.old self.new }
+        ensures handled { IsTrue result → self.new.next ≡ None }
     {
         match self.look_back(rt, scheduler) {
             None => return false,

@@ -1,10 +1,10 @@
 //! How what a counter says is taken, and what has come is handed on.
-ghost use Rattle.std.specs.Prelude.{◌≡◌, [], ◌∷◌, ◌++◌, IsTrue, IfSome, Some, None};
+ghost use Rattle.std.specs.Prelude.{◌≡◌, [], ◌∷◌, ◌++◌, false, IsTrue, IsSomeAnd, Some, None};
 ghost use Rattle.rtrb.specs.Ring.{sent, received};
 ghost use Rattle.text_grammar.specs.declared.requests.Request.TheVariants.{Close};
 ghost use Rattle.station_desk.specs.Rings.{StandsAt};
-ghost use Rattle.office_sessions.specs.declared.messages.Message.TheVariants.{Asked};
-ghost use Rattle.office_sessions.specs.Conversation.{pending, IsOther, IsResponseTo};
+ghost use Rattle.office_sessions.specs.declared.messages.Message.TheVariants.{Asked, Ended};
+ghost use Rattle.office_sessions.specs.Conversation.{is_answer, IsResponseTo};
 ghost use Rattle.office_sessions.specs.Replies.{IsToldBy};
 ghost use Rattle.office_sessions.specs.Session.{HasPlace, OnlyTells, KeepsLooking, own_of};
 
@@ -72,11 +72,7 @@ impl Session {
         let Some(message) = self.next_message(scheduler) else {
             return false;
         };
-        if !self.handle(rt, scheduler, clients, message) {
-            return false;
-        }
-        self.next = None;
-        true
+        self.handle(rt, scheduler, clients, message)
     }
 
     // What is handled next. Of an office that closes nothing more is taken.
@@ -117,7 +113,7 @@ impl Session {
         requires place { HasPlace self.old }
         requires next { self.old.next ≡ Some message }
         ensures feed { StandsAt self.old.postings.feed self.new.postings.feed }
-        ensures handled { IsTrue result → pending self.new.next ≡ [] }
+        ensures handled { IsTrue result → self.new.next ≡ None }
     {
         match message {
             Message::Asked(Request::Post(entry)) => self.post(rt, scheduler, entry),
@@ -143,38 +139,53 @@ impl Session {
             Message::Asked(Request::Help) => self.respond(Response::Help),
             Message::Asked(Request::Close) => self.close(scheduler),
             Message::Wrong(wrong) => self.respond(Response::Wrong(wrong)),
-            Message::Ended => {
-                if self.closes_at_end {
-                    scheduler.close();
-                }
-                true
-            }
+            Message::Ended => self.end_input(scheduler),
         }
+    }
+
+    // Where nothing comes any more the office closes, if its counter is a terminal.
+    fn end_input(&mut self, scheduler: &Scheduler) -> bool
+        requires behind { self.old.postings.unanswered ≡ 0 }
+        requires next { self.old.next ≡ Some Ended }
+        ensures stays { OnlyTells self.old self.new }
+        ensures handled { self.new.next ≡ None }
+    {
+        if self.closes_at_end {
+            scheduler.close();
+        }
+        self.next = None;
+        true
     }
 
     // Closes the office, as the counter asks, and tells it so.
     fn close(&mut self, scheduler: &Scheduler) -> bool
         requires place { HasPlace self.old }
+        requires behind { self.old.postings.unanswered ≡ 0 }
         requires next { self.old.next ≡ Some (Asked Close) }
         ensures stays { OnlyTells self.old self.new }
+        ensures handled { self.new.next ≡ None }
     {
         scheduler.close();
         self.is_told_closing = true;
         self.respond(Response::Closing)
     }
 
-    // Tells the counter something else than an answer: a response to the message that is handled,
-    // for which there is a place.
+    // Tells the counter the response to the message that is handled, for which there is a place;
+    // with it that is answered.
     pub(super) fn respond(&mut self, response: Response) -> bool
         requires place { HasPlace self.old }
-        requires other { IsOther response }
-        requires right { IfSome self.old.next (λ message. IsResponseTo message response) }
+        requires behind { self.old.postings.unanswered ≡ 0 }
+        requires other { is_answer response ≡ false }
+        requires right { IsSomeAnd self.old.next (λ message. IsResponseTo message response) }
         requires by { ∥ IsToldBy (own_of self.old) response (received self.old.replies) ∥₁ }
+        ensures done { IsTrue result }
+        ensures handled { self.new.next ≡ None }
         ensures stays { OnlyTells self.old self.new }
         ensures keeps { KeepsLooking self.old self.new }
         ensures heard { self.new.replies ≡ self.old.replies }
         ensures told { sent self.new.responses ≡ sent self.old.responses ++ response ∷ [] }
     {
+        self.next = None;
         self.responses.push_reserved(response);
         self.recent.note(response);
         self.wakers.note_given();

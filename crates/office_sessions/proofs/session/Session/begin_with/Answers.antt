@@ -5,11 +5,12 @@ use Rattle.rtrb.specs.Ring.{sent, received}
 use Rattle.station_desk.specs.Messages.{entries_of}
 use Rattle.station_desk.specs.Rings.{FeedState}
 use Rattle.turn_clerk.specs.declared.refusals.FindRefusal.{FindRefusal}
-use Rattle.office_sessions.specs.Conversation.{WereTakenUp, pending, response_of}
+use Rattle.office_sessions.specs.Conversation.{response_of}
 use Rattle.office_sessions.specs.Replies.{IsLearned}
 use Rattle.office_sessions.specs.declared.responses.Response.TheVariants as response
 use Rattle.office_sessions.specs.declared.session.Earlier.TheVariants as earlier
 use Rattle.office_sessions.specs.Session.{own_of}
+use Rattle.office_sessions.proofs.Exchanges.{answering-still}
 use Rattle.office_sessions.proofs.ToldBy.{among-last, first-learned, learned-first}
 use Rattle.office_sessions.proofs.ToldBy.{looked-learned}
 use Rattle.office_sessions.proofs.session.Session.begin_with.Goals as goal
@@ -60,12 +61,10 @@ invariant_of-self-clause-learned g c =
     (among-last (sent was.responses) (response.First c.args.reference)
     c.respond-told.ensures.told)))
 
-pub invariant_of-self-clause-said : goal.invariant_of-self-clause-said
-invariant_of-self-clause-said g c =
-    let mid = c.respond-told.new.self in
-    subst (λ (feed : FeedState).
-    ∥ WereTakenUp (received mid.messages) (sent mid.responses) (entries_of feed.asked)
-    (pending mid.next) ∥₁) (sym c.raise.ensures.feed) mid.said
+pub invariant_of-self-clause-answered : goal.invariant_of-self-clause-answered
+invariant_of-self-clause-answered g c =
+    answering-still (ap (λ (feed : FeedState). entries_of feed.asked) c.raise.ensures.feed)
+    c.raise.ensures.unanswered c.respond-told.new.self.answered
 
 pub invariant_of-self-clause-told : goal.invariant_of-self-clause-told
 invariant_of-self-clause-told g c =

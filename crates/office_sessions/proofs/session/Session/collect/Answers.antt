@@ -1,31 +1,30 @@
 use Rattle.std.specs.Prelude.{List, map}
-use Rattle.std.proofs.Common.{sym, ◌∙◌, ap, subst}
+use Rattle.std.proofs.Common.{rules, sym, ◌∙◌, ap, subst}
 use Rattle.std.proofs.Math.Logic.{∥∥₁_map}
 use Rattle.rtrb.specs.Ring.{sent, received}
 use Rattle.station_desk.specs.Messages.{entries_of}
 use Rattle.office_sessions.specs.declared.responses.Response.{Response}
-use Rattle.office_sessions.specs.Conversation.{WereTakenUp, pending, response_of}
+use Rattle.office_sessions.specs.Conversation.{is_answer, response_of}
+use Rattle.office_sessions.specs.Exchange.{IsAnswering}
 use Rattle.station_desk.specs.declared.messages.Ask.{Ask}
-use Rattle.office_sessions.specs.Conversation.{judged_of}
 use Rattle.office_sessions.specs.Replies.{IsToldBy, IsLearned}
 use Rattle.office_sessions.specs.Session.{own_of}
-use Rattle.office_sessions.proofs.TakenUp.{taken-told, no-judgement, more-answers}
+use Rattle.office_sessions.proofs.Exchanges.{answering-collected, answering-still}
+use Rattle.office_sessions.proofs.Exchanges.{an-answer, more-answers}
 use Rattle.office_sessions.proofs.ToldBy.{told-more, learned-told, learned-raised, told-answer}
 use Rattle.office_sessions.proofs.session.Session.collect.Goals as goal
 
-pub invariant_of-self-in-loop-clause-said : goal.invariant_of-self-in-loop-clause-said
-invariant_of-self-in-loop-clause-said c =
+pub invariant_of-self-in-loop-clause-answered : goal.invariant_of-self-in-loop-clause-answered
+invariant_of-self-in-loop-clause-answered c =
     let old = c.loop.self in
-    let answer = c.in-Some.answer in
-    ∥∥₁_map old.said (λ taken.
-    subst (λ (asked : List Ask).
-    WereTakenUp (received old.messages) (sent c.push_reserved.new.self) (entries_of asked)
-    (pending old.next)) (sym c.collect.ensures.asked)
-    (subst (λ (told : List Response).
-    WereTakenUp (received old.messages) told (entries_of old.postings.feed.asked)
-    (pending old.next)) (sym c.push_reserved.ensures.sent.0)
-    (taken-told c.from-response.result (ap judged_of c.from-response.ensures ∙ no-judgement answer)
-    taken)))
+    let new = c.collect.new.self in
+    ∥∥₁_map old.answered (λ was.
+    subst (λ (asked : List Ask). IsAnswering (received old.messages)
+    (sent c.push_reserved.new.self) (entries_of asked) new.unanswered old.next old.search)
+    (sym c.collect.ensures.asked)
+    (answering-collected new.unanswered c.from-response.result c.push_reserved.ensures.sent.0
+    (ap is_answer c.from-response.ensures ∙ an-answer c.in-Some.answer)
+    (search rules) was))
 
 pub invariant_of-self-in-loop-clause-told : goal.invariant_of-self-in-loop-clause-told
 invariant_of-self-in-loop-clause-told c =
@@ -69,12 +68,10 @@ invariant_of-self-clause-learned c =
     (learned-raised (own_of old) heard (sent old.responses) (entries_of old.postings.feed.asked)
     old.postings.posted new.posted old.earlier c.collect.ensures.never_falls so))
 
-pub invariant_of-self-clause-said : goal.invariant_of-self-clause-said
-invariant_of-self-clause-said c =
-    let old = c.loop.self in
-    subst (λ (asked : List Ask).
-    ∥ WereTakenUp (received old.messages) (sent old.responses) (entries_of asked)
-    (pending old.next) ∥₁) (sym c.collect.ensures.asked) old.said
+pub invariant_of-self-clause-answered : goal.invariant_of-self-clause-answered
+invariant_of-self-clause-answered c =
+    answering-still (ap entries_of c.collect.ensures.asked)
+    (c.collect.ensures.none c.in_default.is).1 c.loop.self.answered
 
 pub invariant_of-self-clause-told : goal.invariant_of-self-clause-told
 invariant_of-self-clause-told c =

@@ -1,27 +1,38 @@
-use Rattle.std.specs.Prelude.{List}
-use Rattle.std.proofs.Common.{sym, subst}
+use Rattle.std.proofs.Common.{rules, ◌∙◌, sym, subst}
 use Rattle.std.proofs.Math.Logic.{∥∥₁_map}
 use Rattle.rtrb.specs.Ring.{sent, received}
-use Rattle.turn_ledger.specs.declared.entry.Entry.{Entry}
 use Rattle.station_desk.specs.Messages.{entries_of}
 use Rattle.station_desk.specs.Rings.{FeedState}
 use Rattle.office_sessions.specs.Rising.{AreAbove}
-use Rattle.office_sessions.specs.Conversation.{WereTakenUp}
-use Rattle.office_sessions.specs.Over.{IsOver}
+use Rattle.office_sessions.specs.Exchange.{one_of}
+use Rattle.office_sessions.specs.Over.{IsOver, IsEnding}
 use Rattle.office_sessions.specs.Session.{own_of}
+use Rattle.office_sessions.proofs.LateExchanges.{ending-begins, never-both}
 use Rattle.office_sessions.proofs.ToldBy.{rise-learned}
+use Rattle.office_sessions.proofs.session.Session.end.Goals.{then-is_told_closing}
+use Rattle.office_sessions.proofs.session.Session.end.Goals.{else-is_told_closing}
 use Rattle.office_sessions.proofs.session.Session.end.Goals as goal
 
 pub returns-clause-over : goal.returns-clause-over
 returns-clause-over g c =
     let old = c.args.self in
     let feed = old.postings.feed in
-    let begun : IsOver feed c.new-conversation.result =
-    subst (IsOver feed) (sym c.new-conversation.ensures) (record {
+    let begun : IsEnding (one_of old.next) feed c.new-conversation.result =
+    subst (IsEnding (one_of old.next) feed) (sym c.new-conversation.ensures) (record {
       told = old.told;
-      said = subst (λ (unheard : List Entry).
-          ∥ WereTakenUp (received old.messages) (sent old.responses) (entries_of feed.asked) unheard
-          ∥₁) (sym c.in_ok-unheard.ensures) old.said;
+      answered = ∥∥₁_map old.answered (λ was.
+          let left = ending-begins c.in_ok-unheard.ensures was in
+          record {
+            were = left.0;
+            not_closed = left.1;
+            rest = λ _. left.2;
+            waiting = λ is. left.3
+                (elim c.if-is_told_closing.branch [
+                  then-is_told_closing w ↦ absurd
+                      (never-both (sym w.if-is_told_closing.true ∙ sym w.new-is ∙ is.0))
+                  | else-is_told_closing w ↦ let both = sym w.new-is ∙ is.0 in search rules
+                ]);
+          });
       above = subst (λ (one : FeedState). AreAbove one.asked one.collected) c.into_feed.ensures.feed
           c.into_feed.ensures.above;
       follows = record {
@@ -33,4 +44,4 @@ returns-clause-over g c =
     }) in
     subst (λ (one : FeedState). IsOver one c.tell_closing.new.self) (sym c.into_feed.ensures.feed)
     (c.tell_closing.ensures.over feed
-    (c.in_ok-take_late.ensures.over feed (c.refuse_next.ensures.over feed begun)))
+    (c.in_ok-take_late.ensures.ends feed (c.refuse_next.ensures.ends feed begun)))

@@ -1,31 +1,29 @@
-use Rattle.std.specs.Prelude.{◌≡◌, ◌⊎◌, ℕ, List, [], map, Option}
+use Rattle.std.specs.Prelude.{◌≡◌, ◌⊎◌, ℕ, map, Option}
 use Rattle.std.proofs.Common.{sym, ◌∙◌, ap, subst, inl, inr}
 use Rattle.std.proofs.Math.Logic.{∥∥₁_map}
 use Rattle.rtrb.specs.Ring.{sent, received}
-use Rattle.turn_ledger.specs.declared.entry.Entry.{Entry}
 use Rattle.station_desk.specs.Messages.{entries_of}
 use Rattle.station_desk.specs.Rings.{FeedState}
 use Rattle.office_sessions.specs.declared.messages.Message.{Message}
 use Rattle.office_sessions.specs.declared.postings.Submission.{Submission}
 use Rattle.office_sessions.specs.declared.postings.Submission.TheVariants as submission
-use Rattle.office_sessions.specs.Conversation.{WereTakenUp, pending, response_of}
+use Rattle.office_sessions.specs.Conversation.{response_of}
+use Rattle.office_sessions.specs.Exchange.{IsAnswering}
 use Rattle.office_sessions.specs.Replies.{IsLearned}
 use Rattle.office_sessions.specs.Session.{own_of}
-use Rattle.office_sessions.proofs.TakenUp.{taken-submitted}
+use Rattle.office_sessions.proofs.Exchanges.{answering-submitted, answering-still}
 use Rattle.office_sessions.proofs.ToldBy.{learned-asked}
 use Rattle.office_sessions.proofs.session.Session.hand_in.Goals as goal
 
-pub invariant_of-self-clause-said : goal.invariant_of-self-clause-said
-invariant_of-self-clause-said c =
+pub invariant_of-self-clause-answered : goal.invariant_of-self-clause-answered
+invariant_of-self-clause-answered c =
     let old = c.args.self.now in
-    ∥∥₁_map old.said (λ taken.
-    subst (λ (asked : List Entry).
-    WereTakenUp (received old.messages) (sent old.responses) asked [])
-    (sym (c.submit-submission.ensures.submitted c.in-Submitted.is).0)
-    (taken-submitted c.args.entry
-    (subst (λ (next : Option Message).
-    WereTakenUp (received old.messages) (sent old.responses)
-    (entries_of old.postings.feed.asked) (pending next)) c.requires.next taken)))
+    let submitted = c.submit-submission.ensures.submitted c.in-Submitted.is in
+    ∥∥₁_map old.answered (λ was.
+    answering-submitted c.args.entry submitted.0 submitted.1
+    (subst (λ (next : Option Message). IsAnswering (received old.messages) (sent old.responses)
+    (entries_of old.postings.feed.asked) old.postings.unanswered next old.search)
+    c.requires.next was))
 
 pub invariant_of-self-clause-told : goal.invariant_of-self-clause-told
 invariant_of-self-clause-told c =
@@ -57,12 +55,12 @@ refused (inr (inr is)) other = absurd (cc)
 same : (c : goal.In-NoPlace) → c.submit-submission.new.self.feed ≡ c.args.self.now.postings.feed
 same c = (c.submit-submission.ensures.not_submitted (refused c.in-NoPlace.is)).0
 
-pub invariant_of-self-in-NoPlace-clause-said : goal.invariant_of-self-in-NoPlace-clause-said
-invariant_of-self-in-NoPlace-clause-said c =
-    let old = c.args.self.now in
-    subst (λ (feed : FeedState).
-    ∥ WereTakenUp (received old.messages) (sent old.responses) (entries_of feed.asked)
-    (pending old.next) ∥₁) (sym (same c)) old.said
+pub invariant_of-self-in-NoPlace-clause-answered :
+    goal.invariant_of-self-in-NoPlace-clause-answered
+invariant_of-self-in-NoPlace-clause-answered c =
+    answering-still (ap (λ (feed : FeedState). entries_of feed.asked) (same c))
+    (c.submit-submission.ensures.not_submitted (refused c.in-NoPlace.is)).1
+    c.args.self.now.answered
 
 pub invariant_of-self-in-NoPlace-clause-told : goal.invariant_of-self-in-NoPlace-clause-told
 invariant_of-self-in-NoPlace-clause-told c =

@@ -4,11 +4,12 @@ use Rattle.std.proofs.Math.Logic.{∥∥₁_elim, ∥∥₁_map}
 use Rattle.rtrb.specs.Ring.{sent, received}
 use Rattle.station_desk.specs.Messages.{entries_of}
 use Rattle.station_desk.specs.Rings.{FeedState}
-use Rattle.office_sessions.specs.Conversation.{WereTakenUp, pending, response_of}
+use Rattle.office_sessions.specs.Conversation.{response_of}
 use Rattle.office_sessions.specs.Looked.{earlier_by}
 use Rattle.office_sessions.specs.Replies.{HasSeenAll, IsLearned}
 use Rattle.office_sessions.specs.declared.session.Earlier.{Earlier}
 use Rattle.office_sessions.specs.Session.{own_of}
+use Rattle.office_sessions.proofs.Exchanges.{answering-still}
 use Rattle.office_sessions.proofs.ToldBy.{once-now, learned-seen, learned-raised, within-more}
 use Rattle.office_sessions.proofs.session.Session.learn.Goals as goal
 
@@ -43,24 +44,20 @@ invariant_of-self-in-OutOfSight-clause-learned c =
     (learned-raised (own_of old) heard told (entries_of old.postings.feed.asked)
     old.postings.posted posted old.earlier (omega (arith, c.raise.ensures.greatest))))
 
-pub invariant_of-self-clause-said : goal.invariant_of-self-clause-said
-invariant_of-self-clause-said c =
-    let old = c.args.self.now in
-    subst (λ (feed : FeedState).
-    ∥ WereTakenUp (received old.messages) (sent old.responses) (entries_of feed.asked)
-    (pending old.next) ∥₁) (sym c.raise.ensures.feed) old.said
+pub invariant_of-self-clause-answered : goal.invariant_of-self-clause-answered
+invariant_of-self-clause-answered c =
+    answering-still (ap (λ (feed : FeedState). entries_of feed.asked) c.raise.ensures.feed)
+    c.raise.ensures.unanswered c.args.self.now.answered
 
 pub invariant_of-self-clause-told : goal.invariant_of-self-clause-told
 invariant_of-self-clause-told c =
     c.args.self.now.told
     ∙ ap (λ (feed : FeedState). map response_of feed.collected) (sym c.raise.ensures.feed)
 
-pub invariant_of-self-in-OutOfSight-clause-said : goal.invariant_of-self-in-OutOfSight-clause-said
-invariant_of-self-in-OutOfSight-clause-said c =
-    let old = c.args.self.now in
-    subst (λ (feed : FeedState).
-    ∥ WereTakenUp (received old.messages) (sent old.responses) (entries_of feed.asked)
-    (pending old.next) ∥₁) (sym c.raise.ensures.feed) old.said
+pub invariant_of-self-in-OutOfSight-clause-answered : goal.invariant_of-self-in-OutOfSight-clause-answered
+invariant_of-self-in-OutOfSight-clause-answered c =
+    answering-still (ap (λ (feed : FeedState). entries_of feed.asked) c.raise.ensures.feed)
+    c.raise.ensures.unanswered c.args.self.now.answered
 
 pub invariant_of-self-in-OutOfSight-clause-told : goal.invariant_of-self-in-OutOfSight-clause-told
 invariant_of-self-in-OutOfSight-clause-told c =

@@ -1,14 +1,14 @@
-use Rattle.std.specs.Prelude.{◌^◌, ◌-◌, ◌≡◌, List, All}
+use Rattle.std.specs.Prelude.{◌^◌, ◌-◌, List}
 use Rattle.std.proofs.Common.{sym, ◌∙◌, ap, subst}
 use Rattle.std.proofs.lemmas.List.Elements.{All-nil}
 use Rattle.rtrb.specs.Ring.{received}
-use Rattle.turn_ledger.specs.declared.entry.Entry.{Entry}
 use Rattle.station_desk.specs.Messages.{entries_of}
 use Rattle.station_desk.specs.Rings.{FeedState}
 use Rattle.office_sessions.specs.declared.look.Look.{Look}
 use Rattle.office_sessions.specs.declared.responses.Response.{Response}
 use Rattle.office_sessions.specs.Replies.{AreToldBy, AreWithoutReference, HasLooked, look_begins}
 use Rattle.office_sessions.specs.Conversation.{own_postings}
+use Rattle.office_sessions.proofs.Exchanges.{none-answering}
 use Rattle.office_sessions.proofs.session.Session.new.Goals as goal
 
 pub invariant_of-result-clause-told_by : goal.invariant_of-result-clause-told_by
@@ -29,3 +29,10 @@ invariant_of-result-clause-learned c =
     (sym c.new.ensures.feed)
     (subst (λ (asked : List _). AreWithoutReference (entries_of asked))
     (sym c.requires.nothing_asked) (All-nil _)) ∣₁
+
+pub invariant_of-result-clause-answered : goal.invariant_of-result-clause-answered
+invariant_of-result-clause-answered c =
+    ∣ none-answering c.requires.nothing_said c.requires.nothing_told
+    (ap (λ (feed : FeedState). entries_of feed.asked) c.new.ensures.feed
+    ∙ ap entries_of c.requires.nothing_asked)
+    c.new.ensures.unanswered c.of.ensures.count ∣₁

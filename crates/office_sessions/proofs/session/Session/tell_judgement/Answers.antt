@@ -1,28 +1,29 @@
-use Rattle.std.specs.Prelude.{List, [], Option, refl}
+use Rattle.std.specs.Prelude.{ℕ, Option, None, refl}
 use Rattle.std.proofs.Common.{sym, ◌∙◌, subst}
 use Rattle.std.proofs.Math.Logic.{∥∥₁_map}
 use Rattle.rtrb.specs.Ring.{sent, received}
 use Rattle.station_desk.specs.Messages.{entries_of}
 use Rattle.office_sessions.specs.declared.messages.Message.{Message}
-use Rattle.office_sessions.specs.declared.responses.Response.{Response}
 use Rattle.office_sessions.specs.declared.responses.Response.TheVariants as response
-use Rattle.office_sessions.specs.Conversation.{WereTakenUp, pending}
+use Rattle.office_sessions.specs.Exchange.{IsAnswering}
 use Rattle.office_sessions.specs.Session.{own_of}
-use Rattle.office_sessions.proofs.TakenUp.{taken-judged, other-answers}
+use Rattle.office_sessions.proofs.Exchanges.{answering-judged, other-answers}
 use Rattle.office_sessions.proofs.ToldBy.{told-more, learned-told}
 use Rattle.office_sessions.proofs.session.Session.tell_judgement.Goals as goal
 
-pub invariant_of-self-clause-said : goal.invariant_of-self-clause-said
-invariant_of-self-clause-said c =
+pub invariant_of-self-clause-answered : goal.invariant_of-self-clause-answered
+invariant_of-self-clause-answered c =
     let old = c.args.self.now in
-    ∥∥₁_map old.said (λ taken.
-    subst (λ (told : List Response).
-    WereTakenUp (received old.messages) told (entries_of old.postings.feed.asked) [])
-    (sym c.push_reserved.ensures.sent.0)
-    (taken-judged c.args.entry c.args.judgement
-    (subst (λ (next : Option Message).
-    WereTakenUp (received old.messages) (sent old.responses)
-    (entries_of old.postings.feed.asked) (pending next)) c.requires.next taken)))
+    let said = received old.messages in
+    let asked = entries_of old.postings.feed.asked in
+    subst (λ (unanswered : ℕ). ∥ IsAnswering said (sent c.push_reserved.new.self) asked unanswered
+    None old.search ∥₁) (sym c.requires.behind)
+    (∥∥₁_map old.answered (λ was.
+    answering-judged c.args.entry c.args.judgement c.push_reserved.ensures.sent.0
+    (subst (λ (next : Option Message). IsAnswering said (sent old.responses) asked 0 next
+    old.search) c.requires.next
+    (subst (λ (unanswered : ℕ). IsAnswering said (sent old.responses) asked unanswered old.next
+    old.search) c.requires.behind was))))
 
 pub invariant_of-self-clause-told : goal.invariant_of-self-clause-told
 invariant_of-self-clause-told c =

@@ -1,0 +1,131 @@
+-- The messages of a counter, and what each was answered with.
+use Rattle.std.specs.Prelude.{◌≡◌, ◌⊎◌, ◌-◌, ◌^◌, ◌<◌, ℕ, true, min, List, [], ◌∷◌, ◌++◌}
+use Rattle.std.specs.Prelude.{map, length, Option, None, Some}
+use Rattle.std.specs.List.{flat_map}
+use Rattle.turn_ledger.specs.declared.entry.Entry.{Entry}
+use Rattle.text_grammar.specs.declared.requests.Request.TheVariants as request
+use Rattle.office_sessions.specs.declared.messages.Message.{Message}
+use Rattle.office_sessions.specs.declared.messages.Message.TheVariants.{Asked, Wrong, Ended}
+use Rattle.office_sessions.specs.declared.responses.Judgement.{Judgement}
+use Rattle.office_sessions.specs.declared.responses.Response.{Response}
+use Rattle.office_sessions.specs.declared.responses.Response.TheVariants as response
+use Rattle.office_sessions.specs.declared.search.Search.{Search}
+use Rattle.office_sessions.specs.Conversation.{is_answer, postings_among, IsResponseTo, EndsCount}
+
+-- a message, and what it was answered with
+pub data Exchange : Type 0 where
+  -- an entry that was submitted, and its answer
+  entry_answered : (entry : Entry) (answer : Response) → is_answer answer ≡ true → Exchange
+  -- an entry that wasn't, for the sake of its reference
+  entry_judged : Entry → Judgement → Exchange
+  -- a search for a reference, which told of the batches of these numbers, and how it ended
+  search_ended : (reference : ℕ) (numbers : List ℕ) (last : Response)
+      → EndsCount (min (length numbers) (2 ^ 64 - 1)) last → Exchange
+  -- any other question
+  question_answered : (asked : Message) (answer : Response) → IsResponseTo asked answer → Exchange
+  -- the end of the input
+  input_ended : Exchange
+
+-- the message that asks to post an entry, and the one that asks to find a reference
+abbrev pub posting : Entry → Message
+posting entry = Asked (request.Post entry)
+
+abbrev pub finding : ℕ → Message
+finding reference = Asked (request.Find reference)
+
+-- a response for each record that a search found
+abbrev pub all_found : ℕ → List ℕ → List Response
+all_found reference numbers = map (λ number. response.Found number reference) numbers
+
+abbrev pub message_in : Exchange → Message
+message_in (entry_answered entry answer is) = posting entry
+message_in (entry_judged entry judgement) = posting entry
+message_in (search_ended reference numbers last ends) = finding reference
+message_in (question_answered asked answer is) = asked
+message_in input_ended = Ended
+
+abbrev pub told_in : Exchange → List Response
+told_in (entry_answered entry answer is) = answer ∷ []
+told_in (entry_judged entry judgement) = response.Judged entry judgement ∷ []
+told_in (search_ended reference numbers last ends) = all_found reference numbers ++ last ∷ []
+told_in (question_answered asked answer is) = answer ∷ []
+told_in input_ended = []
+
+-- the entry that was submitted, if one was
+abbrev pub submitted_in : Exchange → List Entry
+submitted_in (entry_answered entry answer is) = entry ∷ []
+submitted_in (entry_judged entry judgement) = []
+submitted_in (search_ended reference numbers last ends) = []
+submitted_in (question_answered asked answer is) = []
+submitted_in input_ended = []
+
+-- What is answered to a message that comes too late: most questions are refused, some need no
+-- ledger, and an entry, the wish to close and the end of the input have no answer.
+abbrev pub late_answer : Message → Option Response
+late_answer (Asked (request.Post entry)) = None
+late_answer (Asked (request.Balance account)) = Some response.Closed
+late_answer (Asked (request.Find reference)) = Some response.Closed
+late_answer (Asked request.Last) = Some response.Closed
+late_answer (Asked (request.First reference)) = Some response.Closed
+late_answer (Asked (request.Hello number)) = Some (response.Hello number)
+late_answer (Asked request.Copy) = Some response.Closed
+late_answer (Asked request.Archive) = Some response.Closed
+late_answer (Asked request.Status) = Some response.Closed
+late_answer (Asked request.Name) = Some response.Closed
+late_answer (Asked request.Help) = Some response.Help
+late_answer (Asked request.Close) = None
+late_answer (Wrong wrong) = Some (response.Wrong wrong)
+late_answer Ended = None
+
+-- a list of what is there, if it is
+abbrev pub one_of : {X : Type 0} → Option X → List X
+one_of None = []
+one_of (Some one) = one ∷ []
+
+abbrev pub told_late : Message → List Response
+told_late message = one_of (late_answer message)
+
+-- How far a session is with its messages: those before these were answered, in order; these entries
+-- are submitted, and not answered yet; and then comes the message that is handled next, if there is
+-- one, which was told of as many records as its search counts.
+pub record IsAnswering (said : List Message) (told : List Response) (asked : List Entry)
+    (unanswered : ℕ) (next : Option Message) (search : Search) : Type 0 where
+  pub exchanges : List Exchange
+  pub waiting : List Entry
+  pub numbers : List ℕ
+  pub messages : said ≡ map message_in exchanges ++ (map posting waiting ++ one_of next)
+  pub responses : told ≡ flat_map told_in exchanges ++ all_found search.reference numbers
+  pub submitted : asked ≡ flat_map submitted_in exchanges ++ waiting
+  pub counted : length waiting ≡ unanswered
+  pub found : search.count ≡ min (length numbers) (2 ^ 64 - 1)
+  pub searches : 0 < length numbers → (next ≡ Some (finding search.reference)) × (waiting ≡ [])
+
+-- What a counter was told at last: that the office closes, or nothing.
+abbrev pub IsClosing : List Response → Type 0
+IsClosing told = (told ≡ []) ⊎ (told ≡ response.Closing ∷ [])
+
+-- How a counter's messages were answered, when its conversation is over, in order: some while the
+-- office was open; then some that came late, none of them an entry. Then come entries that were
+-- submitted and not answered, and then what nobody took up, of which the entries are unheard. What
+-- was found by a search that the office left unfinished was told before; and at last that the
+-- office closes, or nothing.
+pub record WereAnswered (said : List Message) (told : List Response)
+    (asked unheard : List Entry) : Type 0 where
+  pub exchanges : List Exchange
+  pub late : List Message
+  pub waiting : List Entry
+  pub rest : List Message
+  pub reference : ℕ
+  pub numbers : List ℕ
+  pub closing : List Response
+  pub messages : said
+      ≡ map message_in exchanges ++ (late ++ (map posting waiting ++ rest))
+  pub responses : told ≡ flat_map told_in exchanges
+      ++ (all_found reference numbers ++ (flat_map told_late late ++ closing))
+  pub submitted : asked ≡ flat_map submitted_in exchanges ++ waiting
+  pub no_entry : postings_among late ≡ []
+  pub untaken : postings_among rest ≡ unheard
+  pub in_order : 0 < length late → waiting ≡ []
+  pub unfinished : 0 < length numbers
+      → (waiting ≡ []) × ((more : List Message) × (late ++ rest ≡ finding reference ∷ more))
+  pub closes : IsClosing closing
