@@ -32,8 +32,6 @@ const TRIES: u64 = 2;
 #[derive(Drop)]
 struct Exchange {
     question: Option<Question>,
-    // What the station asks the office now.
-    asked: Option<Question>,
     // What is wanted there of the next recess.
     wish: Option<Wish>,
     // None if the station has no counter.
@@ -67,7 +65,6 @@ impl Waker {
             has_begun: AtomicBool::new(false),
             exchange: Mutex::new(Exchange {
                 question: None,
-                asked: None,
                 wish: None,
                 replies: None,
             }),
@@ -81,9 +78,7 @@ impl Waker {
 
     // What the station is to ask the office, once.
     fn take_question<R: Wait>(&self, rt: &R) -> Option<Question> {
-        let mut exchange = self.exchange.lock(rt);
-        exchange.asked = exchange.question.take();
-        exchange.asked
+        self.exchange.lock(rt).question.take()
     }
 }
 
@@ -417,12 +412,10 @@ impl Gate for Scheduler {
         unreachable!()
     }
 
-    fn reported<R: Wait>(&self, rt: &R, station: u8, report: Report) {
+    fn reported<R: Wait>(&self, rt: &R, station: u8, question: Question, report: Report) {
         if let Some(waker) = self.wakers.get(station as usize) {
-            let mut exchange = waker.exchange.lock(rt);
-            if let Some(question) = exchange.asked.take() {
-                exchange.reply(Reply::Report { question, report });
-            }
+            let reply = Reply::Report { question, report };
+            waker.exchange.lock(rt).reply(reply);
         }
         self.wake_dispatcher();
     }

@@ -20,3 +20,11 @@ IsReportOn state device from old new (question.Search sought first end) (report.
 IsReportOn state device from old new question.Room (report.Room room) =
     WasToldRoom state device from room × (new ≡ old)
 IsReportOn state device from old new _ _ = ⊥
+
+-- Each report that is right on a question is one that is heard: it is the answer, to whatever seat,
+-- of an office that was opened on that device with that line.
+abbrev pub HearsReports : {D : Type 0} → (D → DeviceState) → DeviceState → Configuration
+    → (Question → Report → Type 0) → Type 0
+HearsReports state device from hears =
+    (old new : SeatState) (question : Question) (report : Report)
+    → IsReportOn state device from old new question report → hears question report

@@ -1,7 +1,7 @@
 //! Who tells a station what to do, and is told how far it is.
 ghost use Rattle.std.specs.Prelude.{◌≡◌};
 
-use crate::errand::{Errand, Report};
+use crate::errand::{Errand, Question, Report};
 use std::sync::Wait;
 use turn_clerk::Turn;
 
@@ -10,9 +10,14 @@ use turn_clerk::Turn;
 /// does; a station goes on when a call returns.
 pub trait Gate {
     ghost use Rattle.station_desk.specs.declared.errand.Errand.TheVariants.{Close};
+    ghost use Rattle.station_desk.specs.declared.errand.Question.{Question};
+    ghost use Rattle.station_desk.specs.declared.errand.Report.{Report};
 
     /// Whether it may send a station home before all turns are taken.
     ghost closes: { Self → Type 0 } = { λ _. Unit {0} };
+
+    /// What is so of each report that it is handed, with the question that it answers.
+    ghost hears: { Self → Question → Report → Type 0 } = { λ _ _ _. Unit {0} };
 
     /// What the station does next. It may wait, until something is to be done. Without a body of
     /// its own a station asks for its turn.
@@ -22,8 +27,10 @@ pub trait Gate {
         Errand::Turn
     }
 
-    /// What the office answered to the question of the station's last errand.
-    fn reported<R: Wait>(&self, _rt: &R, _station: u8, _report: Report) {}
+    /// What the office answered to this question, that of the station's last errand.
+    fn reported<R: Wait>(&self, _rt: &R, _station: u8, question: Question, report: Report)
+        requires right { hears self.now question report }
+    {}
 
     /// The station has gathered, and asks for its turn next.
     fn gathered(&self, station: u8);

@@ -6,6 +6,7 @@ ghost use Rattle.turn_clerk.specs.declared.turns.Turn.{Turn};
 ghost use Rattle.line_lock.specs.Seat.{WasAcknowledged, IsDeniedAfter};
 ghost use Rattle.station_desk.specs.Worked.{HasWorked};
 ghost use Rattle.station_desk.specs.Run.{HasRun, HaveRun};
+ghost use Rattle.station_desk.specs.Asked.{HearsReports};
 
 use crate::desk_end::Desk;
 use crate::end::End;
@@ -113,6 +114,7 @@ fn work<D: Device, L: Count + OpenedOn, G: Gate, R: Wait>(
     moves: u64,
     tries: u64,
 ) -> End
+    requires heard { HearsReports D.state L.device L.line (G.hears gate.now) }
     ensures worked { HasWorked (WasAcknowledged D.state L.device L.line)
         seat.old seat.new desk.old desk.new moves (result ≡ End.Refused TurnRefusal.Device) }
     ensures reached { result ≡ End.Reached → moves ≤ seat.new.reached }
@@ -132,7 +134,7 @@ fn work<D: Device, L: Count + OpenedOn, G: Gate, R: Wait>(
             Errand::Turn => {}
             Errand::Ask(question) => {
                 let report = put_question(rt, office, seat, question);
-                gate.reported(rt, seat.station(), report);
+                gate.reported(rt, seat.station(), question, report);
                 continue;
             }
             Errand::Close => return End::Closed,
@@ -163,6 +165,7 @@ fn run_station<D: Device, L: Count + OpenedOn, G: Gate, R: Wait>(
     moves: u64,
     tries: u64,
 )
+    requires heard { HearsReports D.state L.device L.line (G.hears gate.now) }
     ensures { HasRun D.state L.device L.line station.old.seat station.new.seat
         station.old.desk station.new.desk station.new.end moves (G.closes gate.now) }
 {
@@ -188,6 +191,8 @@ pub fn run_stations<
     G: Gate + Sync,
     R: Threads + Wait + Sync,
 >(rt: &R, office: &Office<D, L>, stations: &mut [Station<L>], gate: &G, moves: u64, tries: u64)
+    // Each report that is right is one that the gate hears.
+    requires heard { HearsReports D.state L.device L.line (G.hears gate.now) }
     ensures { HaveRun D.state L.device L.line stations.old stations.new moves (G.closes gate.now) }
 {
     if stations.is_empty() {
