@@ -27,6 +27,9 @@ use Rattle.station_desk.specs.declared.end.End.{End}
 use Rattle.station_desk.specs.declared.end.End.TheVariants.{Reached, Closed}
 use Rattle.station_desk.specs.declared.messages.Ask.{Ask}
 use Rattle.station_desk.specs.declared.messages.Answer.{Answer}
+use Rattle.station_desk.specs.declared.errand.Question.{Question}
+use Rattle.station_desk.specs.declared.errand.Report.{Report}
+use Rattle.station_desk.specs.Asked.{HearsReports}
 use Rattle.station_desk.specs.Messages.{entries_of, asks_of, outcomes_in, AreNumberedFrom}
 use Rattle.station_desk.specs.Outcomes.{undecided}
 use Rattle.station_desk.specs.Rings.{DeskState}
@@ -100,6 +103,14 @@ module _ {D : Type 0} (state : D → DeviceState) (moves : ℕ) where
   AreSpans at (span ∷ spans) after =
       IsSpan state moves at span
       × ((next : Rest D) × IsLeftBy state span next × AreSpans next spans after)
+
+-- In each span from there on, each report that is right on a question is one that is heard: it is
+-- the answer of an office that was opened on what the spans before it, in a row, came to.
+abbrev pub HearsOverSpans : {D : Type 0} → (D → DeviceState) → ℕ → Rest D
+    → (Question → Report → Type 0) → Type 0
+HearsOverSpans state moves from hears =
+    (spans : List (Span _)) (between : Rest _) → AreSpans state moves from spans between
+    → HearsReports state (state between.device) between.line hears
 
 -- These batches are the clerk's: all that it acknowledged, with the one in flight or without it.
 abbrev pub AreOf : {D : Type 0} → ClerkState D → List (List Entry) → Type 0

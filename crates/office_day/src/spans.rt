@@ -8,9 +8,10 @@ ghost use Rattle.turn_clerk.specs.Found.{after_looks};
 ghost use Rattle.line_lock.specs.OpenedOn.{WasLeftByClerk};
 ghost use Rattle.line_lock.specs.Lent.{IfOpening, UnlessOpening};
 ghost use Rattle.station_desk.specs.declared.end.End.TheVariants.{Reached};
+ghost use Rattle.station_desk.specs.Asked.{HearsReports};
 ghost use Rattle.office_day.specs.Archive.{WasKept};
 ghost use Rattle.office_day.specs.Spans.{adjourned_to, rest_of, span_of, IsSpan, HaveLeft};
-ghost use Rattle.office_day.specs.Spans.{HasLived, WasBrokenOff, IsGoodEnd};
+ghost use Rattle.office_day.specs.Spans.{HasLived, WasBrokenOff, IsGoodEnd, HearsOverSpans};
 
 use crate::office_run::run_over;
 use crate::recess::Recess;
@@ -65,6 +66,7 @@ pub fn run_spans<D: Device + Send, G: Gate + Sync, P: Recess, R: Threads + Wait 
     moves: u64,
 ) -> Result<Life<D>, (D, OfficeRefusal<AllocError>)>
     requires as_many { length office.desks.items ≡ stations office.clerk.line }
+    requires heard { HearsOverSpans D.state moves (rest_of office.clerk) (G.hears gate.now) }
     ensures lived { IfOk result (λ life. HasLived D.state moves (G.closes gate.now)
         (adjourned_to office.clerk office.desks.items)
         (span_of life.clerk life.audit) life.left.items
@@ -99,6 +101,8 @@ fn run_span<D: Device + Send, G: Gate + Sync, R: Threads + Wait + Sync>(
     moves: u64,
 ) -> Result<Life<D>, (D, OfficeRefusal<AllocError>)>
     requires as_many { length office.desks.items ≡ stations office.clerk.line }
+    requires heard { HearsReports D.state (D.state office.clerk.journal.device) office.clerk.line
+        (G.hears gate.now) }
     ensures closed { IfOk result (λ life. IsSpan D.state moves (rest_of office.clerk)
         (span_of life.clerk life.audit)) }
     ensures left { IfOk result (λ life.

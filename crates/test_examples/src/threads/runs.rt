@@ -1,5 +1,7 @@
 //! A run of the two stations of an office, with a gate that a test gives.
 ghost use Rattle.std.specs.Prelude.{◌≤◌};
+ghost use Rattle.station_desk.specs.declared.errand.Question.{Question};
+ghost use Rattle.station_desk.specs.declared.errand.Report.{Report};
 
 use crate::scenes::{formatted, line, needed, needed_of};
 use line_lock::Turn;
@@ -22,7 +24,8 @@ pub struct Remains {
     pub balance: Option<u64>,
 }
 
-/// The run, until so many turns are taken. The bottom station is privileged at its start.
+/// The run, until so many turns are taken. The bottom station is privileged at its start. The gate
+/// may be told whatever report.
 pub fn played<D: Device + Send + Drop, G: Gate + Sync, R: Abort + Threads + Wait + Sync>(
     rt: &R,
     alloc: Global,
@@ -31,7 +34,9 @@ pub fn played<D: Device + Send + Drop, G: Gate + Sync, R: Abort + Threads + Wait
     gate: &G,
     moves: u64,
     tries: u64,
-) -> Remains {
+) -> Remains
+    requires heard { (question : Question) → (report : Report) → G.hears gate.now question report }
+{
     let line = line(rt, [0, 0], [1, 0]);
     assert!(rt; desks.len() == line.stations() as usize);
     let run = run_office(rt, alloc, device, line, desks, gate, moves, tries);
@@ -51,6 +56,7 @@ pub fn played_in_memory<G: Gate + Sync, R: Abort + Threads + Wait + Sync>(
 ) -> Remains
     requires some { 1 ≤ slots }
     requires few { slots ≤ 1000000 }
+    requires heard { (question : Question) → (report : Report) → G.hears gate.now question report }
 {
     let device = formatted(rt, alloc, slots);
     played(rt, alloc, device, desks, gate, moves, tries)

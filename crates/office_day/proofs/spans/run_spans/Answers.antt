@@ -1,7 +1,7 @@
 use Rattle.std.proofs.Common.{All, List, ap, sym, subst}
 use Rattle.turn_clerk.specs.Clerk.{ClerkState, present_state}
 use Rattle.office_day.specs.declared.seated.StationRemains.{StationRemains}
-use Rattle.office_day.specs.Spans.{adjourned_to, span_of, IsGoodEnd, IsLeftBy}
+use Rattle.office_day.specs.Spans.{adjourned_to, rest_of, span_of, IsGoodEnd, IsLeftBy}
 use Rattle.office_day.proofs.Archived.{nothing_archived, archived-more}
 use Rattle.office_day.proofs.SpanLaws.{nothing_lived, lived, come-further, desks_enough}
 use Rattle.office_day.proofs.spans.run_spans.Goals as goal
@@ -18,6 +18,11 @@ loop-init g c = (
 
 pub run_span-requires-clause-as_many : goal.run_span-requires-clause-as_many
 run_span-requires-clause-as_many g c κs within = c.loop.invariant.1
+
+pub run_span-requires-clause-heard : goal.run_span-requires-clause-heard
+run_span-requires-clause-heard g c κs within =
+    let earlier = c.loop.invariant.0 in
+    c.requires.heard earlier.spans (rest_of c.loop.office.clerk) earlier.joined
 
 pub returns-in-Err-clause-broken_off : goal.returns-in-Err-clause-broken_off
 returns-in-Err-clause-broken_off g c = record {
