@@ -175,7 +175,7 @@ fn of_archive(fault: ArchiveFault<'_>) -> Status
     ensures { result ≡ of_archive fault.entry }
 {
     match fault {
-        ArchiveFault::NoLedger { refusal, .. } => Status::from(refusal),
+        ArchiveFault::NoLedger(_, refusal) => Status::from(refusal),
         ArchiveFault::FolderOfArchive(_)
         | ArchiveFault::Empty(_)
         | ArchiveFault::Foreign(_)

@@ -51,23 +51,14 @@ pub enum ArchiveFault<'a> {
     #[error("out of memory")]
     Memory,
     /// The ledger, or one of the archive, can't be looked at.
-    #[error("{part}: {fault}")]
-    Unread {
-        part: Part<'a>,
-        fault: FileFault,
-    },
+    #[error("{0}: {1}")]
+    Unread(Part<'a>, FileFault),
     /// It isn't sound.
-    #[error("{part}: {refusal}")]
-    NoLedger {
-        part: Part<'a>,
-        refusal: OpenRefusal,
-    },
+    #[error("{0}: {1}")]
+    NoLedger(Part<'a>, OpenRefusal),
     /// It was sound, and a record can't be read again.
-    #[error("{part}: {refusal}")]
-    Lost {
-        part: Part<'a>,
-        refusal: ReadRefusal,
-    },
+    #[error("{0}: {1}")]
+    Lost(Part<'a>, ReadRefusal),
     /// The first record of the archive's newest ledger doesn't have the number that is its name, or
     /// it has no record.
     #[error("{0}: it isn't of this archive: its first record doesn't have the number that is its name")]
@@ -133,11 +124,8 @@ pub enum ArchiveFault<'a> {
         end: u64,
     },
     /// The ledger that is to be added can't be made.
-    #[error("{folder}/unfinished: {fault}")]
-    Unmade {
-        folder: &'a str,
-        fault: FileFault,
-    },
+    #[error("{0}/unfinished: {1}")]
+    Unmade(&'a str, FileFault),
     /// It can't be written; or a copy can't be made, written, or given its name. Nothing of it is
     /// left, unless the system fails to take it away.
     #[error("{0}/unfinished: it can't be written")]
@@ -155,7 +143,7 @@ impl<'a> ArchiveFault<'a> {
     {
         match fault {
             FileFault::Memory => ArchiveFault::Memory,
-            fault => ArchiveFault::Unread { part, fault },
+            fault => ArchiveFault::Unread(part, fault),
         }
     }
 
@@ -167,10 +155,7 @@ impl<'a> ArchiveFault<'a> {
     {
         match refusal {
             OpenRefusal::Memory => ArchiveFault::Memory,
-            refusal => {
-                let part = Part::File(path);
-                ArchiveFault::NoLedger { part, refusal }
-            }
+            refusal => ArchiveFault::NoLedger(Part::File(path), refusal),
         }
     }
 
@@ -180,10 +165,7 @@ impl<'a> ArchiveFault<'a> {
     {
         match refusal {
             OpenRefusal::Memory => ArchiveFault::Memory,
-            refusal => {
-                let part = Part::Volume(volume);
-                ArchiveFault::NoLedger { part, refusal }
-            }
+            refusal => ArchiveFault::NoLedger(Part::Volume(volume), refusal),
         }
     }
 
@@ -194,7 +176,7 @@ impl<'a> ArchiveFault<'a> {
     {
         match fault {
             FileFault::Memory => ArchiveFault::Memory,
-            fault => ArchiveFault::Unmade { folder, fault },
+            fault => ArchiveFault::Unmade(folder, fault),
         }
     }
 }

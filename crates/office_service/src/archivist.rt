@@ -191,7 +191,7 @@ fn told_as(fault: ArchiveFault<'_>) -> CounterCopyRefusal
 {
     match fault {
         ArchiveFault::Memory => CounterCopyRefusal::Memory,
-        ArchiveFault::NoLedger { .. } => CounterCopyRefusal::Device,
+        ArchiveFault::NoLedger(_, _) => CounterCopyRefusal::Device,
         ArchiveFault::Occupied(_) => CounterCopyRefusal::Occupied,
         _ => CounterCopyRefusal::Unwritten,
     }
