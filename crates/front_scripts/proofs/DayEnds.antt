@@ -1,20 +1,15 @@
--- What a day leaves without an answer, and why there is none.
+-- What a day leaves without an answer.
 use Rattle.std.proofs.Common.{◌≡◌, ◌<◌, ◌≤◌, ◌++◌, ◌∙◌, ℕ, List, [], length, arith, ap, sym}
 use Rattle.std.specs.List.{slice_index_or}
 use Rattle.std.proofs.lemmas.List.{length-map, length-append}
 use Rattle.turn_ledger.specs.declared.entry.Entry.{Entry}
 use Rattle.turn_clerk.specs.declared.turns.Turn.{Turn}
 use Rattle.turn_clerk.specs.Clerk.{ClerkState}
-use Rattle.journal_recovery.specs.declared.refusals.OpenRefusal.{OpenRefusal}
 use Rattle.station_desk.specs.declared.messages.Ask.{Ask}
 use Rattle.station_desk.specs.Messages.{asks_of}
 use Rattle.office_day.specs.declared.reconciled.StationDay.{StationDay}
-use Rattle.office_day.specs.declared.refusals.DayRefusal.{DayRefusal}
-use Rattle.office_day.specs.declared.refusals.DayRefusal.TheVariants as day
 use Rattle.office_day.specs.Day.{IsAccountedFor, HadTheirDay}
-use Rattle.office_day.specs.Refusal.{IfOpening}
 use Rattle.front_scripts.specs.Clerk.{held_for}
-use Rattle.front_scripts.specs.Day.{IfNotOpened, no_day_of}
 
 -- a station has no more requests without an answer than it held entries
 fewer_unanswered : (entries : List Entry) (turns : List Turn) (told : StationDay)
@@ -34,10 +29,3 @@ pub no_more_unanswered : {D : Type 0} (clerk : ClerkState D) (moves : ℕ) (held
 no_more_unanswered clerk moves held days had i told low =
     fewer_unanswered (slice_index_or held i []) _ (slice_index_or days i told)
     (had.each i [] told low).account
-
--- what is told of an office that wasn't opened
-pub told_opening : {D : Type 0} (device : D) (refusal : DayRefusal) (P : D → OpenRefusal → Type 0)
-    → IfOpening refusal (P device) → IfNotOpened (no_day_of device refusal) P
-told_opening device day.Memory P told = tt
-told_opening device (day.Opening refusal) P told = told
-told_opening device (day.Closing refusal) P told = tt

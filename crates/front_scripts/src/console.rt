@@ -13,7 +13,7 @@ use crate::faults::ScriptFault;
 use crate::power::PowerLoss;
 use crate::printing::{print_balances, print_day, print_line, print_refusal, print_turn};
 use crate::refusals::Refusal;
-use crate::script_day::NoDay;
+use crate::script_day::told_as;
 use crate::scripted_clerk::ScriptedClerk;
 use gate_journal::format;
 use sector_device::Device;
@@ -201,11 +201,10 @@ impl<D: PowerLoss + Drop> Console<D> {
                 output.flush()?;
                 Ok(Console::Open(clerk))
             }
-            Err(NoDay::Refused(device, refusal)) => {
-                print_refusal(refusal, output)?;
+            Err((device, refusal)) => {
+                print_refusal(told_as(refusal)?, output)?;
                 Ok(Console::Closed(device))
             }
-            Err(NoDay::Memory) => Err(ScriptFault::Memory),
         }
     }
 

@@ -13,11 +13,12 @@ ghost use Rattle.journal_recovery.specs.Refused.{RecoveryRefuses};
 ghost use Rattle.line_lock.specs.OpenedOn.{WasOpenedOn, WasLeftByClerk};
 ghost use Rattle.line_lock.specs.Account.{failed_turns};
 ghost use Rattle.office_day.specs.Day.{HadTheirDay, failures_told};
-ghost use Rattle.front_scripts.specs.Day.{unanswered_of, IfNotOpened, IfNotClosed, IsNoDay};
-ghost use Rattle.front_scripts.specs.Day.{no_day_of};
+ghost use Rattle.office_day.specs.Refusal.{IfOpening, UnlessOpening};
+ghost use Rattle.front_scripts.specs.Day.{unanswered_of, told_as};
 ghost use Rattle.front_scripts.specs.Clerk.{held_for};
 ghost use Rattle.office_day.specs.declared.reconciled.StationDay.{StationDay};
 
+use crate::faults::ScriptFault;
 use crate::refusals::Refusal;
 use crate::scripted_clerk::ScriptedClerk;
 use journal_recovery::OpenRefusal;
@@ -45,24 +46,16 @@ pub struct DayReport {
     pub stations: Vec<StationDay>,
 }
 
-/// Why there is no day to show.
-#[derive(Drop)]
-pub enum NoDay<D: Device> {
-    /// There isn't enough memory.
-    Memory,
-    /// There is no office any more; the device is kept.
-    Refused(D, Refusal),
-}
-
 impl<D: Device + Send + Drop> ScriptedClerk<D> {
     /// Lets the stations take so many turns, each in a thread of its own, with what is held for
-    /// them. What has no answer then is held again.
+    /// them. What has no answer then is held again. If there is no day to show, there is no office
+    /// any more either, and the device is handed back.
     pub fn day<R: Threads + Wait + Sync>(
         self,
         rt: &R,
         alloc: Global,
         moves: u64,
-    ) -> Result<(ScriptedClerk<D>, DayReport), NoDay<D>>
+    ) -> Result<(ScriptedClerk<D>, DayReport), (D, DayRefusal)>
         // What is held afterwards, and what became of what was held.
         ensures held { IfOk result (λ day. day.0.held ≡ unanswered_of day.1.stations.items) }
         ensures days { IfOk result (λ day.
@@ -92,23 +85,22 @@ impl<D: Device + Send + Drop> ScriptedClerk<D> {
             IsAuditOf day.0.clerk.opening.line (moves_of day.0.clerk.history) day.1.audit) }
 
         // Where there is no day.
-        ensures refusals { IfErr result IsNoDay }
-        ensures left { IfErr result (λ none. IfNotClosed none (λ after.
-            (after ≡ self.clerk.journal.device) ⊎ WasLeftByClerk D.state
-            (D.state self.clerk.journal.device) self.clerk.line after)) }
-        ensures call { IfErr result (λ none. IfNotOpened none (λ after refusal.
-            AreCalls (D.state self.clerk.journal.device) (D.state after)
+        ensures left { IfErr result (λ e. UnlessOpening e.1
+            ((e.0 ≡ self.clerk.journal.device) ⊎ WasLeftByClerk D.state
+            (D.state self.clerk.journal.device) self.clerk.line e.0)) }
+        ensures call { IfErr result (λ e. IfOpening e.1 (λ refusal.
+            AreCalls (D.state self.clerk.journal.device) (D.state e.0)
             (refusal ≡ OpenRefusal.Device))) }
         ensures looks { (D.state self.clerk.journal.device).honest
-            → IfErr result (λ none. IfNotOpened none (λ after _.
-            OnlyLooks (D.state self.clerk.journal.device) (D.state after))) }
+            → IfErr result (λ e. IfOpening e.1 (λ _.
+            OnlyLooks (D.state self.clerk.journal.device) (D.state e.0))) }
         ensures settled { (D.state self.clerk.journal.device).honest
-            → IfErr result (λ none. IfNotOpened none (λ after refusal.
-            refusal ≢ OpenRefusal.Device → IsDurable (D.state after))) }
+            → IfErr result (λ e. IfOpening e.1 (λ refusal.
+            refusal ≢ OpenRefusal.Device → IsDurable (D.state e.0))) }
         ensures refused { (D.state self.clerk.journal.device).honest
-            → IfErr result (λ none. IfNotOpened none (λ _ refusal.
-            refusal ≢ OpenRefusal.Device
+            → IfErr result (λ e. IfOpening e.1 (λ refusal. refusal ≢ OpenRefusal.Device
             → RecoveryRefuses (D.state self.clerk.journal.device).reads refusal)) }
+        ensures not_memory { IfErr result (λ e. e.1 ≢ DayRefusal.Opening OpenRefusal.Memory) }
     {
         let ScriptedClerk { clerk, mut held } = self;
         let line = clerk.line();
@@ -124,22 +116,25 @@ impl<D: Device + Send + Drop> ScriptedClerk<D> {
                 hold_again(held.as_mut_slice(), stations.as_slice());
                 match Box::new(alloc, clerk) {
                     Ok(clerk) => Ok((ScriptedClerk { clerk, held }, DayReport { audit, stations })),
-                    Err(_) => Err(NoDay::Memory),
+                    Err(failed) => Err((failed.value.into_device(), DayRefusal::Memory)),
                 }
             }
-            Err((device, refusal)) => Err(no_day(device, refusal)),
+            Err((device, refusal)) => Err((device, refusal)),
         }
     }
 }
 
-// Why there is no day to show, where the office had none.
-fn no_day<D: Device + Drop>(device: D, refusal: DayRefusal) -> NoDay<D>
-    ensures { result ≡ no_day_of device refusal }
+/// How it is told that there was no day.
+///
+/// # Errors
+/// Out of memory, which ends the script.
+pub(crate) fn told_as(refusal: DayRefusal) -> Result<Refusal, ScriptFault>
+    ensures { result ≡ told_as refusal }
 {
     match refusal {
-        DayRefusal::Memory => NoDay::Memory,
-        DayRefusal::Opening(refusal) => NoDay::Refused(device, Refusal::Open(refusal)),
-        DayRefusal::Closing(refusal) => NoDay::Refused(device, Refusal::Close(refusal)),
+        DayRefusal::Memory => Err(ScriptFault::Memory),
+        DayRefusal::Opening(refusal) => Ok(Refusal::Open(refusal)),
+        DayRefusal::Closing(refusal) => Ok(Refusal::Close(refusal)),
     }
 }
 
