@@ -148,8 +148,8 @@ fn of_office(fault: OfficeFault<'_>) -> Status
     ensures { result ≡ of_office fault.entry }
 {
     match fault {
-        OfficeFault::File { refusal, .. } => Status::from(refusal),
-        OfficeFault::NoLedger { refusal, .. } => Status::from(refusal),
+        OfficeFault::File(_, refusal) => Status::from(refusal),
+        OfficeFault::NoLedger(_, refusal) => Status::from(refusal),
         OfficeFault::Office(LiveRefusal::Office(OfficeRefusal::Opening(refusal))) => {
             Status::from(refusal)
         }

@@ -109,7 +109,7 @@ impl<'a, 'r, R: Files<File = File> + AllocGlobal + Clone + Drop> Archivist<'a, '
         ensures told { IfOk result.1 (λ kept. kept ≢ ArchiveState.Failed) }
     {
         if let Some(path) = self.lost() {
-            return (journal.into_device(), Err(OfficeFault::Lost { path }));
+            return (journal.into_device(), Err(OfficeFault::Lost(path)));
         }
         let Some(folder) = &self.folder else {
             return (journal.into_device(), Ok(ArchiveState::NoArchive));

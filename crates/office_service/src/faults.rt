@@ -25,17 +25,11 @@ pub enum OfficeFault<'a> {
     #[error("{0}")]
     Pipe(#[from] CounterFault<'a>),
     /// There is no ledger at the path that could be opened, or made.
-    #[error("{path}: {refusal}")]
-    File {
-        path: &'a str,
-        refusal: LedgerRefusal,
-    },
+    #[error("{0}: {1}")]
+    File(&'a str, LedgerRefusal),
     /// The device holds no sound ledger.
-    #[error("{path}: {refusal}")]
-    NoLedger {
-        path: &'a str,
-        refusal: OpenRefusal,
-    },
+    #[error("{0}: {1}")]
+    NoLedger(&'a str, OpenRefusal),
     /// There is no such line.
     #[error("{0}")]
     Line(LineRefusal),
@@ -54,10 +48,8 @@ pub enum OfficeFault<'a> {
     Archive(ArchiveFault<'a>),
     /// The ledger or the archive isn't at its path any more. What was answered stands in what was
     /// open.
-    #[error("{path}: it isn't there any more, or another one is; what was answered stands in the one that was open")]
-    Lost {
-        path: &'a str,
-    },
+    #[error("{0}: it isn't there any more, or another one is; what was answered stands in the one that was open")]
+    Lost(&'a str),
     /// Which station each counter has isn't known, or can't be written down.
     #[error("{0}")]
     Counters(CountersFault<'a>),
@@ -79,24 +71,26 @@ impl From<LiveRefusal> for OfficeFault<'_> {
 }
 
 impl<'a> OfficeFault<'a> {
-    // Out of memory stays out of memory.
-    pub(crate) fn of_counters(fault: CountersFault<'a>) -> OfficeFault<'a> {
-        match fault.cause {
-            RosterFault::Memory => OfficeFault::Memory,
-            _ => OfficeFault::Counters(fault),
-        }
-    }
-
     // Here too.
     pub(crate) fn of_file(path: &'a str, refusal: LedgerRefusal) -> OfficeFault<'a> {
         if refusal.is_memory() {
             return OfficeFault::Memory;
         }
-        OfficeFault::File { path, refusal }
+        OfficeFault::File(path, refusal)
     }
 }
 
-/// Out of memory stays out of memory here too.
+/// Here too.
+impl<'a> From<CountersFault<'a>> for OfficeFault<'a> {
+    fn from(fault: CountersFault<'a>) -> Self {
+        match fault.cause {
+            RosterFault::Memory => OfficeFault::Memory,
+            _ => OfficeFault::Counters(fault),
+        }
+    }
+}
+
+/// Here too.
 impl<'a> From<ArchiveFault<'a>> for OfficeFault<'a> {
     fn from(fault: ArchiveFault<'a>) -> Self {
         match fault {

@@ -356,7 +356,7 @@ fn open_clerk<'a, D: Device + Drop>(
 ) -> Result<Clerk<D>, OfficeFault<'a>> {
     match Clerk::open(alloc, device, first_line(FEWEST_STATIONS)?) {
         Ok(clerk) => Ok(clerk),
-        Err((_, refusal)) => Err(OfficeFault::NoLedger { path, refusal }),
+        Err((_, refusal)) => Err(OfficeFault::NoLedger(path, refusal)),
     }
 }
 
@@ -366,9 +366,8 @@ fn on_line_of<'a, D: Device + Drop>(
     clerk: Clerk<D>,
     stations: u64,
 ) -> Result<Clerk<D>, OfficeFault<'a>> {
-    let refusal = OpenRefusal::Device;
     let begun = clerk.begin_anew(first_line(stations)?);
-    begun.or(Err(OfficeFault::NoLedger { path, refusal }))
+    begun.or(Err(OfficeFault::NoLedger(path, OpenRefusal::Device)))
 }
 
 // The line that an office begins with: any would do, since it heals. On this one the bottom station

@@ -37,10 +37,10 @@ impl<'a> Seating<'a> {
         let place = place_of(rt, serving)?;
         let mut roster = roster_of(rt, serving, place, next)?;
         roster.settle(next);
-        let seats = match seats_of(rt.alloc(), serving, &mut roster) {
-            Ok(seats) => seats,
-            Err(cause) => return Err(OfficeFault::of_counters(CountersFault { place, cause })),
-        };
+        let seats = seats_of(rt.alloc(), serving, &mut roster).map_err(|cause| CountersFault {
+            place,
+            cause,
+        })?;
         let folders = folders_of(rt.alloc(), serving, seats.as_slice())?;
         let seating = Seating {
             place,
@@ -85,9 +85,7 @@ impl<'a> Seating<'a> {
         rt: &R,
         archive: &'a str,
     ) -> Result<(), OfficeFault<'a>> {
-        write_roster(rt, RosterPath::Inside(archive), &self.roster).map_err(
-            OfficeFault::of_counters,
-        )
+        Ok(write_roster(rt, RosterPath::Inside(archive), &self.roster)?)
     }
 
     /// Writes down durably that the office is closed, where the next batch has this number.
@@ -101,7 +99,7 @@ impl<'a> Seating<'a> {
     }
 
     fn write<R: Files<File = File> + AllocGlobal>(&self, rt: &R) -> Result<(), OfficeFault<'a>> {
-        write_roster(rt, self.place, &self.roster).map_err(OfficeFault::of_counters)
+        Ok(write_roster(rt, self.place, &self.roster)?)
     }
 }
 
@@ -116,7 +114,7 @@ fn place_of<'a, R: Files<File = File>>(
     }
     if is_disk(rt, serving.path) {
         let (place, cause) = (RosterPath::At(serving.path), RosterFault::Disk);
-        return Err(OfficeFault::of_counters(CountersFault { place, cause }));
+        return Err(OfficeFault::from(CountersFault { place, cause }));
     }
     Ok(RosterPath::Beside(serving.path))
 }
@@ -132,14 +130,13 @@ fn roster_of<'a, R: Files<File = File> + AllocGlobal + Clock>(
     if serving.format.is_some() || serving.counters_anew {
         return Ok(Roster::new(rt.alloc(), own_number(rt), next));
     }
-    match read_roster(rt, place) {
-        Ok(Some(roster)) => Ok(roster),
-        Ok(None) if next == 0 => Ok(Roster::new(rt.alloc(), own_number(rt), next)),
-        Ok(None) => {
+    match read_roster(rt, place)? {
+        Some(roster) => Ok(roster),
+        None if next == 0 => Ok(Roster::new(rt.alloc(), own_number(rt), next)),
+        None => {
             let cause = RosterFault::Missing;
-            Err(OfficeFault::of_counters(CountersFault { place, cause }))
+            Err(OfficeFault::from(CountersFault { place, cause }))
         }
-        Err(fault) => Err(OfficeFault::of_counters(fault)),
     }
 }
 
