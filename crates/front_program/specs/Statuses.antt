@@ -61,11 +61,10 @@ of_counter _ = Failed
 abbrev pub of_control : CounterFault → Status
 of_control fault = of_counter fault.refusal
 
--- that of what refused it; what can't be looked at failed
+-- that of what refused it
 abbrev pub status_of : Fault → Status
 status_of (fault.Script inner) = of_script inner
 status_of (fault.Ledger path refusal) = of_ledger refusal
-status_of (fault.Unread path inner) = Failed
 status_of (fault.NoLedger path refusal) = of_opening refusal
 status_of (fault.Office inner) = of_office inner
 status_of (fault.Control inner) = of_control inner

@@ -15,8 +15,8 @@ impl fmt::Display for ToldByConsole<'_> {
     fn fmt<W: fmt::Write>(&self, f: &mut fmt::Formatter<W>) -> fmt::Result {
         match self.0 {
             Fault::Script(fault) => write!(f, "{fault}"),
-            Fault::Ledger { path, refusal } => write_refusal(path, refusal, f),
-            Fault::NoLedger { refusal, .. } => {
+            Fault::Ledger(path, refusal) => write_refusal(path, refusal, f),
+            Fault::NoLedger(_, refusal) => {
                 write!(f, "migrate refused Source {}", OpenName(refusal))
             }
             _ => f.write_str("device failed"),

@@ -16,7 +16,7 @@ use device_files::{LockMode, ReadOnlyFile};
 use ledger_counters::{RosterPath, is_disk, remove_roster, take_along};
 use ledger_file::{CopyPlace, FormatOptions, Original, format_ledger, open_for_copy};
 use ledger_folder::{AddedBatches, ArchiveOptions, archive, newest_of};
-use ledger_inspection::{InspectionFault, Task, check_archive, inspect};
+use ledger_inspection::{InspectionFault, Part, Task, check_archive, inspect};
 use ledger_reading::Sound;
 use office_service::{Locks, Runtime, ServeOptions, Surroundings, ask_status, close_office, serve};
 use std::alloc::Global;
@@ -207,9 +207,9 @@ impl<R: Files<File = File> + AllocGlobal + Clock + Clone + Drop, W: Write> Repor
     }
 
     // A ledger that is to be copied.
-    fn opened<'a>(&self, path: &'a str) -> Result<ReadOnlyFile, Fault<'a>> {
+    fn opened<'a>(&self, path: &'a str) -> Result<ReadOnlyFile, InspectionFault<'a>> {
         ReadOnlyFile::open(self.rt, self.rt.alloc(), path, LockMode::Shared).map_err(
-            |fault| Fault::of_source(path, fault),
+            |fault| InspectionFault::of_file(Part::File(path), fault),
         )
     }
 

@@ -10,7 +10,7 @@ ghost use Rattle.front_program.specs.Statuses.{
   of_inspection,
 };
 
-use crate::status::Status;
+use crate::status::{Status, of_ledger, of_opening, of_script, of_turn};
 use device_files::FileFault;
 use front_scripts::ScriptFault;
 use gate_journal::FormatRefusal;
@@ -31,23 +31,11 @@ pub enum Fault<'a> {
     #[error("{0}")]
     Script(ScriptFault),
     /// There is no ledger at the path that could be opened, or made.
-    #[error("{path}: {refusal}")]
-    Ledger {
-        path: &'a str,
-        refusal: LedgerRefusal,
-    },
-    /// A ledger that is to be copied can't be looked at.
-    #[error("{path}: {fault}")]
-    Unread {
-        path: &'a str,
-        fault: FileFault,
-    },
+    #[error("{0}: {1}")]
+    Ledger(&'a str, LedgerRefusal),
     /// A ledger that is to be copied isn't sound.
-    #[error("{path}: {refusal}")]
-    NoLedger {
-        path: &'a str,
-        refusal: OpenRefusal,
-    },
+    #[error("{0}: {1}")]
+    NoLedger(&'a str, OpenRefusal),
     /// An office wasn't kept open, or ended early.
     #[error("{0}")]
     Office(#[from] OfficeFault<'a>),
@@ -60,8 +48,8 @@ pub enum Fault<'a> {
     /// The counters of a ledger can't be taken along.
     #[error("{0}")]
     Counters(#[from] CountersFault<'a>),
-    /// A ledger, or several as one book, wasn't inspected to its end; or an archive that is to be
-    /// restored isn't sound.
+    /// A ledger, or several as one book, wasn't inspected to its end; or a ledger that is to be
+    /// copied can't be looked at, or an archive that is to be restored isn't sound.
     #[error("{0}")]
     Inspection(#[from] InspectionFault<'a>),
 }
@@ -75,10 +63,9 @@ impl<'a> Fault<'a> {
         ensures { result ≡ status_of self.entry }
     {
         match self {
-            Fault::Script(fault) => Status::from(fault),
-            Fault::Ledger { refusal, .. } => Status::from(refusal),
-            Fault::Unread { .. } => Status::Failed,
-            Fault::NoLedger { refusal, .. } => Status::from(refusal),
+            Fault::Script(fault) => of_script(fault),
+            Fault::Ledger(_, refusal) => of_ledger(refusal),
+            Fault::NoLedger(_, refusal) => of_opening(refusal),
             Fault::Office(fault) => of_office(fault),
             Fault::Control(fault) => of_control(fault),
             Fault::Archive(fault) => of_archive(fault),
@@ -98,17 +85,7 @@ impl<'a> Fault<'a> {
         if refusal.is_memory() {
             return Fault::MEMORY;
         }
-        Fault::Ledger { path, refusal }
-    }
-
-    // Of a ledger that is to be copied, and can't be looked at.
-    pub(crate) fn of_source(path: &'a str, fault: FileFault) -> Fault<'a>
-        ensures { status_of result ≡ Status.Failed }
-    {
-        match fault {
-            FileFault::Memory => Fault::MEMORY,
-            fault => Fault::Unread { path, fault },
-        }
+        Fault::Ledger(path, refusal)
     }
 
     // Of an older ledger that wasn't copied from one path to another.
@@ -134,11 +111,10 @@ impl<'a> Fault<'a> {
     {
         match refusal {
             OpenRefusal::Memory => Fault::MEMORY,
-            OpenRefusal::Version(version) => Fault::Ledger {
-                path,
-                refusal: LedgerRefusal::OtherVersion(version),
-            },
-            refusal => Fault::NoLedger { path, refusal },
+            OpenRefusal::Version(version) => {
+                Fault::Ledger(path, LedgerRefusal::OtherVersion(version))
+            }
+            refusal => Fault::NoLedger(path, refusal),
         }
     }
 }
@@ -148,12 +124,12 @@ fn of_office(fault: OfficeFault<'_>) -> Status
     ensures { result ≡ of_office fault.entry }
 {
     match fault {
-        OfficeFault::File(_, refusal) => Status::from(refusal),
-        OfficeFault::NoLedger(_, refusal) => Status::from(refusal),
+        OfficeFault::File(_, refusal) => of_ledger(refusal),
+        OfficeFault::NoLedger(_, refusal) => of_opening(refusal),
         OfficeFault::Office(LiveRefusal::Office(OfficeRefusal::Opening(refusal))) => {
-            Status::from(refusal)
+            of_opening(refusal)
         }
-        OfficeFault::Refused(refusal) => Status::from(refusal),
+        OfficeFault::Refused(refusal) => of_turn(refusal),
         OfficeFault::Archive(fault) => of_archive(fault),
         OfficeFault::Counters(fault) => of_counters(fault),
         _ => Status::Failed,
@@ -175,7 +151,7 @@ fn of_archive(fault: ArchiveFault<'_>) -> Status
     ensures { result ≡ of_archive fault.entry }
 {
     match fault {
-        ArchiveFault::NoLedger(_, refusal) => Status::from(refusal),
+        ArchiveFault::NoLedger(_, refusal) => of_opening(refusal),
         ArchiveFault::FolderOfArchive(_)
         | ArchiveFault::Empty(_)
         | ArchiveFault::Foreign(_)

@@ -1,6 +1,7 @@
 //! The statuses that programs end with.
 ghost use Rattle.std.specs.Prelude.{◌≡◌, ◌≤◌};
-ghost use Rattle.front_program.specs.Status.{code_of, console_code_of};
+ghost use Rattle.front_program.specs.Status.{code_of, console_code_of, of_opening, of_format};
+ghost use Rattle.front_program.specs.Status.{of_turn, of_file, of_ledger, of_script};
 
 use device_files::FileFault;
 use front_scripts::ScriptFault;
@@ -51,106 +52,75 @@ impl Status {
 
 /// Where memory or the device fails, nothing is known; every other refusal says that there is no
 /// ledger.
-impl From<OpenRefusal> for Status {
-    ghost use Rattle.std.specs.Prelude.{◌≡◌};
-    ghost use Rattle.front_program.specs.Status.{of_opening};
-
-    ghost from_gives = { λ refusal status. status ≡ of_opening refusal };
-
-    fn from(refusal: OpenRefusal) -> Status {
-        match refusal {
-            OpenRefusal::Memory | OpenRefusal::Device => Status::Failed,
-            OpenRefusal::Unformatted
-            | OpenRefusal::Version(_)
-            | OpenRefusal::Size
-            | OpenRefusal::Damaged { .. } => Status::Refused,
-        }
+pub(crate) fn of_opening(refusal: OpenRefusal) -> Status
+    ensures { result ≡ of_opening refusal }
+{
+    match refusal {
+        OpenRefusal::Memory | OpenRefusal::Device => Status::Failed,
+        OpenRefusal::Unformatted
+        | OpenRefusal::Version(_)
+        | OpenRefusal::Size
+        | OpenRefusal::Damaged { .. } => Status::Refused,
     }
 }
 
 /// A device that fails is no matter of rules.
-impl From<FormatRefusal> for Status {
-    ghost use Rattle.std.specs.Prelude.{◌≡◌};
-    ghost use Rattle.front_program.specs.Status.{of_format};
-
-    ghost from_gives = { λ refusal status. status ≡ of_format refusal };
-
-    fn from(refusal: FormatRefusal) -> Status {
-        match refusal {
-            FormatRefusal::TooManySlots | FormatRefusal::TooSmall => Status::Refused,
-            FormatRefusal::Device => Status::Failed,
-        }
+pub(crate) fn of_format(refusal: FormatRefusal) -> Status
+    ensures { result ≡ of_format refusal }
+{
+    match refusal {
+        FormatRefusal::TooManySlots | FormatRefusal::TooSmall => Status::Refused,
+        FormatRefusal::Device => Status::Failed,
     }
 }
 
 /// An exhausted journal is one that a rule refuses a turn.
-impl From<TurnRefusal> for Status {
-    ghost use Rattle.std.specs.Prelude.{◌≡◌};
-    ghost use Rattle.front_program.specs.Status.{of_turn};
-
-    ghost from_gives = { λ refusal status. status ≡ of_turn refusal };
-
-    fn from(refusal: TurnRefusal) -> Status {
-        match refusal {
-            TurnRefusal::Faulted | TurnRefusal::Memory | TurnRefusal::Device => Status::Failed,
-            TurnRefusal::NoStation
-            | TurnRefusal::NotPrivileged
-            | TurnRefusal::TooMany
-            | TurnRefusal::Exhausted => Status::Refused,
-        }
+pub(crate) fn of_turn(refusal: TurnRefusal) -> Status
+    ensures { result ≡ of_turn refusal }
+{
+    match refusal {
+        TurnRefusal::Faulted | TurnRefusal::Memory | TurnRefusal::Device => Status::Failed,
+        TurnRefusal::NoStation
+        | TurnRefusal::NotPrivileged
+        | TurnRefusal::TooMany
+        | TurnRefusal::Exhausted => Status::Refused,
     }
 }
 
 /// A file or a disk that can't be had fails, a disk that isn't taken is refused.
-impl From<FileFault> for Status {
-    ghost use Rattle.std.specs.Prelude.{◌≡◌};
-    ghost use Rattle.front_program.specs.Status.{of_file};
-
-    ghost from_gives = { λ fault status. status ≡ of_file fault };
-
-    fn from(fault: FileFault) -> Status {
-        match fault {
-            FileFault::DiskTooSmall | FileFault::DiskHasNoLedger | FileFault::NoDisk =>
-                Status::Refused,
-            _ => Status::Failed,
-        }
+pub(crate) fn of_file(fault: FileFault) -> Status
+    ensures { result ≡ of_file fault }
+{
+    match fault {
+        FileFault::DiskTooSmall | FileFault::DiskHasNoLedger | FileFault::NoDisk => Status::Refused,
+        _ => Status::Failed,
     }
 }
 
 /// A path where nothing is fails, and what is there and isn't taken is refused.
-impl From<LedgerRefusal> for Status {
-    ghost use Rattle.std.specs.Prelude.{◌≡◌};
-    ghost use Rattle.front_program.specs.Status.{of_ledger};
-
-    ghost from_gives = { λ refusal status. status ≡ of_ledger refusal };
-
-    fn from(refusal: LedgerRefusal) -> Status {
-        match refusal {
-            LedgerRefusal::Device(refusal) => Status::from(refusal),
-            LedgerRefusal::Format(refusal) => Status::from(refusal),
-            LedgerRefusal::Missing => Status::Failed,
-            LedgerRefusal::NoLedger
-            | LedgerRefusal::OtherVersion(_)
-            | LedgerRefusal::Unsound
-            | LedgerRefusal::Short { .. }
-            | LedgerRefusal::HasLedger
-            | LedgerRefusal::HasOther
-            | LedgerRefusal::TooSmall { .. } => Status::Refused,
-        }
+pub(crate) fn of_ledger(refusal: LedgerRefusal) -> Status
+    ensures { result ≡ of_ledger refusal }
+{
+    match refusal {
+        LedgerRefusal::Device(fault) => of_file(fault),
+        LedgerRefusal::Format(refusal) => of_format(refusal),
+        LedgerRefusal::Missing => Status::Failed,
+        LedgerRefusal::NoLedger
+        | LedgerRefusal::OtherVersion(_)
+        | LedgerRefusal::Unsound
+        | LedgerRefusal::Short { .. }
+        | LedgerRefusal::HasLedger
+        | LedgerRefusal::HasOther
+        | LedgerRefusal::TooSmall { .. } => Status::Refused,
     }
 }
 
 /// A line that is none of the grammar, and a script over its limit, are refused.
-impl From<ScriptFault> for Status {
-    ghost use Rattle.std.specs.Prelude.{◌≡◌};
-    ghost use Rattle.front_program.specs.Status.{of_script};
-
-    ghost from_gives = { λ fault status. status ≡ of_script fault };
-
-    fn from(fault: ScriptFault) -> Status {
-        match fault {
-            ScriptFault::Line { .. } | ScriptFault::TooLong => Status::Refused,
-            ScriptFault::Read | ScriptFault::Write | ScriptFault::Memory => Status::Failed,
-        }
+pub(crate) fn of_script(fault: ScriptFault) -> Status
+    ensures { result ≡ of_script fault }
+{
+    match fault {
+        ScriptFault::Line { .. } | ScriptFault::TooLong => Status::Refused,
+        ScriptFault::Read | ScriptFault::Write | ScriptFault::Memory => Status::Failed,
     }
 }

@@ -103,8 +103,8 @@ impl<'a> InspectionFault<'a> {
         }
     }
 
-    // A ledger can't be looked at. Out of memory stays out of memory, here and below.
-    pub(crate) fn of_file(part: Part<'a>, fault: FileFault) -> InspectionFault<'a>
+    /// A ledger can't be looked at. Out of memory stays out of memory.
+    pub fn of_file(part: Part<'a>, fault: FileFault) -> InspectionFault<'a>
         ensures one { IsOfOne part.entry result }
         ensures failed { is_refusal result ≡ false }
     {
@@ -114,7 +114,7 @@ impl<'a> InspectionFault<'a> {
         }
     }
 
-    // It isn't sound.
+    // It isn't sound. Here too.
     pub(crate) fn of_damage(part: Part<'a>, wrong: Wrong) -> InspectionFault<'a> {
         match wrong.refusal {
             OpenRefusal::Memory => InspectionFault::Memory,
