@@ -32,7 +32,7 @@ pub use journal_recovery::{Cause, OpenRefusal};
 pub use laws::listed_is_in_sight;
 pub use listing::{ListedRecord, Listing};
 pub use numbers::Numbers;
-pub use refusals::{AddRefusal, CompareRefusal, FollowRefusal};
+pub use refusals::{AddRefusal, FollowRefusal};
 pub use seam::Seam;
 pub use sector_device::Device;
 pub use sound::{Sound, look};

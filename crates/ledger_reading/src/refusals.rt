@@ -22,21 +22,9 @@ pub enum FollowRefusal {
     Differs,
 }
 
-/// Why a ledger's records couldn't be compared with those of an archive, or aren't the same.
-#[derive(Clone, Copy, Debug, PartialEq, Eq, Error)]
-pub enum CompareRefusal {
-    /// A record of the ledger wasn't read.
-    #[error("the ledger wasn't read: {0}")]
-    Ledger(ReadRefusal),
-    /// A record of the archive's newest ledger wasn't read.
-    #[error("the archive wasn't read: {0}")]
-    Newest(ReadRefusal),
-    /// The records with this number aren't the same.
-    #[error("record {0} is another one")]
-    Differs(u64),
-}
-
-/// Why no journal was added. The first that holds is answered.
+/// Why a ledger's records weren't added to an archive: they couldn't be compared with those of its
+/// newest ledger, or aren't the same, or no journal was made of them. The first that holds is
+/// answered.
 #[derive(Clone, Copy, Debug, PartialEq, Eq, Error)]
 pub enum AddRefusal {
     /// More records were asked for than 1,000,000.
@@ -48,6 +36,12 @@ pub enum AddRefusal {
     /// A record of the ledger wasn't read.
     #[error("the ledger wasn't read: {0}")]
     Ledger(ReadRefusal),
+    /// A record of the archive's newest ledger wasn't read.
+    #[error("the archive wasn't read: {0}")]
+    Newest(ReadRefusal),
+    /// The records with this number aren't the same.
+    #[error("record {0} is another one")]
+    Differs(u64),
     /// The new device failed. After it nothing is known of its sectors.
     #[error("the new device failed")]
     Target,
