@@ -174,8 +174,17 @@ fn keep_on<
         moves,
     } = office;
     let folders = seating.take_folders(rt.alloc());
-    let clients = SeatedClients { locks, folders };
-    match keep_open(rt, rt.alloc(), clerk, counters, clients, moves, archivist) {
+    let (clients, first) = (SeatedClients { locks, folders }, seating.since());
+    match keep_open(
+        rt,
+        rt.alloc(),
+        clerk,
+        counters,
+        clients,
+        first,
+        moves,
+        archivist,
+    ) {
         Ok((closed, archivist)) => {
             let next = closed.clerk.next();
             let _clerk = end(closed, archivist, output)?;
@@ -219,7 +228,6 @@ fn seat_counters<I: Read + Drop, O: Write + Drop>(
 ) -> Result<(), AllocError> {
     for (counter, station) in counters.iter_mut().zip(seating.seats.iter()) {
         counter.station = *station;
-        counter.since = seating.since();
         counter.identity = seating.identity(alloc, *station)?;
     }
     Ok(())
@@ -318,7 +326,6 @@ fn unseated<I: Read, O: Write>(
 ) -> AnyCounter<I, O> {
     Counter {
         station: 0,
-        since: 0,
         identity: Identity::nobody(alloc),
         input,
         output,

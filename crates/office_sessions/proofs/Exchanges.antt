@@ -18,10 +18,11 @@ use Rattle.office_sessions.specs.declared.responses.Response.TheVariants as resp
 use Rattle.office_sessions.specs.declared.responses.Judgement.{Judgement}
 use Rattle.office_sessions.specs.declared.search.Search.{Search}
 use Rattle.office_sessions.specs.Conversation.{told_of, response_of, is_answer, answers_among}
-use Rattle.office_sessions.specs.Conversation.{IsResponseTo, EndsCount}
+use Rattle.office_sessions.specs.Conversation.{IsResponseTo, EndsCount, IsFresh}
 use Rattle.office_sessions.specs.Exchange.{Exchange, message_in, told_in, submitted_in}
 use Rattle.office_sessions.specs.Exchange.{entry_answered, entry_judged, search_ended}
-use Rattle.office_sessions.specs.Exchange.{question_answered, input_ended, posting, finding}
+use Rattle.office_sessions.specs.Exchange.{question_answered, input_ended, asks_to_post}
+use Rattle.office_sessions.specs.Exchange.{asks_to_find}
 use Rattle.office_sessions.specs.Exchange.{all_found, one_of, IsAnswering}
 
 -- what is told of an answer is one
@@ -69,7 +70,7 @@ none-at-0 l is = none-in l (λ some. omega (arith, is, some))
 -- nothing was said
 pub none-answering : {said : List Message} {told : List Response} {asked : List Entry}
     {unanswered : ℕ} {search : Search} → said ≡ [] → told ≡ [] → asked ≡ [] → unanswered ≡ 0
-    → search.count ≡ 0 → IsAnswering said told asked unanswered None search
+    → IsFresh search → IsAnswering said told asked unanswered None search
 none-answering nothing_said nothing_told nothing_asked all_answered begins = record {
   exchanges = [];
   waiting = [];
@@ -78,8 +79,9 @@ none-answering nothing_said nothing_told nothing_asked all_answered begins = rec
   responses = nothing_told;
   submitted = nothing_asked;
   counted = sym all_answered;
-  found = begins;
+  found = ap (λ (s : Search). s.count) begins;
   searches = λ some. absurd (omega (arith, some));
+  fresh = λ _. begins;
 }
 
 module _ {told : List Response} {asked : List Entry} {search : Search} where
@@ -93,21 +95,22 @@ module _ {told : List Response} {asked : List Entry} {search : Search} where
     waiting = was.waiting;
     numbers = was.numbers;
     messages = is ∙ ap (λ (l : List Message). l ++ message ∷ []) was.messages
-        ∙ append_assoc (map message_in was.exchanges) (map posting was.waiting ++ [])
+        ∙ append_assoc (map message_in was.exchanges) (map asks_to_post was.waiting ++ [])
         (message ∷ [])
         ∙ ap (λ (l : List Message). map message_in was.exchanges ++ (l ++ message ∷ []))
-        (append-nil (map posting was.waiting));
+        (append-nil (map asks_to_post was.waiting));
     responses = was.responses;
     submitted = was.submitted;
     counted = was.counted;
     found = was.found;
     searches = λ some. let is-some = (was.searches some).0 in absurd (cc);
+    fresh = λ _. was.fresh (λ is-some. let never = is-some in cc);
   }
 
   -- the entry that is next was submitted
   pub answering-submitted : {said : List Message} {unanswered answered : ℕ} (entry : Entry)
       {more : List Entry} → more ≡ asked ++ entry ∷ [] → answered ≡ unanswered + 1
-      → IsAnswering said told asked unanswered (Some (posting entry)) search
+      → IsAnswering said told asked unanswered (Some (asks_to_post entry)) search
       → IsAnswering said told more answered None search
   answering-submitted entry is one was = record {
     exchanges = was.exchanges;
@@ -115,43 +118,45 @@ module _ {told : List Response} {asked : List Entry} {search : Search} where
     numbers = was.numbers;
     messages = was.messages
         ∙ ap (λ (l : List Message). map message_in was.exchanges ++ l)
-        (sym (append-nil (map posting (was.waiting ++ entry ∷ []))
-        ∙ map-append posting was.waiting (entry ∷ [])));
+        (sym (append-nil (map asks_to_post (was.waiting ++ entry ∷ []))
+        ∙ map-append asks_to_post was.waiting (entry ∷ [])));
     responses = was.responses;
     submitted = is ∙ ap (λ (l : List Entry). l ++ entry ∷ []) was.submitted
         ∙ append_assoc (flat_map submitted_in was.exchanges) was.waiting (entry ∷ []);
     counted = omega (arith, one, was.counted, length-append was.waiting (entry ∷ []));
     found = was.found;
     searches = λ some. let is-some = (was.searches some).0 in absurd (cc);
+    fresh = λ _. was.fresh (λ is-some. let never = is-some in cc);
   }
 
 -- the oldest of the entries that are submitted was answered
 collected-at : {said : List Message} {told : List Response} {asked : List Entry}
     {next : Option Message} {search : Search} (left : ℕ) (one : Response)
     → is_answer one ≡ true → (exchanges : List Exchange) (waiting : List Entry) (numbers : List ℕ)
-    → said ≡ map message_in exchanges ++ (map posting waiting ++ one_of next)
+    → said ≡ map message_in exchanges ++ (map asks_to_post waiting ++ one_of next)
     → told ≡ flat_map told_in exchanges ++ all_found search.reference numbers
     → asked ≡ flat_map submitted_in exchanges ++ waiting → length waiting ≡ left + 1
     → search.count ≡ min (length numbers) (2 ^ 64 - 1)
-    → (0 < length numbers → (next ≡ Some (finding search.reference)) × (waiting ≡ []))
+    → (0 < length numbers → (next ≡ Some (asks_to_find search.reference)) × (waiting ≡ []))
+    → ((next ≡ Some (asks_to_find search.reference) → ⊥) → IsFresh search)
     → IsAnswering said (told ++ one ∷ []) asked left next search
-collected-at left one is exchanges [] numbers said told submitted counted found searches =
+collected-at left one is exchanges [] numbers said told submitted counted found searches fresh =
     absurd (omega (arith, counted))
 collected-at left one is exchanges (entry ∷ waiting) (number ∷ numbers) said told submitted counted
-    found searches =
+    found searches fresh =
     let none = (searches (omega arith)).1 in absurd (cc)
 collected-at {next = next} left one is exchanges (entry ∷ waiting) [] said told submitted counted
-    found searches =
+    found searches fresh =
     let exchange = entry_answered entry one is in
     record {
       exchanges = exchanges ++ exchange ∷ [];
       waiting = waiting;
       numbers = [];
       messages = said
-          ∙ sym (ap (λ (l : List Message). l ++ (map posting waiting ++ one_of next))
+          ∙ sym (ap (λ (l : List Message). l ++ (map asks_to_post waiting ++ one_of next))
           (map-append message_in exchanges (exchange ∷ []))
-          ∙ append_assoc (map message_in exchanges) (posting entry ∷ [])
-          (map posting waiting ++ one_of next));
+          ∙ append_assoc (map message_in exchanges) (asks_to_post entry ∷ [])
+          (map asks_to_post waiting ++ one_of next));
       responses = ap (λ (l : List Response). l ++ one ∷ [])
           (told ∙ append-nil (flat_map told_in exchanges))
           ∙ sym (append-nil (flat_map told_in (exchanges ++ exchange ∷ []))
@@ -163,6 +168,7 @@ collected-at {next = next} left one is exchanges (entry ∷ waiting) [] said tol
       counted = omega (arith, counted);
       found = found;
       searches = λ some. absurd (omega (arith, some));
+      fresh = fresh;
     }
 
 pub answering-collected : {said : List Message} {told : List Response} {asked : List Entry}
@@ -174,63 +180,65 @@ answering-collected {said} {asked = asked} {next = next} {search = search} left 
     was =
     subst (λ (l : List Response). IsAnswering said l asked left next search) (sym is)
     (collected-at left one answers was.exchanges was.waiting was.numbers was.messages was.responses
-    was.submitted (was.counted ∙ sym fewer) was.found was.searches)
+    was.submitted (was.counted ∙ sym fewer) was.found was.searches was.fresh)
 
 -- the message that is next was answered whole
 module _ {said : List Message} {told : List Response} {asked : List Entry} {search : Search}
     (exchange : Exchange) (was : IsAnswering said told asked 0 (Some (message_in exchange)) search)
-    where
-  exchanged : (after : Search) {more : List Response}
-      → more ≡ flat_map told_in was.exchanges ++ told_in exchange → submitted_in exchange ≡ []
-      → after.count ≡ 0 → IsAnswering said more asked 0 None after
-  exchanged after tells none begins =
-      let nothing = none-at-0 was.waiting was.counted in
-      record {
-        exchanges = was.exchanges ++ exchange ∷ [];
-        waiting = [];
-        numbers = [];
-        messages = was.messages
-            ∙ ap (λ (w : List Entry).
-            map message_in was.exchanges ++ (map posting w ++ message_in exchange ∷ [])) nothing
-            ∙ sym (append-nil (map message_in (was.exchanges ++ exchange ∷ []))
-            ∙ map-append message_in was.exchanges (exchange ∷ []));
-        responses = tells
-            ∙ sym (append-nil (flat_map told_in (was.exchanges ++ exchange ∷ []))
-            ∙ flat_map-append told_in was.exchanges (exchange ∷ [])
-            ∙ ap (λ (l : List Response). flat_map told_in was.exchanges ++ l)
-            (append-nil (told_in exchange)));
-        submitted = was.submitted
-            ∙ (λ i. flat_map submitted_in was.exchanges ++ nothing i)
-            ∙ ap (λ (l : List Entry). l ++ [])
-            (sym (flat_map-append submitted_in was.exchanges (exchange ∷ [])
-            ∙ (λ i. flat_map submitted_in was.exchanges ++ (none i ++ []))
-            ∙ append-nil (flat_map submitted_in was.exchanges)));
-        counted = refl;
-        found = begins;
-        searches = λ some. absurd (omega (arith, some));
-      }
+  where
+    exchanged : (after : Search) {more : List Response}
+        → more ≡ flat_map told_in was.exchanges ++ told_in exchange → submitted_in exchange ≡ []
+        → IsFresh after → IsAnswering said more asked 0 None after
+    exchanged after tells none begins =
+        let nothing = none-at-0 was.waiting was.counted in
+        record {
+          exchanges = was.exchanges ++ exchange ∷ [];
+          waiting = [];
+          numbers = [];
+          messages = was.messages
+              ∙ ap (λ (w : List Entry).
+              map message_in was.exchanges ++ (map asks_to_post w ++ message_in exchange ∷ []))
+              nothing
+              ∙ sym (append-nil (map message_in (was.exchanges ++ exchange ∷ []))
+              ∙ map-append message_in was.exchanges (exchange ∷ []));
+          responses = tells
+              ∙ sym (append-nil (flat_map told_in (was.exchanges ++ exchange ∷ []))
+              ∙ flat_map-append told_in was.exchanges (exchange ∷ [])
+              ∙ ap (λ (l : List Response). flat_map told_in was.exchanges ++ l)
+              (append-nil (told_in exchange)));
+          submitted = was.submitted
+              ∙ (λ i. flat_map submitted_in was.exchanges ++ nothing i)
+              ∙ ap (λ (l : List Entry). l ++ [])
+              (sym (flat_map-append submitted_in was.exchanges (exchange ∷ [])
+              ∙ (λ i. flat_map submitted_in was.exchanges ++ (none i ++ []))
+              ∙ append-nil (flat_map submitted_in was.exchanges)));
+          counted = refl;
+          found = ap (λ (s : Search). s.count) begins;
+          searches = λ some. absurd (omega (arith, some));
+          fresh = λ _. begins;
+        }
 
-  -- by one response, where it is no search
-  exchanged-other : (one : Response) {more : List Response} → more ≡ told ++ one ∷ []
-      → told_in exchange ≡ one ∷ [] → submitted_in exchange ≡ []
-      → ((reference : ℕ) → message_in exchange ≡ finding reference → ⊥)
-      → IsAnswering said more asked 0 None search
-  unfolding exchanged
-  exchanged-other one is tells none other =
-      let nothing = none-in was.numbers (λ some. let is-some = (was.searches some).0 in
-      other search.reference cc) in
-      exchanged search
-      (is ∙ ap (λ (l : List Response). l ++ one ∷ []) (was.responses
-      ∙ (λ i. flat_map told_in was.exchanges ++ all_found search.reference (nothing i))
-      ∙ append-nil (flat_map told_in was.exchanges))
-      ∙ (λ i. flat_map told_in was.exchanges ++ sym tells i)) none
-      (was.found ∙ ap (λ (l : List ℕ). min (length l) (2 ^ 64 - 1)) nothing)
+    -- by one response, where it is no search
+    exchanged-other : (one : Response) {more : List Response} → more ≡ told ++ one ∷ []
+        → told_in exchange ≡ one ∷ [] → submitted_in exchange ≡ []
+        → ((reference : ℕ) → message_in exchange ≡ asks_to_find reference → ⊥)
+        → IsAnswering said more asked 0 None search
+    unfolding exchanged
+    exchanged-other one is tells none other =
+        let nothing = none-in was.numbers (λ some. let is-some = (was.searches some).0 in
+        other search.reference cc) in
+        exchanged search
+        (is ∙ ap (λ (l : List Response). l ++ one ∷ []) (was.responses
+        ∙ (λ i. flat_map told_in was.exchanges ++ all_found search.reference (nothing i))
+        ∙ append-nil (flat_map told_in was.exchanges))
+        ∙ (λ i. flat_map told_in was.exchanges ++ sym tells i)) none
+        (was.fresh (λ is-some. other search.reference (let same = is-some in cc)))
 
 -- the entry that is next was answered otherwise than by submitting it
 pub answering-judged : {said : List Message} {told : List Response} {asked : List Entry}
     {search : Search} (entry : Entry) (judgement : Judgement) {more : List Response}
     → more ≡ told ++ response.Judged entry judgement ∷ []
-    → IsAnswering said told asked 0 (Some (posting entry)) search
+    → IsAnswering said told asked 0 (Some (asks_to_post entry)) search
     → IsAnswering said more asked 0 None search
 unfolding exchanged-other
 answering-judged entry judgement is was =
@@ -238,7 +246,7 @@ answering-judged entry judgement is was =
     refl (λ reference one. absurd (cc))
 
 -- a search is answered by no response of these
-no-search : (reference : ℕ) (one : Response) → IsResponseTo (finding reference) one → ⊥
+no-search : (reference : ℕ) (one : Response) → IsResponseTo (asks_to_find reference) one → ⊥
 no-search reference one is = is
 
 -- the question that is next was answered
@@ -262,96 +270,105 @@ answering-ended {told = told} {search = search} was =
     let nothing = none-in was.numbers
     (λ some. let is-some = (was.searches some).0 in absurd (cc)) in
     exchanged input_ended was search
-    (was.responses ∙ (λ i. flat_map told_in was.exchanges ++ all_found search.reference (nothing i)))
-    refl (was.found ∙ ap (λ (l : List ℕ). min (length l) (2 ^ 64 - 1)) nothing)
+    (was.responses
+    ∙ (λ i. flat_map told_in was.exchanges ++ all_found search.reference (nothing i)))
+    refl (was.fresh (λ is-some. let never = is-some in cc))
 
 module _ {said : List Message} {told : List Response} {asked : List Entry} (before after : Search)
-    where
-  -- the search that is next was answered whole
-  pub answering-searched : (last : Response) {more : List Response} → more ≡ told ++ last ∷ []
-      → EndsCount before.count last → after.count ≡ 0
-      → IsAnswering said told asked 0 (Some (finding before.reference)) before
-      → IsAnswering said more asked 0 None after
-  unfolding exchanged
-  answering-searched last is ends begins was =
-      exchanged
-      (search_ended before.reference was.numbers last
-      (subst (λ (count : ℕ). EndsCount count last) was.found ends))
-      was after
-      (is ∙ ap (λ (l : List Response). l ++ last ∷ []) was.responses
-      ∙ append_assoc (flat_map told_in was.exchanges) (all_found before.reference was.numbers)
-      (last ∷ [])) refl begins
-
-  -- it told of a record more
-  pub answering-found : (number : ℕ) {more : List Response}
-      → more ≡ told ++ response.Found number before.reference ∷ []
-      → after.reference ≡ before.reference → after.count ≡ min (before.count + 1) (2 ^ 64 - 1)
-      → IsAnswering said told asked 0 (Some (finding before.reference)) before
-      → IsAnswering said more asked 0 (Some (finding before.reference)) after
-  answering-found number is same counts was = record {
-    exchanges = was.exchanges;
-    waiting = was.waiting;
-    numbers = was.numbers ++ number ∷ [];
-    messages = was.messages;
-    responses = is
-        ∙ ap (λ (l : List Response). l ++ response.Found number before.reference ∷ []) was.responses
+  where
+    -- the search that is next was answered whole
+    pub answering-searched : (last : Response) {more : List Response} → more ≡ told ++ last ∷ []
+        → EndsCount before.count last → IsFresh after
+        → IsAnswering said told asked 0 (Some (asks_to_find before.reference)) before
+        → IsAnswering said more asked 0 None after
+    unfolding exchanged
+    answering-searched last is ends begins was =
+        exchanged
+        (search_ended before.reference was.numbers last
+        (subst (λ (count : ℕ). EndsCount count last) was.found ends))
+        was after
+        (is ∙ ap (λ (l : List Response). l ++ last ∷ []) was.responses
         ∙ append_assoc (flat_map told_in was.exchanges) (all_found before.reference was.numbers)
-        (response.Found number before.reference ∷ [])
-        ∙ ap (λ (l : List Response). flat_map told_in was.exchanges ++ l)
-        (sym (map-append (λ (n : ℕ). response.Found n before.reference) was.numbers (number ∷ [])))
-        ∙ ap (λ (reference : ℕ).
-        flat_map told_in was.exchanges ++ all_found reference (was.numbers ++ number ∷ []))
-        (sym same);
-    submitted = was.submitted;
-    counted = was.counted;
-    found = omega (arith, counts, was.found, length-append was.numbers (number ∷ []));
-    searches = λ some. (
-      ap (λ (reference : ℕ). Some (finding reference)) (sym same),
-      none-at-0 was.waiting was.counted,
-    );
-  }
+        (last ∷ [])) refl begins
 
-  -- or of none
-  pub answering-same : {unanswered : ℕ} {next : Option Message} → after.reference ≡ before.reference
-      → after.count ≡ before.count → IsAnswering said told asked unanswered next before
-      → IsAnswering said told asked unanswered next after
-  answering-same same counts was = record {
-    exchanges = was.exchanges;
-    waiting = was.waiting;
-    numbers = was.numbers;
-    messages = was.messages;
-    responses = was.responses
-        ∙ ap (λ (reference : ℕ).
-        flat_map told_in was.exchanges ++ all_found reference was.numbers) (sym same);
-    submitted = was.submitted;
-    counted = was.counted;
-    found = counts ∙ was.found;
-    searches = λ some. (
-      (was.searches some).0 ∙ ap (λ (reference : ℕ). Some (finding reference)) (sym same),
-      (was.searches some).1,
-    );
-  }
+    -- it told of a record more
+    pub answering-found : (number : ℕ) {more : List Response}
+        → more ≡ told ++ response.Found number before.reference ∷ []
+        → after.reference ≡ before.reference → after.count ≡ min (before.count + 1) (2 ^ 64 - 1)
+        → IsAnswering said told asked 0 (Some (asks_to_find before.reference)) before
+        → IsAnswering said more asked 0 (Some (asks_to_find before.reference)) after
+    answering-found number is same counts was = record {
+      exchanges = was.exchanges;
+      waiting = was.waiting;
+      numbers = was.numbers ++ number ∷ [];
+      messages = was.messages;
+      responses = is
+          ∙ ap (λ (l : List Response). l ++ response.Found number before.reference ∷ [])
+          was.responses
+          ∙ append_assoc (flat_map told_in was.exchanges) (all_found before.reference was.numbers)
+          (response.Found number before.reference ∷ [])
+          ∙ ap (λ (l : List Response). flat_map told_in was.exchanges ++ l)
+          (sym (map-append (λ (n : ℕ). response.Found n before.reference) was.numbers
+          (number ∷ [])))
+          ∙ ap (λ (reference : ℕ).
+          flat_map told_in was.exchanges ++ all_found reference (was.numbers ++ number ∷ []))
+          (sym same);
+      submitted = was.submitted;
+      counted = was.counted;
+      found = omega (arith, counts, was.found, length-append was.numbers (number ∷ []));
+      searches = λ some. (
+        ap (λ (reference : ℕ). Some (asks_to_find reference)) (sym same),
+        none-at-0 was.waiting was.counted,
+      );
+      fresh = λ not. absurd
+          (not (ap (λ (reference : ℕ). Some (asks_to_find reference)) (sym same)));
+    }
 
-  -- another search begins
-  pub answering-begun : {unanswered : ℕ} (reference : ℕ) → before.reference ≢ reference
-      → after.count ≡ 0
-      → IsAnswering said told asked unanswered (Some (finding reference)) before
-      → IsAnswering said told asked unanswered (Some (finding reference)) after
-  answering-begun reference other begins was =
-      let nothing = none-in was.numbers
-      (λ some. let is-some = (was.searches some).0 in other cc) in
-      record {
-        exchanges = was.exchanges;
-        waiting = was.waiting;
-        numbers = [];
-        messages = was.messages;
-        responses = was.responses
-            ∙ (λ i. flat_map told_in was.exchanges ++ all_found before.reference (nothing i));
-        submitted = was.submitted;
-        counted = was.counted;
-        found = begins;
-        searches = λ some. absurd (omega (arith, some));
-      }
+    -- or of none
+    pub answering-same : {unanswered : ℕ} → after.reference ≡ before.reference
+        → after.count ≡ before.count
+        → IsAnswering said told asked unanswered (Some (asks_to_find before.reference)) before
+        → IsAnswering said told asked unanswered (Some (asks_to_find before.reference)) after
+    answering-same same counts was = record {
+      exchanges = was.exchanges;
+      waiting = was.waiting;
+      numbers = was.numbers;
+      messages = was.messages;
+      responses = was.responses
+          ∙ ap (λ (reference : ℕ).
+          flat_map told_in was.exchanges ++ all_found reference was.numbers) (sym same);
+      submitted = was.submitted;
+      counted = was.counted;
+      found = counts ∙ was.found;
+      searches = λ some. (
+        (was.searches some).0 ∙ ap (λ (reference : ℕ). Some (asks_to_find reference)) (sym same),
+        (was.searches some).1,
+      );
+      fresh = λ not. absurd
+          (not (ap (λ (reference : ℕ). Some (asks_to_find reference)) (sym same)));
+    }
+
+    -- another search begins
+    pub answering-begun : {unanswered : ℕ} (reference : ℕ) → before.reference ≢ reference
+        → IsFresh after
+        → IsAnswering said told asked unanswered (Some (asks_to_find reference)) before
+        → IsAnswering said told asked unanswered (Some (asks_to_find reference)) after
+    answering-begun reference other begins was =
+        let nothing = none-in was.numbers
+        (λ some. let is-some = (was.searches some).0 in other cc) in
+        record {
+          exchanges = was.exchanges;
+          waiting = was.waiting;
+          numbers = [];
+          messages = was.messages;
+          responses = was.responses
+              ∙ (λ i. flat_map told_in was.exchanges ++ all_found before.reference (nothing i));
+          submitted = was.submitted;
+          counted = was.counted;
+          found = ap (λ (s : Search). s.count) begins;
+          searches = λ some. absurd (omega (arith, some));
+          fresh = λ _. begins;
+        }
 
 -- the message that is next, if there is one, was answered by that response
 pub answering-next : {said : List Message} {told : List Response} {asked : List Entry}

@@ -5,7 +5,10 @@ use Rattle.std.proofs.Common.{inl, inr, sym, ◌∙◌, ap, subst}
 use Rattle.std.proofs.lemmas.Bool.{cases_eq}
 use Rattle.std.proofs.lemmas.List.{length-map, length-set, map-set, get_or-map, get_or-set_same}
 use Rattle.std.proofs.lemmas.List.{get_or-set_other}
+use Rattle.std.proofs.Math.Seq.{map-set_same}
 use Rattle.station_desk.specs.Rings.{FeedState, StandsAt, AllStandAt}
+use Rattle.office_sessions.specs.declared.session.Session.{Session}
+use Rattle.office_sessions.specs.Session.{StaysAt, AllStayAt, own_of, feed_of}
 
 -- One of the feeds is replaced by another that stands at the same rings.
 stand-set : (old new : List FeedState) (i : ℕ) (feed : FeedState) → i < length new
@@ -29,34 +32,39 @@ stand-set old new i feed there stand stands = record {
   ];
 }
 
--- Feeds of some things stay where they stood if one thing is replaced by another whose feed stands
--- there.
-pub all-stand-set : {S : Type 0} (feed_of : S → FeedState) (old new : List S) (i : ℕ) (s d : S)
-    → i < length old
-    → AllStandAt (map feed_of old) (map feed_of new)
-    → StandsAt (feed_of (slice_index_or new i d)) (feed_of s)
-    → AllStandAt (map feed_of old) (map feed_of (slice_set new i s))
-all-stand-set feed_of old new i s d low stand stands =
+-- Sessions stay if one of them does.
+pub all-stay-set : (old new : List Session) (i : ℕ) (s d : Session) → i < length old
+    → AllStayAt old new → StaysAt (slice_index_or new i d) s
+    → AllStayAt old (slice_set new i s)
+all-stay-set old new i s d low stay stays =
     let long : length old ≡ length new =
-    sym (sym (length-map new feed_of) ∙ stand.as_many ∙ length-map old feed_of) in
+    sym (sym (length-map new feed_of) ∙ stay.rings.as_many ∙ length-map old feed_of) in
     let there : i < length new = subst (λ n. i < n) long low in
-    subst (AllStandAt (map feed_of old)) (sym (map-set feed_of new i s))
-    (stand-set (map feed_of old) (map feed_of new) i (feed_of s)
-    (subst (λ n. i < n) (sym (length-map new feed_of)) there) stand
-    (λ f. subst (λ (one : FeedState). StandsAt one (feed_of s))
-    (sym (get_or-map feed_of new i d f there)) stands))
+    record {
+      own = map-set_same own_of new i s d stays.own ∙ stay.own;
+      rings = subst (AllStandAt (map feed_of old)) (sym (map-set feed_of new i s))
+          (stand-set (map feed_of old) (map feed_of new) i (feed_of s)
+          (subst (λ n. i < n) (sym (length-map new feed_of)) there) stay.rings
+          (λ f. subst (λ (one : FeedState). StandsAt one (feed_of s))
+          (sym (get_or-map feed_of new i d f there)) stays.rings));
+    }
 
 -- nothing has happened yet
-pub all-stand-still : (feeds : List FeedState) → AllStandAt feeds feeds
-all-stand-still feeds = record { as_many = refl; each = λ i f low. (refl, refl, refl) }
+pub all-stay-still : (sessions : List Session) → AllStayAt sessions sessions
+all-stay-still sessions =
+    record { own = refl; rings = record { as_many = refl; each = λ i f low. (refl, refl, refl) } }
 
 -- one step after another
-pub all-stand-joined : (old mid new : List FeedState) → AllStandAt old mid → AllStandAt mid new
-    → AllStandAt old new
-all-stand-joined old mid new far next = record {
-  as_many = next.as_many ∙ far.as_many;
-  each = λ i f low.
-      let before = far.each i f low in
-      let after = next.each i f (subst (λ n. i < n) (sym far.as_many) low) in
-      (after.0 ∙ before.0, after.1 ∙ before.1, after.2 ∙ before.2);
+pub all-stay-joined : (old mid new : List Session) → AllStayAt old mid → AllStayAt mid new
+    → AllStayAt old new
+all-stay-joined old mid new far next = record {
+  own = next.own ∙ far.own;
+  rings = record {
+    as_many = next.rings.as_many ∙ far.rings.as_many;
+    each = λ i f low.
+        let before = far.rings.each i f low in
+        let after =
+        next.rings.each i f (subst (λ n. i < n) (sym far.rings.as_many) low) in
+        (after.0 ∙ before.0, after.1 ∙ before.1, after.2 ∙ before.2);
+  };
 }

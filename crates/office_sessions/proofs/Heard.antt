@@ -20,6 +20,7 @@ use Rattle.office_day.proofs.Lists.{first, AllZip-at}
 use Rattle.office_sessions.specs.Conversation.{ConversationState}
 use Rattle.office_sessions.specs.Exchange.{WereAnswered}
 use Rattle.office_sessions.specs.Over.{IsOver, IsHeard, FollowsReplies}
+use Rattle.office_sessions.specs.Session.{own_of_all}
 use Rattle.office_sessions.specs.Kept.{WasKeptFor, WasLeftOpen}
 use Rattle.office_sessions.proofs.Rising.{posts-rising}
 
@@ -41,17 +42,22 @@ heard feed conversation part day over done = record {
 }
 
 -- all of them
-pub kept_for : {D : Type 0} (state : D → DeviceState) (moves : ℕ) (from : Rest D) (last : Span D)
+pub kept_for : {D : Type 0} (state : D → DeviceState) (moves since : ℕ) (from : Rest D)
+    (last : Span D)
     (desks : List DeskState) (left : List StationRemains) (feeds : List FeedState)
     (days : List StationDay) (conversations : List ConversationState) (old new : Archive)
     → WasKeptOpen state moves from last (map (λ (feed : FeedState). feed.collected) feeds) days old
     new → length desks ≡ stations from.line → length feeds ≡ stations from.line
     → AllZip IsOver feeds conversations → AreReconciled feeds left days
-    → WasKeptFor state moves from last days conversations old new
-kept_for state moves from last desks left feeds days conversations old new kept many fed over done =
+    → map (λ (c : ConversationState). c.own) conversations
+    ≡ own_of_all since (stations from.line)
+    → WasKeptFor state moves since from last days conversations old new
+kept_for state moves since from last desks left feeds days conversations old new kept many fed over
+    done own =
     record {
       collected = map (λ (feed : FeedState). feed.collected) feeds;
       kept = kept;
+      own = own;
       as_many = AllZip-long IsOver feeds conversations over ∙ fed;
       heard = λ i conversation answers day low.
           let in_desks : i < length desks = subst (λ n. i < n) (sym many) low in

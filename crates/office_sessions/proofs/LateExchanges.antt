@@ -19,7 +19,8 @@ use Rattle.office_sessions.specs.declared.search.Search.{Search}
 use Rattle.office_sessions.specs.Conversation.{ConversationState, is_answer, pending, posting_of}
 use Rattle.office_sessions.specs.Conversation.{postings_among}
 use Rattle.office_sessions.specs.Exchange.{IsAnswering, WereAnswered, told_in, message_in}
-use Rattle.office_sessions.specs.Exchange.{submitted_in, all_found, late_answer, told_late, posting}
+use Rattle.office_sessions.specs.Exchange.{submitted_in, all_found, late_answer, told_late}
+use Rattle.office_sessions.specs.Exchange.{asks_to_post}
 use Rattle.office_sessions.specs.Exchange.{one_of}
 use Rattle.office_sessions.specs.Over.{IsEnding, IsOver, IsOpen, AreAnsweredUpTo}
 use Rattle.office_sessions.specs.Replies.{IsPlain}
@@ -46,18 +47,23 @@ plain-as given one other plain is =
     let same : given ≡ one = cc in
     subst (λ (r : Response). (is_answer r ≡ false) × IsPlain r) same (other, plain)
 
+closed-plain : (one : Response) → Some response.Closed ≡ Some one
+    → (is_answer one ≡ false) × IsPlain one
+closed-plain one is = plain-as response.Closed one refl (λ own heard. tt) is
+
 late-plain : (message : Message) (one : Response) → late_answer message ≡ Some one
     → (is_answer one ≡ false) × IsPlain one
 late-plain (Asked (request.Post entry)) one is = absurd (cc)
-late-plain (Asked (request.Balance account)) one is = plain-as response.Closed one refl (λ own heard. tt) is
-late-plain (Asked (request.Find reference)) one is = plain-as response.Closed one refl (λ own heard. tt) is
-late-plain (Asked request.Last) one is = plain-as response.Closed one refl (λ own heard. tt) is
-late-plain (Asked (request.First reference)) one is = plain-as response.Closed one refl (λ own heard. tt) is
-late-plain (Asked (request.Hello number)) one is = plain-as (response.Hello number) one refl (λ own heard. tt) is
-late-plain (Asked request.Copy) one is = plain-as response.Closed one refl (λ own heard. tt) is
-late-plain (Asked request.Archive) one is = plain-as response.Closed one refl (λ own heard. tt) is
-late-plain (Asked request.Status) one is = plain-as response.Closed one refl (λ own heard. tt) is
-late-plain (Asked request.Name) one is = plain-as response.Closed one refl (λ own heard. tt) is
+late-plain (Asked (request.Balance account)) one is = closed-plain one is
+late-plain (Asked (request.Find reference)) one is = closed-plain one is
+late-plain (Asked request.Last) one is = closed-plain one is
+late-plain (Asked (request.First reference)) one is = closed-plain one is
+late-plain (Asked (request.Hello number)) one is =
+    plain-as (response.Hello number) one refl (λ own heard. tt) is
+late-plain (Asked request.Copy) one is = closed-plain one is
+late-plain (Asked request.Archive) one is = closed-plain one is
+late-plain (Asked request.Status) one is = closed-plain one is
+late-plain (Asked request.Name) one is = closed-plain one is
 late-plain (Asked request.Help) one is = plain-as response.Help one refl (λ own heard. tt) is
 late-plain (Asked request.Close) one is = absurd (cc)
 late-plain (Wrong wrong) one is = plain-as (response.Wrong wrong) one refl (λ own heard. tt) is
@@ -105,8 +111,11 @@ module _ (feed : FeedState) (state : ConversationState) where
   still-open message said unheard late is = (
     is.0,
     none-at-0 state.unheard
-        (omega (arith, ap length (sym late ∙ is.1),
-        length-append state.unheard (posting_of message))),
+        (omega (
+          arith,
+          ap length (sym late ∙ is.1),
+          length-append state.unheard (posting_of message),
+        )),
   )
 
   -- one message more, which nobody looked at yet
@@ -131,7 +140,7 @@ module _ (feed : FeedState) (state : ConversationState) where
             closing = were.closing;
             messages = more ∙ ap (λ (l : List Message). l ++ message ∷ []) were.messages
                 ∙ append-fourth (map message_in were.exchanges) were.late
-                (map posting were.waiting) were.rest (message ∷ []);
+                (map asks_to_post were.waiting) were.rest (message ∷ []);
             responses = were.responses;
             submitted = were.submitted;
             untaken = flat_map-append posting_of were.rest (message ∷ [])
@@ -211,7 +220,7 @@ module _ (feed : FeedState) (state : ConversationState) where
           closing = [];
           messages = were.messages
               ∙ (λ i. map message_in were.exchanges
-              ++ (were.late ++ (map posting (so.waiting is i) ++ last i)))
+              ++ (were.late ++ (map asks_to_post (so.waiting is i) ++ last i)))
               ∙ ap (λ (l : List Message). map message_in were.exchanges ++ l)
               (sym (append-nil (were.late ++ message ∷ [])));
           responses = tells

@@ -16,7 +16,8 @@ use Rattle.turn_clerk.specs.declared.refusals.FindRefusal.{FindRefusal}
 use Rattle.station_desk.specs.declared.messages.Answer.{Answer}
 use Rattle.station_desk.specs.declared.messages.Outcome.{Outcome}
 use Rattle.station_desk.specs.declared.messages.Outcome.TheVariants as outcome
-use Rattle.office_sessions.specs.Conversation.{OwnPostings, told_of, response_of}
+use Rattle.office_sessions.specs.declared.look.OwnPostings.{OwnPostings}
+use Rattle.office_sessions.specs.Conversation.{told_of, response_of}
 use Rattle.office_sessions.specs.Looked.{earlier_by, earlier_of, GoesOnBy}
 use Rattle.office_sessions.specs.Replies.{CameLast, HeldAtSomeMoment, HasSearched, HasLooked}
 use Rattle.office_sessions.specs.Replies.{search_begins, search_goes_on, look_begins, look_goes_on}
@@ -288,14 +289,16 @@ learned-raised own heard told asked posted most earlier.Known low so = (
 
 -- what entries a session that has learned asks to post rise
 pub rise-learned : (own : OwnPostings) (heard : List Reply) (told : List Response)
-    (asked : List Entry) (posted : ℕ) (known : Earlier) → IsLearned own heard told asked posted known
+    (asked : List Entry) (posted : ℕ) (known : Earlier)
+    → IsLearned own heard told asked posted known
     → RiseFromEarlier own heard told asked
 rise-learned own heard told asked posted earlier.Unlooked so = inl so
 rise-learned own heard told asked posted (earlier.OutOfSight since) so = inl so.0
 rise-learned own heard told asked posted earlier.Known so = inr so.0
 
 by-seen : (own : OwnPostings) (heard : List Reply) (told : List Response)
-    (asked : List Entry) (posted : ℕ) (posting : Option Posting) (since : ℕ) → AreWithoutReference asked
+    (asked : List Entry) (posted : ℕ) (posting : Option Posting) (since : ℕ)
+    → AreWithoutReference asked
     → HeldAtSomeMoment (HasSeenAll own (record { posting = posting; since = since })) heard
     → IfSome posting (λ last. reference_of last.entry ≤ posted)
     → IsLearned own heard told asked posted (earlier_of posting since)
@@ -331,7 +334,8 @@ learned-seen own heard told asked posted seen none looked within =
 
 -- a session that has looked knows that the reference is above what was posted before
 pub first-learned : (own : OwnPostings) (heard : List Reply) (told : List Response)
-    (asked : List Entry) (posted : ℕ) (known : Earlier) (reference : ℕ) → (known ≡ earlier.Unlooked → ⊥)
+    (asked : List Entry) (posted : ℕ) (known : Earlier) (reference : ℕ)
+    → (known ≡ earlier.Unlooked → ⊥)
     → posted < reference → IsLearned own heard told asked posted known
     → IsFirst own reference heard
 first-learned own heard told asked posted earlier.Unlooked reference looked above so =
@@ -346,7 +350,8 @@ first-learned own heard told asked posted earlier.Known reference looked above s
 
 -- from then on references begin there
 pub learned-first : (own : OwnPostings) (heard : List Reply) (told : List Response)
-    (asked : List Entry) (posted most : ℕ) (known : Earlier) (reference : ℕ) → (known ≡ earlier.Unlooked → ⊥)
+    (asked : List Entry) (posted most : ℕ) (known : Earlier) (reference : ℕ)
+    → (known ≡ earlier.Unlooked → ⊥)
     → posted ≤ most → reference ≤ most + 1 → Contains told (response.First reference)
     → IsLearned own heard told asked posted known
     → IsLearned own heard told asked most earlier.Known

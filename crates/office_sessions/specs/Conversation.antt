@@ -20,6 +20,7 @@ use Rattle.station_desk.specs.declared.messages.Outcome.{Outcome}
 use Rattle.station_desk.specs.declared.messages.Outcome.TheVariants as outcome
 use Rattle.office_sessions.specs.declared.messages.Message.{Message}
 use Rattle.office_sessions.specs.declared.messages.Message.TheVariants.{Asked, Wrong, Ended}
+use Rattle.office_sessions.specs.declared.look.OwnPostings.{OwnPostings}
 use Rattle.office_sessions.specs.declared.replies.Reply.{Reply}
 use Rattle.office_sessions.specs.declared.search.Search.{Search}
 use Rattle.office_sessions.specs.declared.search.Step.{Step}
@@ -66,7 +67,6 @@ is_answer response.Closing = false
 -- those of the responses that do, in order
 abbrev pub answers_among : List Response → List Response
 answers_among responses = filter is_answer responses
-
 
 -- the entry that a message asks to post, if it does
 abbrev pub posting_of : Message → List Entry
@@ -142,7 +142,13 @@ EndsCount counted last =
     ((since : ℕ) × (last ≡ response.FoundInAll counted since))
     ⊎ ((refusal : FindRefusal) × (last ≡ response.NotFound refusal))
 
--- A search looks for the same reference as before, and counts each record that it tells of.
+-- A search begins: with the first record, up to the last one, and has found none.
+abbrev pub IsFresh : Search → Type 0
+IsFresh search =
+    search ≡ record { reference = search.reference; from = 0; end = 2 ^ 64 - 1; count = 0 }
+
+-- A search looks for the same reference as before, and counts each record that it tells of; at last
+-- it tells how many it counted.
 abbrev pub IsCountedBy : Search → Step → Search → Type 0
 IsCountedBy before stepped.UnderWay after =
     (after.reference ≡ before.reference) × (after.count ≡ before.count)
@@ -212,15 +218,6 @@ abbrev pub IsAll : Reached → Type 0
 IsAll (reached.Further began number end) = ⊥
 IsAll (reached.All began since) = Unit {0}
 IsAll reached.LookingBack = ⊥
-
--- whose postings a session looks at: those of a station, from the first batch on that only offices
--- posted
-pub record OwnPostings : Type 0 where
-  pub station : ℕ
-  pub first : ℕ
-
-abbrev pub own_postings : ℕ → ℕ → OwnPostings
-own_postings station first = record { station = station; first = first }
 
 -- A conversation at one moment, with the counter of a station: every message that was taken from
 -- its reader, every response that was handed to its writer, and every reply that came to its

@@ -11,6 +11,7 @@ use Rattle.office_sessions.specs.declared.responses.Response.{Response}
 use Rattle.office_sessions.specs.declared.responses.Response.TheVariants as response
 use Rattle.office_sessions.specs.declared.search.Search.{Search}
 use Rattle.office_sessions.specs.Conversation.{is_answer, postings_among, IsResponseTo, EndsCount}
+use Rattle.office_sessions.specs.Conversation.{IsFresh}
 
 -- a message, and what it was answered with
 pub data Exchange : Type 0 where
@@ -27,20 +28,20 @@ pub data Exchange : Type 0 where
   input_ended : Exchange
 
 -- the message that asks to post an entry, and the one that asks to find a reference
-abbrev pub posting : Entry → Message
-posting entry = Asked (request.Post entry)
+abbrev pub asks_to_post : Entry → Message
+asks_to_post entry = Asked (request.Post entry)
 
-abbrev pub finding : ℕ → Message
-finding reference = Asked (request.Find reference)
+abbrev pub asks_to_find : ℕ → Message
+asks_to_find reference = Asked (request.Find reference)
 
 -- a response for each record that a search found
 abbrev pub all_found : ℕ → List ℕ → List Response
 all_found reference numbers = map (λ number. response.Found number reference) numbers
 
 abbrev pub message_in : Exchange → Message
-message_in (entry_answered entry answer is) = posting entry
-message_in (entry_judged entry judgement) = posting entry
-message_in (search_ended reference numbers last ends) = finding reference
+message_in (entry_answered entry answer is) = asks_to_post entry
+message_in (entry_judged entry judgement) = asks_to_post entry
+message_in (search_ended reference numbers last ends) = asks_to_find reference
 message_in (question_answered asked answer is) = asked
 message_in input_ended = Ended
 
@@ -85,20 +86,21 @@ one_of (Some one) = one ∷ []
 abbrev pub told_late : Message → List Response
 told_late message = one_of (late_answer message)
 
--- How far a session is with its messages: those before these were answered, in order; these entries
--- are submitted, and not answered yet; and then comes the message that is handled next, if there is
--- one, which was told of as many records as its search counts.
+-- How far a session is with its messages. The first ones were answered, in order. Then come the
+-- entries that wait for an answer, then the next message, if there is one. If that is a search, the
+-- numbers are those of the records that were told so far. Any other search begins anew.
 pub record IsAnswering (said : List Message) (told : List Response) (asked : List Entry)
     (unanswered : ℕ) (next : Option Message) (search : Search) : Type 0 where
   pub exchanges : List Exchange
   pub waiting : List Entry
   pub numbers : List ℕ
-  pub messages : said ≡ map message_in exchanges ++ (map posting waiting ++ one_of next)
+  pub messages : said ≡ map message_in exchanges ++ (map asks_to_post waiting ++ one_of next)
   pub responses : told ≡ flat_map told_in exchanges ++ all_found search.reference numbers
   pub submitted : asked ≡ flat_map submitted_in exchanges ++ waiting
   pub counted : length waiting ≡ unanswered
   pub found : search.count ≡ min (length numbers) (2 ^ 64 - 1)
-  pub searches : 0 < length numbers → (next ≡ Some (finding search.reference)) × (waiting ≡ [])
+  pub searches : 0 < length numbers → (next ≡ Some (asks_to_find search.reference)) × (waiting ≡ [])
+  pub fresh : (next ≡ Some (asks_to_find search.reference) → ⊥) → IsFresh search
 
 -- What a counter was told at last: that the office closes, or nothing.
 abbrev pub IsClosing : List Response → Type 0
@@ -119,7 +121,7 @@ pub record WereAnswered (said : List Message) (told : List Response)
   pub numbers : List ℕ
   pub closing : List Response
   pub messages : said
-      ≡ map message_in exchanges ++ (late ++ (map posting waiting ++ rest))
+      ≡ map message_in exchanges ++ (late ++ (map asks_to_post waiting ++ rest))
   pub responses : told ≡ flat_map told_in exchanges
       ++ (all_found reference numbers ++ (flat_map told_late late ++ closing))
   pub submitted : asked ≡ flat_map submitted_in exchanges ++ waiting
@@ -127,5 +129,5 @@ pub record WereAnswered (said : List Message) (told : List Response)
   pub untaken : postings_among rest ≡ unheard
   pub in_order : 0 < length late → waiting ≡ []
   pub unfinished : 0 < length numbers
-      → (waiting ≡ []) × ((more : List Message) × (late ++ rest ≡ finding reference ∷ more))
+      → (waiting ≡ []) × ((more : List Message) × (late ++ rest ≡ asks_to_find reference ∷ more))
   pub closes : IsClosing closing

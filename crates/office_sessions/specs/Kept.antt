@@ -1,6 +1,6 @@
 -- What became of an office that was kept open for its counters, and what one leaves that wasn't, or
 -- isn't told of.
-use Rattle.std.specs.Prelude.{◌≡◌, ◌<◌, ℕ, List, length}
+use Rattle.std.specs.Prelude.{◌≡◌, ◌<◌, ℕ, List, length, map}
 use Rattle.std.specs.List.{slice_index_or}
 use Rattle.sector_device.specs.Device.{DeviceState}
 use Rattle.four_state.specs.Configuration.{stations}
@@ -13,6 +13,7 @@ use Rattle.office_day.specs.Archive.{Archive}
 use Rattle.office_day.specs.Spans.{AreSpans, Rest, Span, WasKeptOpen, WasAbandoned}
 use Rattle.office_sessions.specs.Conversation.{ConversationState}
 use Rattle.office_sessions.specs.Over.{IsHeard}
+use Rattle.office_sessions.specs.Session.{own_of_all}
 use Rattle.office_sessions.specs.declared.counter.Unserved.{Unserved}
 use Rattle.office_sessions.specs.declared.counter.Unserved.TheVariants as unserved
 use Rattle.office_sessions.specs.declared.open_office.LiveRefusal.{LiveRefusal}
@@ -25,13 +26,16 @@ stands_with feed part = AreTogether feed part.desk
 
 -- An office was kept open from there on, of whose spans this is the last, for counters with whom it
 -- had these conversations: each was told the answers that were collected for it, and what it asked
--- for was heard. Its archive was kept behind each of the earlier spans.
-pub record WasKeptFor {D : Type 0} (state : D → DeviceState) (moves : ℕ) (from : Rest D)
+-- for was heard. A look at a station's own postings begins with that batch: its caller says that
+-- only offices posted from there on. Its archive was kept behind each of the earlier spans.
+pub record WasKeptFor {D : Type 0} (state : D → DeviceState) (moves first : ℕ) (from : Rest D)
     (last : Span D) (days : List StationDay)
     (conversations : List ConversationState) (old new : Archive) : Type 0 where
   pub collected : List (List Answer)
   pub kept : WasKeptOpen state moves from last collected days old new
   pub as_many : length conversations ≡ stations from.line
+  pub own : map (λ (c : ConversationState). c.own) conversations
+      ≡ own_of_all first (stations from.line)
   pub heard : (i : ℕ) (conversation : ConversationState) (answers : List Answer) (day : StationDay)
       → i < stations from.line
       → IsHeard (slice_index_or conversations i conversation) (slice_index_or collected i answers)

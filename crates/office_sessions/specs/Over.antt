@@ -5,8 +5,9 @@ use Rattle.station_desk.specs.Rings.{FeedState}
 use Rattle.station_desk.specs.declared.messages.Answer.{Answer}
 use Rattle.office_day.specs.declared.reconciled.StationDay.{StationDay}
 use Rattle.turn_ledger.specs.declared.entry.Entry.{Entry}
+use Rattle.office_sessions.specs.declared.look.OwnPostings.{OwnPostings}
 use Rattle.office_sessions.specs.Rising.{AreAbove, PostsRising}
-use Rattle.office_sessions.specs.Conversation.{ConversationState, OwnPostings}
+use Rattle.office_sessions.specs.Conversation.{ConversationState}
 use Rattle.office_sessions.specs.Conversation.{answers_among, response_of}
 use Rattle.office_sessions.specs.Exchange.{WereAnswered}
 use Rattle.office_sessions.specs.Replies.{AreToldBy, RiseFromEarlier}
@@ -39,7 +40,7 @@ abbrev pub IsOpen : ConversationState → Type 0
 IsOpen conversation = (conversation.is_silent ≡ false) × (conversation.unheard ≡ [])
 
 -- The messages were answered, but for these, which are looked at next if the counter may be told
--- something more; and it wasn't told yet that the office closes.
+-- something more. It wasn't told at last that the office closes.
 pub record AreAnsweredUpTo (next : List Message) (conversation : ConversationState)
     (asked : List Entry) : Type 0 where
   pub were : WereAnswered conversation.said conversation.told asked conversation.unheard
@@ -57,8 +58,8 @@ pub record IsEnding (next : List Message) (feed : FeedState)
   pub follows : FollowsReplies conversation.own conversation.told conversation.replies
       (entries_of feed.asked)
 
--- One that ends goes on doing so, whatever its feed: first these messages are looked at next, and
--- then those.
+-- A conversation that ends with the first of these messages still to be looked at goes on, whatever
+-- its feed, to end with the second ones still to be looked at.
 abbrev pub EndsOn : List Message → List Message → ConversationState → ConversationState → Type 0
 EndsOn before after old new =
     (feed : FeedState) → IsEnding before feed old → IsEnding after feed new

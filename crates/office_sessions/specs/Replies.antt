@@ -13,7 +13,8 @@ use Rattle.line_lock.specs.declared.told.Room.{Room}
 use Rattle.station_desk.specs.declared.errand.Question.{Question}
 use Rattle.station_desk.specs.declared.errand.Question.TheVariants as question
 use Rattle.station_desk.specs.declared.errand.Report.TheVariants as report
-use Rattle.office_sessions.specs.Conversation.{OwnPostings, own_question, counted_by, MeetsAt}
+use Rattle.office_sessions.specs.declared.look.OwnPostings.{OwnPostings}
+use Rattle.office_sessions.specs.Conversation.{own_question, counted_by, MeetsAt}
 use Rattle.office_sessions.specs.Conversation.{EndsAt, IsAll}
 use Rattle.office_sessions.specs.Looked.{GoesOnBy, seen_at, seen_farther, earlier_by, IsUnder}
 use Rattle.office_sessions.specs.declared.look.Look.{Look}
@@ -101,7 +102,8 @@ abbrev pub step_of_look : OwnPostings → ℕ → Look → Result SearchStep Fin
 step_of_look own limit look step =
     reply.Report (own_question own.station limit look.from) (report.Searched step)
 
--- A look has come so far by steps that were reported, each from where the one before ended.
+-- A look has come so far by steps that were reported: the first from the first batch on that only
+-- offices posted, and each other one from where the one before ended.
 pub data HasLooked (own : OwnPostings) (limit : ℕ) (heard : List Reply) : Look → Type 0 where
   look_begins : HasLooked own limit heard
       (record { from = own.first; since = own.first; posting = None })

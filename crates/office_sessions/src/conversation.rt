@@ -2,10 +2,11 @@
 ghost use Rattle.std.specs.Prelude.{◌≡◌, ◌↔◌, [], ◌∷◌, ◌++◌, false, true, IfOk, IsTrue, OnOk};
 ghost use Rattle.station_desk.specs.Rings.{FeedState};
 ghost use Rattle.office_sessions.specs.Conversation.{pending, posting_of, IsSilent};
-ghost use Rattle.office_sessions.specs.Conversation.{IsToldNoMore, own_postings};
+ghost use Rattle.office_sessions.specs.Conversation.{IsToldNoMore};
 ghost use Rattle.office_sessions.specs.Exchange.{one_of, late_answer};
 ghost use Rattle.office_sessions.specs.Over.{EndsOn, IsEnding, IsOpen, IsOver};
 
+use crate::look::OwnPostings;
 use crate::messages::Message;
 use crate::recent::Recent;
 use crate::replies::Reply;
@@ -35,9 +36,7 @@ const PAUSE: u64 = 5;
 /// wasn't told.
 #[derive(Drop)]
 pub struct Conversation {
-    station: u8,
-    // The number of the batch from which on only offices posted.
-    first: u64,
+    own: OwnPostings,
     messages: Consumer<Message>,
     responses: Producer<Response>,
     replies: Consumer<Reply>,
@@ -53,12 +52,12 @@ pub struct Conversation {
 
 impl Model for Conversation {
     ghost use Rattle.rtrb.specs.Ring.{sent, received};
-    ghost use Rattle.office_sessions.specs.Conversation.{ConversationState, own_postings};
+    ghost use Rattle.office_sessions.specs.Conversation.{ConversationState};
 
     ghost Value = { ConversationState };
 
     ghost view = { λ c. record {
-      own = own_postings c.station c.first;
+      own = c.own;
       said = received c.messages;
       told = sent c.responses;
       replies = received c.replies;
@@ -72,8 +71,7 @@ impl Conversation {
 
     /// With these ends of the rings, and these entries that nobody submitted.
     pub(crate) fn new(
-        station: u8,
-        first: u64,
+        own: OwnPostings,
         messages: Consumer<Message>,
         responses: Producer<Response>,
         replies: Consumer<Reply>,
@@ -84,7 +82,7 @@ impl Conversation {
         is_told_closing: bool,
     ) -> Conversation
         ensures { result ≡ record {
-          own = own_postings station first;
+          own = own;
           said = received messages;
           told = sent responses;
           replies = received replies;
@@ -93,8 +91,7 @@ impl Conversation {
         } }
     {
         Conversation {
-            station,
-            first,
+            own,
             messages,
             responses,
             replies,
@@ -109,6 +106,7 @@ impl Conversation {
     /// Takes what the counter's reader still hands on, until that is all that it has read; but not
     /// for ever. Unless all before it is answered, nothing of it is.
     pub(crate) fn take_late<C: Clock>(&mut self, clock: &C) -> Result<(), AllocError>
+        ensures own { OnOk result (self.new.own ≡ self.old.own) }
         ensures ends { OnOk result (EndsOn [] [] self.old self.new) }
         ensures silent { OnOk result (IsSilent self.old → self.new.told ≡ self.old.told) }
     {
@@ -126,6 +124,7 @@ impl Conversation {
 
     // Takes what the reader has handed on.
     fn take_waiting(&mut self) -> Result<(), AllocError>
+        ensures own { OnOk result (self.new.own ≡ self.old.own) }
         ensures ends { OnOk result (EndsOn [] [] self.old self.new) }
         ensures silent { OnOk result (IsSilent self.old
             → IsSilent self.new × (self.new.told ≡ self.old.told)) }
@@ -140,9 +139,10 @@ impl Conversation {
         Ok(())
     }
 
-    /// Answers a question that comes too late, if all before it is answered. Where there is no place
-    /// for the answer, nothing is answered any more.
+    /// Answers a question that comes too late, if all before it is answered. Where there is no
+    /// place for the answer, nothing is answered any more.
     pub(crate) fn refuse(&mut self, message: &Message)
+        ensures own { self.new.own ≡ self.old.own }
         ensures ends { EndsOn (message.now ∷ []) [] self.old self.new }
         ensures silent { IsSilent self.old → self.new ≡ self.old }
     {
@@ -163,6 +163,7 @@ impl Conversation {
 
     /// Answers the question that would have come next, if all before it is answered.
     pub(crate) fn refuse_next(&mut self, next: Option<Message>)
+        ensures own { self.new.own ≡ self.old.own }
         ensures ends { EndsOn (one_of next) [] self.old self.new }
         ensures silent { IsSilent self.old → self.new ≡ self.old }
     {
@@ -173,6 +174,7 @@ impl Conversation {
 
     /// Tells the counter that the office closes.
     pub(crate) fn tell_closing(&mut self)
+        ensures own { self.new.own ≡ self.old.own }
         ensures over { (feed : FeedState) → IsEnding [] feed self.old → IsOver feed self.new }
         ensures told { IsToldNoMore self.old.told self.new.told }
     {
@@ -185,8 +187,9 @@ impl Conversation {
 
     // Hands a response to the counter's writer, if there is a place for it.
     fn hand_on(&mut self, response: Response) -> bool
+        ensures own { self.new.own ≡ self.old.own }
         ensures told { IsTrue result
-            → self.new ≡ record self.old { told = self.old.told ++ response ∷ []; } }
+            → self.new ≡ record self.old { told = self.old.told ++ response ∷ [] } }
         ensures untold { result ≡ false → self.new ≡ self.old }
     {
         match self.responses.push(response) {

@@ -3,6 +3,7 @@ ghost use Rattle.std.specs.Prelude.{◌≡◌, [], IfOk};
 ghost use Rattle.rtrb.specs.Ring.{producer_capacity, received};
 
 use crate::identity::Identity;
+use crate::look::OwnPostings;
 use crate::reader::Reader;
 use crate::recent::Recent;
 use crate::replies::Reply;
@@ -35,8 +36,6 @@ pub enum CounterKind {
 pub struct Counter<I: Read, O: Write> {
     /// Below the number of stations; no two counters have the same.
     pub station: u8,
-    /// From the batch of this number on only offices posted: what stands before it is no counter's.
-    pub since: u64,
     /// What it is told when it asks for its name.
     pub identity: Identity,
     /// What it says.
@@ -72,6 +71,7 @@ pub(crate) fn begin_session<
 >(
     rt: &R,
     alloc: Global,
+    own: OwnPostings,
     counter: Counter<I, O>,
     feed: Feed,
     scheduler: &Arc<Scheduler>,
@@ -79,17 +79,15 @@ pub(crate) fn begin_session<
     requires nothing_asked { feed.asked ≡ [] }
     requires nothing_collected { feed.collected ≡ [] }
     ensures feed { IfOk result (λ session. session.postings.feed ≡ feed) }
-    ensures station { IfOk result (λ session. session.station ≡ counter.station) }
-    ensures since { IfOk result (λ session. session.first ≡ counter.since) }
+    ensures own { IfOk result (λ session. session.own ≡ own) }
 {
     let Counter {
-        station,
-        since,
         identity,
         input,
         output,
         kind,
         awaits_hello,
+        ..
     } = counter;
     let prompt = match kind {
         CounterKind::Pipes => "",
@@ -97,7 +95,7 @@ pub(crate) fn begin_session<
     };
     let (said, messages) = RingBuffer::new(alloc, CAPACITY)?;
     let (responses, told) = RingBuffer::new(alloc, CAPACITY)?;
-    let replies = connect(rt, alloc, station, scheduler)?;
+    let replies = connect(rt, alloc, own.station, scheduler)?;
     let wakers = new_wakers(alloc)?;
     let reader = Reader::new(input, LineCutter::new(alloc)?, said, awaits_hello);
     start_reader(rt, reader, &wakers, scheduler)?;
@@ -105,8 +103,7 @@ pub(crate) fn begin_session<
     start_writer(rt, writer, &wakers, scheduler)?;
     let (recent, closes_at_end) = (Recent::new(alloc)?, kind == CounterKind::Terminal);
     Ok(Session::new(
-        station,
-        since,
+        own,
         messages,
         responses,
         replies,
@@ -138,11 +135,15 @@ fn new_wakers(alloc: Global) -> Result<Arc<Wakers>, AllocError> {
 
 /// A session at a station that has no counter. Its rings have no places: what is told to nobody
 /// would count as unwritten, and the office would wait for that before it ends.
-pub(crate) fn empty_session(alloc: Global, station: u8, feed: Feed) -> Result<Session, AllocError>
+pub(crate) fn empty_session(
+    alloc: Global,
+    own: OwnPostings,
+    feed: Feed,
+) -> Result<Session, AllocError>
     requires nothing_asked { feed.asked ≡ [] }
     requires nothing_collected { feed.collected ≡ [] }
     ensures feed { IfOk result (λ session. session.postings.feed ≡ feed) }
-    ensures station { IfOk result (λ session. session.station ≡ station) }
+    ensures own { IfOk result (λ session. session.own ≡ own) }
     ensures nobody { IfOk result (λ session. producer_capacity session.responses ≡ 0) }
 {
     let (_, messages) = RingBuffer::new(alloc, 0)?;
@@ -151,7 +152,7 @@ pub(crate) fn empty_session(alloc: Global, station: u8, feed: Feed) -> Result<Se
     let wakers = new_wakers(alloc)?;
     let recent = Recent::new(alloc)?;
     Ok(Session::new(
-        station, 0, messages, responses, replies, feed, wakers, recent, false,
+        own, messages, responses, replies, feed, wakers, recent, false,
     ))
 }
 

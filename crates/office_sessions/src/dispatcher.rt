@@ -1,6 +1,6 @@
 //! The thread that holds every feed.
-ghost use Rattle.std.specs.Prelude.{◌≡◌, map};
-ghost use Rattle.station_desk.specs.Rings.{AllStandAt};
+ghost use Rattle.std.specs.Prelude.{◌≡◌};
+ghost use Rattle.office_sessions.specs.Session.{AllStayAt};
 
 use crate::scheduler::Scheduler;
 use crate::session::Session;
@@ -9,17 +9,14 @@ use std::snapshot::Snapshot;
 use std::sync::Wait;
 use std::thread::Promise;
 
-/// That each session's feed is the one that it was.
+/// That each session's feed is the one that it was, and that it looks at the same postings.
 #[derive(Drop)]
-pub(crate) struct SameFeeds(pub Snapshot<Vec<Session>>);
+pub(crate) struct SameSessions(pub Snapshot<Vec<Session>>);
 
-impl Promise<Vec<Session>> for SameFeeds {
-    ghost use Rattle.std.specs.Prelude.{map};
-    ghost use Rattle.station_desk.specs.Rings.{AllStandAt};
+impl Promise<Vec<Session>> for SameSessions {
+    ghost use Rattle.office_sessions.specs.Session.{AllStayAt};
 
-    ghost kept_by = { λ promise sessions.
-        AllStandAt (map (λ session. session.postings.feed) promise.0.value.items)
-        (map (λ session. session.postings.feed) sessions.items) };
+    ghost kept_by = { λ promise sessions. AllStayAt promise.0.value.items sessions.items };
 }
 
 /// Attends to the counters until the office's life is over.
@@ -29,8 +26,7 @@ pub(crate) fn dispatch<R: Wait, C: Clients + Drop>(
     sessions: Vec<Session>,
     clients: C,
 ) -> Vec<Session>
-    ensures { AllStandAt (map (λ session. session.postings.feed) sessions.items)
-        (map (λ session. session.postings.feed) result.items) }
+    ensures { AllStayAt sessions.items result.items }
 {
     let (mut sessions, mut clients) = (sessions, clients);
     for _ in rt.forever() {
@@ -52,8 +48,7 @@ fn attend_all<R: Wait, C: Clients>(
     sessions: &mut [Session],
     clients: &mut C,
 )
-    ensures { AllStandAt (map (λ session. session.postings.feed) sessions.old)
-        (map (λ session. session.postings.feed) sessions.new) }
+    ensures { AllStayAt sessions.old sessions.new }
 {
     for session in sessions.iter_mut() {
         session.attend(rt, scheduler, clients);

@@ -6,7 +6,7 @@ ghost use Rattle.gate_journal.specs.Journal.{after_reads};
 ghost use Rattle.journal_recovery.specs.LookBack.{FitsSlots};
 ghost use Rattle.turn_clerk.specs.declared.refusals.FindRefusal.{FindRefusal};
 ghost use Rattle.turn_ledger.specs.Entry.{reference_of};
-ghost use Rattle.office_sessions.specs.Conversation.{own_question, OwnPostings};
+ghost use Rattle.office_sessions.specs.Conversation.{own_question};
 ghost use Rattle.office_sessions.specs.Looked.{seen_with, seen_farther, GoesOnBy, Meets};
 ghost use Rattle.office_sessions.specs.Looked.{BeginsAnew, HasSeen, IsAbove};
 ghost use Rattle.office_sessions.specs.Replies.{IsUnknown, IsUsed, IsJudgedBy, HasSeenLast};
@@ -25,6 +25,16 @@ use turn_ledger::{Entry, Ledger};
 /// More steps than any ledger needs: of 2,000,000 records, and as many slots of a bank that is
 /// looked back to.
 const MOST_STEPS: u64 = 20_000;
+
+/// Whose postings a session looks at.
+#[derive(Clone, Copy, Debug, PartialEq, Eq)]
+pub struct OwnPostings {
+    /// Those of this station.
+    pub station: u8,
+    /// The number of the batch from which on only offices posted: what stands before it is no
+    /// counter's.
+    pub first: u64,
+}
 
 /// How far a look is that is under way. Between two of its steps records may go out of sight that
 /// it didn't look at: what it saw before such a gap doesn't count any more.

@@ -4,6 +4,7 @@ ghost use Rattle.std.specs.List.{AllZip};
 ghost use Rattle.office_day.specs.Day.{AreReconciled};
 ghost use Rattle.office_day.specs.Spans.{rest_of, span_of};
 ghost use Rattle.office_sessions.specs.Over.{IsOver};
+ghost use Rattle.office_sessions.specs.Session.{own_of};
 ghost use Rattle.office_sessions.specs.Kept.{WasKeptFor, HandsBack, stands_with};
 
 use crate::conversation::Conversation;
@@ -81,14 +82,15 @@ impl From<Unserved> for LiveRefusal {
 
 /// Keeps an office open over the clerk, with its line, for these counters, each at its station:
 /// each may come and go, say its requests, and is told the answers. Stations without a counter take
-/// turns that are empty. After `moves` turns the office is closed, the clerk begins anew, and it is
-/// opened again, which no counter notices. It ends once a counter asks for that, and all that was
-/// submitted is answered; where the input of a terminal ends; and where a station is refused its
-/// turns, as by a failed device. Then it is closed. Whenever it is closed for a while, the keeper
-/// adds to the archive and makes the copies that were asked for; counters can have it closed for
-/// that. If the archive can't be kept, the office ends. The keeper comes back with an office that
-/// is closed: its archive has all batches of the spans before the last one. The call waits for all
-/// of that; the counters' threads are left behind.
+/// turns that are empty. From the batch of the number `first` on only offices posted: what stands
+/// before it is no counter's. After `moves` turns the office is closed, the clerk begins anew, and
+/// it is opened again, which no counter notices. It ends once a counter asks for that, and all that
+/// was submitted is answered; where the input of a terminal ends; and where a station is refused
+/// its turns, as by a failed device. Then it is closed. Whenever it is closed for a while, the
+/// keeper adds to the archive and makes the copies that were asked for; counters can have it closed
+/// for that. If the archive can't be kept, the office ends. The keeper comes back with an office
+/// that is closed: its archive has all batches of the spans before the last one. The call waits for
+/// all of that; the counters' threads are left behind.
 ///
 /// # Errors
 /// The device comes back with a [`LiveRefusal`].
@@ -105,16 +107,17 @@ pub fn keep_open<
     clerk: Clerk<D>,
     counters: Vec<Counter<I, O>>,
     clients: C,
+    first: u64,
     moves: u64,
     keeper: K,
 ) -> Result<(ClosedOffice<D>, K), (D, LiveRefusal)>
-    ensures kept { IfOk result (λ both. WasKeptFor D.state moves (rest_of clerk)
+    ensures kept { IfOk result (λ both. WasKeptFor D.state moves first (rest_of clerk)
         (span_of both.0.clerk both.0.audit) both.0.stations.items both.0.conversations.items
         (K.archive keeper) (K.archive both.1)) }
     ensures left { IfErr result (λ e. HandsBack D.state moves (rest_of clerk) e.0 e.1) }
 {
     let (stations, kept) = (clerk.line().stations(), keeper.kept());
-    let begun = match begin(rt, alloc, stations, kept, counters, clients) {
+    let begun = match begin(rt, alloc, stations, kept, first, counters, clients) {
         Ok(begun) => begun,
         Err(unserved) => return Err((clerk.into_device(), LiveRefusal::from(unserved))),
     };
@@ -199,6 +202,8 @@ fn all_ended<C: Clock>(
         both.0.items ≡ map (λ session. session.postings.feed) sessions.items) }
     ensures over { IfOk result (λ both. AllZip IsOver
         (map (λ session. session.postings.feed) sessions.items) both.1.items) }
+    ensures own { IfOk result (λ both.
+        map (λ conversation. conversation.own) both.1.items ≡ map own_of sessions.items) }
 {
     let mut feeds = Vec::with_capacity(alloc, sessions.len())?;
     let mut conversations = Vec::with_capacity(alloc, sessions.len())?;

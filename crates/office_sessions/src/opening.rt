@@ -3,9 +3,11 @@ ghost use Rattle.std.specs.Prelude.{◌≡◌, [], ◌∷◌, ◌++◌, length, 
 ghost use Rattle.std.specs.List.{AllZip};
 ghost use Rattle.station_desk.specs.Rings.{AreTogether};
 ghost use Rattle.office_day.specs.HandedIn.{IsFresh};
+ghost use Rattle.office_sessions.specs.Session.{own_of, own_of_all};
 
 use crate::counter::{Counter, Unserved, begin_session, empty_session};
-use crate::dispatcher::{SameFeeds, dispatch};
+use crate::dispatcher::{SameSessions, dispatch};
+use crate::look::OwnPostings;
 use crate::recess::ArchiveState;
 use crate::scheduler::Scheduler;
 use crate::session::{CAPACITY, Session};
@@ -24,7 +26,7 @@ pub(crate) struct AttendedCounters {
     /// What the stations are woken by.
     pub scheduler: Arc<Scheduler>,
     /// The thread that attends to the counters.
-    pub dispatcher: PromisedHandle<Vec<Session>, SameFeeds>,
+    pub dispatcher: PromisedHandle<Vec<Session>, SameSessions>,
     /// The desks of the stations.
     pub desks: Vec<Desk>,
     /// What the counters' threads are woken by.
@@ -65,6 +67,7 @@ impl Attendance {
 }
 
 /// Begins to attend to the counters, at as many stations, of an office whose archive is so far.
+/// From the batch of the number `first` on only offices posted.
 pub(crate) fn begin<
     R: Threads + Wait + Send + Clone + Drop + 'static,
     I: Read + Send + Drop + 'static,
@@ -75,6 +78,7 @@ pub(crate) fn begin<
     alloc: Global,
     stations: u8,
     kept: ArchiveState,
+    first: u64,
     counters: Vec<Counter<I, O>>,
     clients: C,
 ) -> Result<AttendedCounters, Unserved>
@@ -83,14 +87,16 @@ pub(crate) fn begin<
         begun.desks.items) }
     ensures fresh { IfOk result (λ begun. All IsFresh begun.desks.items) }
     ensures as_many { IfOk result (λ begun. length begun.desks.items ≡ stations) }
+    ensures own { IfOk result (λ begun.
+        map own_of begun.dispatcher.promise.0.value.items ≡ own_of_all first stations) }
 {
     let scheduler = new_scheduler(alloc, stations, kept)?;
     let Attendance {
         sessions,
         desks,
         wakers,
-    } = seat_all(rt, alloc, stations, counters, &scheduler)?;
-    let promise = SameFeeds(Snapshot::of(&sessions));
+    } = seat_all(rt, alloc, stations, first, counters, &scheduler)?;
+    let promise = SameSessions(Snapshot::of(&sessions));
     let (own, theirs) = (rt.clone()?, Arc::try_clone(&scheduler)?);
     match spawn_with(
         rt,
@@ -124,6 +130,7 @@ fn seat_all<
     rt: &R,
     alloc: Global,
     stations: u8,
+    first: u64,
     counters: Vec<Counter<I, O>>,
     scheduler: &Arc<Scheduler>,
 ) -> Result<Attendance, Unserved>
@@ -131,13 +138,16 @@ fn seat_all<
         (map (λ session. session.postings.feed) all.sessions.items) all.desks.items) }
     ensures fresh { IfOk result (λ all. All IsFresh all.desks.items) }
     ensures as_many { IfOk result (λ all. length all.desks.items ≡ stations) }
+    ensures own { IfOk result (λ all.
+        map own_of all.sessions.items ≡ own_of_all first stations) }
 {
     let mut all = Attendance::new(alloc, stations as usize)?;
     let mut waiting = counters;
     for station in 0..stations {
         let (feed, desk) = desk(alloc, CAPACITY)?;
         let counter = counter_of(station, &mut waiting);
-        let session = session_at(rt, alloc, station, counter, feed, scheduler)?;
+        let own = OwnPostings { station, first };
+        let session = session_at(rt, alloc, own, counter, feed, scheduler)?;
         all.add(session, desk)?;
     }
     Ok(all)
@@ -165,20 +175,20 @@ fn session_at<
 >(
     rt: &R,
     alloc: Global,
-    station: u8,
+    own: OwnPostings,
     counter: Option<Counter<I, O>>,
     feed: Feed,
     scheduler: &Arc<Scheduler>,
 ) -> Result<Session, Unserved>
     requires nothing_asked { feed.asked ≡ [] }
     requires nothing_collected { feed.collected ≡ [] }
-    requires own { IfSome counter (λ its. its.station ≡ station) }
+    requires station { IfSome counter (λ its. its.station ≡ own.station) }
     ensures feed { IfOk result (λ session. session.postings.feed ≡ feed) }
-    ensures station { IfOk result (λ session. session.station ≡ station) }
+    ensures own { IfOk result (λ session. session.own ≡ own) }
 {
     match counter {
-        Some(counter) => begin_session(rt, alloc, counter, feed, scheduler),
-        None => match empty_session(alloc, station, feed) {
+        Some(counter) => begin_session(rt, alloc, own, counter, feed, scheduler),
+        None => match empty_session(alloc, own, feed) {
             Ok(session) => Ok(session),
             Err(AllocError) => Err(Unserved::Memory),
         },

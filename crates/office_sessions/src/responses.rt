@@ -5,8 +5,9 @@ ghost use Rattle.station_desk.specs.declared.errand.Report.{Report};
 ghost use Rattle.text_grammar.specs.declared.requests.Request.TheVariants.{Balance};
 ghost use Rattle.office_sessions.specs.declared.messages.Message.TheVariants.{Asked};
 ghost use Rattle.office_sessions.specs.Conversation.{is_answer, told_of_balance};
-ghost use Rattle.office_sessions.specs.Conversation.{IsResponseTo, OwnPostings};
+ghost use Rattle.office_sessions.specs.Conversation.{IsResponseTo};
 ghost use Rattle.office_sessions.specs.Replies.{CameLast, IsToldBy};
+ghost use Rattle.office_sessions.specs.declared.look.OwnPostings.{OwnPostings};
 ghost use Rattle.office_sessions.specs.declared.replies.Reply.{Reply};
 
 use crate::look::LookAnswer;

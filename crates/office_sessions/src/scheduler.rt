@@ -30,7 +30,7 @@ const TRIES: u64 = 2;
 
 /// What is asked at a station, and the ring into which the replies go.
 #[derive(Drop)]
-struct Exchange {
+struct Mailbox {
     question: Option<Question>,
     // What is wanted there of the next recess.
     wish: Option<Wish>,
@@ -38,7 +38,7 @@ struct Exchange {
     replies: Option<Producer<Reply>>,
 }
 
-impl Exchange {
+impl Mailbox {
     // Hands on what came. One thing is asked at a time, so that there is a place for it.
     fn reply(&mut self, reply: Reply) {
         if let Some(replies) = &mut self.replies {
@@ -54,7 +54,7 @@ struct Waker {
     // Whether it may have become privileged since it last asked for its turn.
     may_ask: AtomicBool,
     has_begun: AtomicBool,
-    exchange: Mutex<Exchange>,
+    mailbox: Mutex<Mailbox>,
 }
 
 impl Waker {
@@ -63,7 +63,7 @@ impl Waker {
             parker: Parker::new(),
             may_ask: AtomicBool::new(true),
             has_begun: AtomicBool::new(false),
-            exchange: Mutex::new(Exchange {
+            mailbox: Mutex::new(Mailbox {
                 question: None,
                 wish: None,
                 replies: None,
@@ -78,7 +78,7 @@ impl Waker {
 
     // What the station is to ask the office, once.
     fn take_question<R: Wait>(&self, rt: &R) -> Option<Question> {
-        self.exchange.lock(rt).question.take()
+        self.mailbox.lock(rt).question.take()
     }
 }
 
@@ -162,14 +162,14 @@ impl Scheduler {
     /// From now on the replies for a station go into this ring.
     pub(crate) fn connect<R: Wait>(&self, rt: &R, station: u8, replies: Producer<Reply>) {
         if let Some(waker) = self.wakers.get(station as usize) {
-            waker.exchange.lock(rt).replies = Some(replies);
+            waker.mailbox.lock(rt).replies = Some(replies);
         }
     }
 
     /// Puts a question to a station; its report comes later.
     pub(crate) fn put_question<R: Wait>(&self, rt: &R, station: u8, question: Question) {
         if let Some(waker) = self.wakers.get(station as usize) {
-            waker.exchange.lock(rt).question = Some(question);
+            waker.mailbox.lock(rt).question = Some(question);
             waker.parker.unpark();
         }
     }
@@ -177,7 +177,7 @@ impl Scheduler {
     /// Calls a recess for what is wanted at a station.
     pub(crate) fn call_recess<R: Wait>(&self, rt: &R, station: u8, wish: Wish) {
         if let Some(waker) = self.wakers.get(station as usize) {
-            waker.exchange.lock(rt).wish = Some(wish);
+            waker.mailbox.lock(rt).wish = Some(wish);
             self.recess.store(true, Ordering::SeqCst);
             self.wake_all();
         }
@@ -196,13 +196,13 @@ impl Scheduler {
     /// What is wanted at a station, once.
     pub(crate) fn take_wish<R: Wait>(&self, rt: &R, station: u8) -> Option<Wish> {
         let waker = self.wakers.get(station as usize)?;
-        waker.exchange.lock(rt).wish.take()
+        waker.mailbox.lock(rt).wish.take()
     }
 
     /// Tells a station what came of its wish.
     pub(crate) fn tell<R: Wait>(&self, rt: &R, station: u8, came: WishOutcome) {
         if let Some(waker) = self.wakers.get(station as usize) {
-            waker.exchange.lock(rt).reply(Reply::Outcome(came));
+            waker.mailbox.lock(rt).reply(Reply::Outcome(came));
         }
     }
 
@@ -415,7 +415,7 @@ impl Gate for Scheduler {
     fn reported<R: Wait>(&self, rt: &R, station: u8, question: Question, report: Report) {
         if let Some(waker) = self.wakers.get(station as usize) {
             let reply = Reply::Report { question, report };
-            waker.exchange.lock(rt).reply(reply);
+            waker.mailbox.lock(rt).reply(reply);
         }
         self.wake_dispatcher();
     }

@@ -1,9 +1,10 @@
 //! A search for a reference, step by step.
 ghost use Rattle.std.specs.Prelude.{◌≡◌, List, IfOk, IfErr};
-ghost use Rattle.office_sessions.specs.Conversation.{OwnPostings, step_of_posting, step_of};
-ghost use Rattle.office_sessions.specs.Conversation.{counted_with, IsCountedBy};
+ghost use Rattle.office_sessions.specs.Conversation.{step_of_posting, step_of};
+ghost use Rattle.office_sessions.specs.Conversation.{counted_with, IsCountedBy, IsFresh};
 ghost use Rattle.office_sessions.specs.Replies.{HasSearched, SearchesOn, CameLast, step_of_search};
 ghost use Rattle.office_sessions.specs.Replies.{IsToldByStep};
+ghost use Rattle.office_sessions.specs.declared.look.OwnPostings.{OwnPostings};
 ghost use Rattle.office_sessions.specs.declared.replies.Reply.{Reply};
 
 use crate::responses::Response;
@@ -41,7 +42,7 @@ impl Search {
     pub(crate) fn of(reference: u64) -> Search
         ensures begins { (heard : List Reply) → HasSearched heard result }
         ensures reference { result.reference ≡ reference }
-        ensures count { result.count ≡ 0 }
+        ensures fresh { IsFresh result }
     {
         Search {
             reference,

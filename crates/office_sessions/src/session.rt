@@ -2,13 +2,13 @@
 ghost use Rattle.std.specs.Prelude.{◌≡◌, ◌≢◌, ◌≤◌, ◌^◌, ◌-◌, [], map, IfSome};
 ghost use Rattle.rtrb.specs.Ring.{known_free, sent, received};
 ghost use Rattle.station_desk.specs.Messages.{entries_of};
-ghost use Rattle.office_sessions.specs.Conversation.{response_of, answers_among, own_postings};
+ghost use Rattle.office_sessions.specs.Conversation.{response_of, answers_among};
 ghost use Rattle.office_sessions.specs.Exchange.{IsAnswering};
 ghost use Rattle.office_sessions.specs.Looked.{earlier_by};
 ghost use Rattle.office_sessions.specs.Replies.{AreToldBy, HasSearched, HasLooked, IsLearned};
 ghost use Rattle.office_sessions.specs.Replies.{HasSeenLast, nothing_since};
 
-use crate::look::{Look, LookAnswer};
+use crate::look::{Look, LookAnswer, OwnPostings};
 use crate::messages::Message;
 use crate::postings::Postings;
 use crate::recent::Recent;
@@ -54,15 +54,14 @@ impl Earlier {
 }
 
 /// A counter as the dispatcher sees it. Its messages are answered in order: an entry by its answer,
-/// once that is collected, or at once, for the sake of its reference; a search by a response for
+/// once that is collected, or by a judgement of its reference; a search by a response for
 /// each record that it finds, and then by how many they are; all else by one response. What is told
-/// of the ledger is right by what was replied to the session. For each request that is submitted a place is kept for the response to it, so
-/// that a counter that reads nothing holds up nobody but itself.
+/// of the ledger is right by what was replied to the session. For each request that is submitted a
+/// place is kept for the response to it, so that a counter that reads nothing holds up nobody but
+/// itself.
 #[derive(Drop)]
 pub(crate) struct Session {
-    station: u8,
-    // The number of the batch from which on only offices posted.
-    first: u64,
+    own: OwnPostings,
     messages: Consumer<Message>,
     responses: Producer<Response>,
     // What came of what was asked of the station, and of recesses.
@@ -90,20 +89,19 @@ pub(crate) struct Session {
     ghost answered: { ∥ IsAnswering (received messages) (sent responses)
         (entries_of postings.feed.asked) postings.unanswered next search ∥₁ },
     ghost told: { answers_among (sent responses) ≡ map response_of postings.feed.collected },
-    ghost told_by: { AreToldBy (own_postings station first) (sent responses) (received replies) },
+    ghost told_by: { AreToldBy own (sent responses) (received replies) },
     ghost searched: { ∥ HasSearched (received replies) search ∥₁ },
-    ghost looked: { ∥ HasLooked (own_postings station first) limit (received replies) look ∥₁ },
-    ghost far: { ∥ IfSome out_of_sight (λ since. HasSeenLast (own_postings station first)
+    ghost looked: { ∥ HasLooked own limit (received replies) look ∥₁ },
+    ghost far: { ∥ IfSome out_of_sight (λ since. HasSeenLast own
         (2 ^ 64 - 1) (nothing_since since) (received replies)) ∥₁ },
-    ghost learned: { ∥ IsLearned (own_postings station first) (received replies) (sent responses)
+    ghost learned: { ∥ IsLearned own (received replies) (sent responses)
         (entries_of postings.feed.asked) postings.posted earlier ∥₁ },
 }
 
 impl Session {
     /// A counter that has said nothing yet.
     pub(crate) fn new(
-        station: u8,
-        first: u64,
+        own: OwnPostings,
         messages: Consumer<Message>,
         responses: Producer<Response>,
         replies: Consumer<Reply>,
@@ -119,13 +117,10 @@ impl Session {
         requires nothing_collected { feed.collected ≡ [] }
         ensures feed { result.postings.feed ≡ feed }
         ensures room { result.responses ≡ responses }
-        ensures station { result.station ≡ station }
-        ensures first { result.first ≡ first }
-        ensures look { result.look ≡ record { from = first; since = first; posting = None } }
+        ensures own { result.own ≡ own }
     {
         Session {
-            station,
-            first,
+            own,
             messages,
             responses,
             replies,
@@ -136,7 +131,7 @@ impl Session {
             next: None,
             is_asked: false,
             search: Search::of(0),
-            look: Look::starting_at(first),
+            look: Look::starting_at(own.first),
             limit: u64::MAX,
             out_of_sight: None,
             recent,

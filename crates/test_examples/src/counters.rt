@@ -143,7 +143,6 @@ fn north(
     let name = needed(rt, "north".to_owned(alloc));
     let counter = Counter {
         station: 0,
-        since: 0,
         identity: Identity { name, ledger: 42 },
         input: REQUESTS,
         output,
@@ -164,7 +163,16 @@ fn kept<R: Files + Threads + Wait + Clock + Abort + Sync + Send + Clone + Drop +
 ) -> bool {
     let counters = north(rt, alloc, output);
     let clerk = opened(rt, alloc, line);
-    let kept = keep_open(rt, alloc, clerk, counters, Two, moves, Sample { copies: 0 });
+    let kept = keep_open(
+        rt,
+        alloc,
+        clerk,
+        counters,
+        Two,
+        0,
+        moves,
+        Sample { copies: 0 },
+    );
     let (closed, _) = needed_of(rt, kept);
     is_over(&closed, line.stations() as usize, moves)
 }

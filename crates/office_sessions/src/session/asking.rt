@@ -7,7 +7,7 @@ ghost use Rattle.office_sessions.specs.declared.messages.Message.TheVariants.{As
 ghost use Rattle.office_sessions.specs.Conversation.{IsAskedBy, IsCountedBy, EndsCount};
 ghost use Rattle.office_sessions.specs.Replies.{CameLast, IsToldBy, HasSearched, step_of_search};
 ghost use Rattle.office_sessions.specs.Session.{HasPlace, OnlyTells, TellsNothing, KeepsLooking};
-ghost use Rattle.office_sessions.specs.Session.{KeepsLearned, own_of};
+ghost use Rattle.office_sessions.specs.Session.{KeepsLearned};
 
 use crate::recess::{ArchiveState, Wish, WishOutcome};
 use crate::replies::Reply;
@@ -30,7 +30,7 @@ impl Session {
         question: Question,
     ) -> Option<Report>
         requires behind { self.old.postings.unanswered ≡ 0 }
-        requires right { IsAskedBy self.old.next self.old.search self.old.station
+        requires right { IsAskedBy self.old.next self.old.search self.old.own.station
             self.old.look.from question }
         ensures stays { TellsNothing self.old self.new }
         ensures keeps { KeepsLooking self.old self.new }
@@ -39,7 +39,7 @@ impl Session {
     {
         if !self.is_asked {
             self.is_asked = true;
-            scheduler.put_question(rt, self.station, question);
+            scheduler.put_question(rt, self.own.station, question);
             return None;
         }
         match self.next_reply()? {
@@ -158,7 +158,7 @@ impl Session {
         requires next { self.old.next ≡ Some (Asked (Find self.old.search.reference)) }
         requires counted { IsCountedBy self.old.search (Step.Found number) search }
         requires searched { ∥ HasSearched (received self.old.replies) search ∥₁ }
-        requires by { IsToldBy (own_of self.old)
+        requires by { IsToldBy self.old.own
             (Response.Found number self.old.search.reference) (received self.old.replies) }
         ensures stays { OnlyTells self.old self.new }
         ensures goes_on { self.new.next ≡ self.old.next }
@@ -180,7 +180,7 @@ impl Session {
         requires behind { self.old.postings.unanswered ≡ 0 }
         requires next { self.old.next ≡ Some (Asked (Find self.old.search.reference)) }
         requires counted { EndsCount self.old.search.count last }
-        requires by { IsToldBy (own_of self.old) last (received self.old.replies) }
+        requires by { IsToldBy self.old.own last (received self.old.replies) }
         ensures done { IsTrue result }
         ensures stays { OnlyTells self.old self.new }
         ensures handled { self.new.next ≡ None }
@@ -208,7 +208,7 @@ impl Session {
     {
         if !self.is_asked {
             self.is_asked = true;
-            scheduler.call_recess(rt, self.station, wish);
+            scheduler.call_recess(rt, self.own.station, wish);
             return None;
         }
         match self.next_reply()? {
@@ -275,7 +275,7 @@ impl Session {
             return false;
         };
         let (kept, turns) = (scheduler.kept(rt), scheduler.turns());
-        let others = clients.others(self.station);
+        let others = clients.others(self.own.station);
         self.respond(Response::Status(OfficeStatus::new(room, kept, turns, others)))
     }
 }

@@ -23,13 +23,13 @@ impl Session {
         alloc: Global,
     ) -> Result<(Feed, Conversation), AllocError>
         ensures feed { IfOk result (λ both. both.0 ≡ self.postings.feed) }
+        ensures own { IfOk result (λ both. both.1.own ≡ self.own) }
         ensures over { IfOk result (λ both. IsOver both.0 both.1) }
         ensures silent { (0 < self.postings.unanswered) ⊎ (0 < length (pending self.next))
             → IfOk result (λ both. IsToldNoMore (sent self.responses) both.1.told) }
     {
         let Session {
-            station,
-            first,
+            own,
             next,
             messages,
             responses,
@@ -42,8 +42,7 @@ impl Session {
         } = self;
         let unheard = listed(alloc, next)?;
         let mut conversation = Conversation::new(
-            station,
-            first,
+            own,
             messages,
             responses,
             replies,

@@ -1,16 +1,15 @@
 //! How a counter's entries are posted: each reference once.
-ghost use Rattle.std.specs.Prelude.{◌≡◌, ◌≢◌, ◌+◌, ◌^◌, ◌<◌, max, IsTrue, IfSome, IfOk, IfErr, Some};
-ghost use Rattle.std.specs.Prelude.{None, OnOk, IsOkAnd};
+ghost use Rattle.std.specs.Prelude.{◌≡◌, ◌≢◌, ◌+◌, ◌^◌, ◌<◌, max, IsTrue, IfSome, IfOk, IfErr};
+ghost use Rattle.std.specs.Prelude.{Some, None, OnOk, IsOkAnd};
 ghost use Rattle.rtrb.specs.Ring.{received};
 ghost use Rattle.text_grammar.specs.declared.requests.Request.TheVariants.{Post, Last, First};
-ghost use Rattle.station_desk.specs.Rings.{StandsAt};
 ghost use Rattle.office_sessions.specs.declared.messages.Message.TheVariants.{Asked};
 ghost use Rattle.office_sessions.specs.Conversation.{MayLook};
 ghost use Rattle.office_sessions.specs.Looked.{earlier_by};
 ghost use Rattle.office_sessions.specs.Replies.{IsJudgedBy, HasSeenLast, HasSeenAll, FailedLast};
 ghost use Rattle.office_sessions.specs.Replies.{greatest_of};
 ghost use Rattle.office_sessions.specs.Session.{HasPlace, OnlyTells, TellsNothing, KeepsLearned};
-ghost use Rattle.office_sessions.specs.Session.{own_of};
+ghost use Rattle.office_sessions.specs.Session.{StaysAt};
 ghost use Rattle.turn_ledger.specs.Entry.{reference_of};
 
 use crate::look::{Look, LookAnswer, farther, judge};
@@ -31,7 +30,7 @@ impl Session {
     pub(super) fn post<R: Wait>(&mut self, rt: &R, scheduler: &Scheduler, entry: Entry) -> bool
         requires place { HasPlace self.old }
         requires next { self.old.next ≡ Some (Asked (Post entry)) }
-        ensures feed { StandsAt self.old.postings.feed self.new.postings.feed }
+        ensures stands { StaysAt self.old self.new }
         ensures handled { IsTrue result → self.new.next ≡ None }
     {
         if entry.reference() > 0 && self.earlier != Earlier::Known {
@@ -44,7 +43,7 @@ impl Session {
     fn post_first<R: Wait>(&mut self, rt: &R, scheduler: &Scheduler, entry: Entry) -> bool
         requires place { HasPlace self.old }
         requires next { self.old.next ≡ Some (Asked (Post entry)) }
-        ensures feed { StandsAt self.old.postings.feed self.new.postings.feed }
+        ensures stands { StaysAt self.old self.new }
         ensures handled { IsTrue result → self.new.next ≡ None }
     {
         if self.postings.unanswered > 0 {
@@ -69,7 +68,7 @@ impl Session {
         requires known { 0 < reference_of entry → self.old.earlier ≡ Earlier.Known }
         requires place { HasPlace self.old }
         requires next { self.old.next ≡ Some (Asked (Post entry)) }
-        ensures feed { StandsAt self.old.postings.feed self.new.postings.feed }
+        ensures stands { StaysAt self.old self.new }
         ensures handled { IsTrue result → self.new.next ≡ None }
     {
         match self.hand_in(scheduler, entry) {
@@ -89,7 +88,7 @@ impl Session {
         requires known { 0 < reference_of entry → self.old.earlier ≡ Earlier.Known }
         requires place { HasPlace self.old }
         requires next { self.old.next ≡ Some (Asked (Post entry)) }
-        ensures feed { StandsAt self.old.postings.feed self.new.postings.feed }
+        ensures stands { StaysAt self.old self.new }
         ensures submitted { result ≡ Submission.Submitted → self.new.next ≡ None }
         ensures next { result ≢ Submission.Submitted → self.new.next ≡ self.old.next }
         ensures room { self.new.responses ≡ self.old.responses }
@@ -116,6 +115,7 @@ impl Session {
         requires place { HasPlace self.old }
         requires behind { self.old.postings.unanswered ≡ 0 }
         requires next { self.old.next ≡ Some (Asked (Post entry)) }
+        ensures own { self.new.own ≡ self.old.own }
         ensures feed { self.new.postings.feed ≡ self.old.postings.feed }
         ensures handled { IsTrue result → self.new.next ≡ None }
     {
@@ -132,9 +132,10 @@ impl Session {
         requires place { HasPlace self.old }
         requires behind { self.old.postings.unanswered ≡ 0 }
         requires next { self.old.next ≡ Some (Asked (Post entry)) }
-        requires by { ∥ IsJudgedBy (own_of self.old) entry judgement
+        requires by { ∥ IsJudgedBy self.old.own entry judgement
             (received self.old.replies) ∥₁ }
         ensures told { IsTrue result }
+        ensures own { self.new.own ≡ self.old.own }
         ensures feed { self.new.postings.feed ≡ self.old.postings.feed }
         ensures next { self.new.next ≡ None }
     {
@@ -155,25 +156,25 @@ impl Session {
         limit: u64,
     ) -> Option<Result<LookAnswer, FindRefusal>>
         requires behind { self.old.postings.unanswered ≡ 0 }
-        requires right { MayLook self.old.next self.old.station limit }
+        requires right { MayLook self.old.next self.old.own.station limit }
         ensures stays { TellsNothing self.old self.new }
         ensures learns { KeepsLearned self.old self.new }
         ensures seen { IfSome result (λ told. IfOk told (λ seen.
-            HasSeenLast (own_of self.old) limit seen (received self.new.replies))) }
+            HasSeenLast self.old.own limit seen (received self.new.replies))) }
         ensures failed { IfSome result (λ told. IfErr told (λ refusal.
             FailedLast refusal (received self.new.replies))) }
     {
         self.look_up_to(limit);
-        let question = self.look.question(self.station, self.limit);
+        let question = self.look.question(self.own.station, self.limit);
         let Some(Report::Searched(step)) = self.report(rt, scheduler, question) else {
             return None;
         };
         let seen = self.look.go_on(step);
         if seen.is_some() {
-            self.look = Look::starting_at(self.first);
+            self.look = Look::starting_at(self.own.first);
             return seen;
         }
-        let question = self.look.question(self.station, self.limit);
+        let question = self.look.question(self.own.station, self.limit);
         let _ = self.report(rt, scheduler, question);
         None
     }
@@ -187,7 +188,7 @@ impl Session {
     {
         if self.limit != limit {
             self.limit = limit;
-            self.look = Look::starting_at(self.first);
+            self.look = Look::starting_at(self.own.first);
         }
     }
 
@@ -199,10 +200,8 @@ impl Session {
         scheduler: &Scheduler,
     ) -> Option<Result<(), FindRefusal>>
         requires behind { self.old.postings.unanswered ≡ 0 }
-        requires right { MayLook self.old.next self.old.station u64.MAX }
+        requires right { MayLook self.old.next self.old.own.station u64.MAX }
         ensures stays { TellsNothing self.old self.new }
-        ensures station { self.new.station ≡ self.old.station }
-        ensures first { self.new.first ≡ self.old.first }
         ensures looked { IfSome result (λ told. OnOk told (self.new.earlier ≢ Earlier.Unlooked)) }
         ensures failed { IfSome result (λ told. IfErr told (λ refusal.
             FailedLast refusal (received self.new.replies))) }
@@ -227,13 +226,11 @@ impl Session {
         scheduler: &Scheduler,
     ) -> Option<Result<LookAnswer, FindRefusal>>
         requires behind { self.old.postings.unanswered ≡ 0 }
-        requires right { MayLook self.old.next self.old.station u64.MAX }
+        requires right { MayLook self.old.next self.old.own.station u64.MAX }
         ensures stays { TellsNothing self.old self.new }
-        ensures station { self.new.station ≡ self.old.station }
-        ensures first { self.new.first ≡ self.old.first }
         ensures earlier { self.new.earlier ≡ self.old.earlier }
         ensures seen { IfSome result (λ told. IfOk told (λ seen.
-            ∥ HasSeenAll (own_of self.old) seen (received self.new.replies) ∥₁)) }
+            ∥ HasSeenAll self.old.own seen (received self.new.replies) ∥₁)) }
         ensures failed { IfSome result (λ told. IfErr told (λ refusal.
             FailedLast refusal (received self.new.replies))) }
     {
@@ -258,11 +255,9 @@ impl Session {
     ) -> Option<Result<LookAnswer, FindRefusal>>
         requires behind { self.old.postings.unanswered ≡ 0 }
         ensures stays { TellsNothing self.old self.new }
-        ensures station { self.new.station ≡ self.old.station }
-        ensures first { self.new.first ≡ self.old.first }
         ensures earlier { self.new.earlier ≡ self.old.earlier }
         ensures seen { IfSome result (λ told. IsOkAnd told (λ seen.
-            ∥ HasSeenAll (own_of self.old) seen (received self.new.replies) ∥₁)) }
+            ∥ HasSeenAll self.old.own seen (received self.new.replies) ∥₁)) }
     {
         let since = self.out_of_sight?;
         let WishOutcome::Last(in_archive) = self.what_came(rt, scheduler, Wish::Last)? else {
@@ -273,9 +268,7 @@ impl Session {
 
     // Learns which reference was posted last.
     fn learn(&mut self, seen: LookAnswer)
-        requires seen { ∥ HasSeenAll (own_of self.old) seen (received self.old.replies) ∥₁ }
-        ensures station { self.new.station ≡ self.old.station }
-        ensures first { self.new.first ≡ self.old.first }
+        requires seen { ∥ HasSeenAll self.old.own seen (received self.old.replies) ∥₁ }
         ensures heard { self.new.replies ≡ self.old.replies }
         ensures learned { self.old.earlier ≡ Earlier.Unlooked → self.new.earlier ≡ earlier_by seen }
         ensures known { self.new.earlier ≢ Earlier.Unlooked }

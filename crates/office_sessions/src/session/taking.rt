@@ -2,11 +2,10 @@
 ghost use Rattle.std.specs.Prelude.{◌≡◌, [], ◌∷◌, ◌++◌, false, IsTrue, IsSomeAnd, Some, None};
 ghost use Rattle.rtrb.specs.Ring.{sent, received};
 ghost use Rattle.text_grammar.specs.declared.requests.Request.TheVariants.{Close};
-ghost use Rattle.station_desk.specs.Rings.{StandsAt};
 ghost use Rattle.office_sessions.specs.declared.messages.Message.TheVariants.{Asked, Ended};
 ghost use Rattle.office_sessions.specs.Conversation.{is_answer, IsResponseTo};
 ghost use Rattle.office_sessions.specs.Replies.{IsToldBy};
-ghost use Rattle.office_sessions.specs.Session.{HasPlace, OnlyTells, KeepsLooking, own_of};
+ghost use Rattle.office_sessions.specs.Session.{HasPlace, OnlyTells, KeepsLooking, StaysAt};
 
 use crate::messages::Message;
 use crate::responses::Response;
@@ -25,7 +24,7 @@ impl Session {
         scheduler: &Scheduler,
         clients: &mut C,
     )
-        ensures { StandsAt self.old.postings.feed self.new.postings.feed }
+        ensures { StaysAt self.old self.new }
     {
         self.collect();
         self.take_messages(rt, scheduler, clients);
@@ -33,7 +32,7 @@ impl Session {
 
     // Hands on the answers that have come.
     fn collect(&mut self)
-        ensures { StandsAt self.old.postings.feed self.new.postings.feed }
+        ensures { StaysAt self.old self.new }
     {
         for _ in 0..CAPACITY {
             let Some(answer) = self.postings.collect() else {
@@ -48,7 +47,7 @@ impl Session {
 
     // Takes what the counter has said, one message after another.
     fn take_messages<R: Wait, C: Clients>(&mut self, rt: &R, scheduler: &Scheduler, clients: &mut C)
-        ensures { StandsAt self.old.postings.feed self.new.postings.feed }
+        ensures { StaysAt self.old self.new }
     {
         for _ in 0..CAPACITY {
             if !self.take_next(rt, scheduler, clients) {
@@ -64,7 +63,7 @@ impl Session {
         scheduler: &Scheduler,
         clients: &mut C,
     ) -> bool
-        ensures { StandsAt self.old.postings.feed self.new.postings.feed }
+        ensures { StaysAt self.old self.new }
     {
         if self.responses.slots() <= self.postings.unanswered {
             return false;
@@ -78,6 +77,7 @@ impl Session {
     // What is handled next. Of an office that closes nothing more is taken.
     fn next_message(&mut self, scheduler: &Scheduler) -> Option<Message>
         ensures next { result ≡ self.new.next }
+        ensures own { self.new.own ≡ self.old.own }
         ensures feed { self.new.postings.feed ≡ self.old.postings.feed }
         ensures room { self.new.responses ≡ self.old.responses }
         ensures unanswered { self.new.postings.unanswered ≡ self.old.postings.unanswered }
@@ -92,6 +92,7 @@ impl Session {
     // The next message that the counter's reader has handed on, if there is one.
     fn pull(&mut self)
         requires none { self.old.next ≡ None }
+        ensures own { self.new.own ≡ self.old.own }
         ensures feed { self.new.postings.feed ≡ self.old.postings.feed }
         ensures room { self.new.responses ≡ self.old.responses }
         ensures unanswered { self.new.postings.unanswered ≡ self.old.postings.unanswered }
@@ -112,7 +113,7 @@ impl Session {
     ) -> bool
         requires place { HasPlace self.old }
         requires next { self.old.next ≡ Some message }
-        ensures feed { StandsAt self.old.postings.feed self.new.postings.feed }
+        ensures stands { StaysAt self.old self.new }
         ensures handled { IsTrue result → self.new.next ≡ None }
     {
         match message {
@@ -177,7 +178,7 @@ impl Session {
         requires behind { self.old.postings.unanswered ≡ 0 }
         requires other { is_answer response ≡ false }
         requires right { IsSomeAnd self.old.next (λ message. IsResponseTo message response) }
-        requires by { ∥ IsToldBy (own_of self.old) response (received self.old.replies) ∥₁ }
+        requires by { ∥ IsToldBy self.old.own response (received self.old.replies) ∥₁ }
         ensures done { IsTrue result }
         ensures handled { self.new.next ≡ None }
         ensures stays { OnlyTells self.old self.new }

@@ -1,4 +1,4 @@
-use Rattle.std.proofs.Common.{◌≡◌, ◌∙◌, List, [], ◌∷◌, ◌++◌, map, sym, subst}
+use Rattle.std.proofs.Common.{◌≡◌, ◌∙◌, List, [], ◌∷◌, ◌++◌, map, sym, ap, subst}
 use Rattle.std.specs.List.{AllZip}
 use Rattle.std.proofs.lemmas.List.{map-append}
 use Rattle.station_desk.specs.Rings.{FeedState}
@@ -6,6 +6,7 @@ use Rattle.office_day.proofs.Lists.{AllZip-more}
 use Rattle.office_sessions.specs.declared.session.Session.{Session}
 use Rattle.office_sessions.specs.Conversation.{ConversationState}
 use Rattle.office_sessions.specs.Over.{IsOver}
+use Rattle.office_sessions.specs.Session.{own_of}
 use Rattle.office_sessions.proofs.open_office.all_ended.Goals as goal
 
 pub loop-session-preserved : goal.loop-session-preserved
@@ -28,4 +29,9 @@ loop-session-preserved g c =
           AllZip IsOver l (at.conversations.items ++ conversation ∷ [])) more
           (AllZip-more IsOver (map feed_of at.yielded) at.conversations.items
           c.in-Some.session.postings.feed conversation at.invariant.1 over)),
+      ap (map (λ (c : ConversationState). c.own)) c.in_ok-push-2.ensures.items
+          ∙ map-append (λ (c : ConversationState). c.own) at.conversations.items
+          (conversation ∷ [])
+          ∙ (λ i. at.invariant.2 i ++ c.in_ok-feed.ensures.own i ∷ [])
+          ∙ sym (map-append own_of at.yielded (c.in-Some.session ∷ [])),
     )

@@ -8,6 +8,7 @@ use Rattle.office_day.proofs.SpanLaws.{abandoned, kept_open, left_together}
 use Rattle.office_sessions.specs.Kept.{HandsBack, stands_with}
 use Rattle.office_sessions.specs.Conversation.{ConversationState}
 use Rattle.office_sessions.specs.Over.{IsOver}
+use Rattle.office_sessions.specs.Session.{own_of_all}
 use Rattle.office_sessions.proofs.Heard.{kept_for, left_open}
 use Rattle.office_sessions.specs.declared.session.Session.{Session}
 use Rattle.office_sessions.proofs.open_office.keep_open.Goals as goal
@@ -25,7 +26,7 @@ settled-requires g c =
           (sym c.in-Ok-ended.ensures.feeds)
           (left_together _ _ (feeds c.in-Ok.begun.dispatcher.promise.0.value.items)
           (feeds c.join.result.items) c.in-Ok.begun.desks.items life.left.items
-          c.in-Ok.ensures.together c.join.ensures lived.left);
+          c.in-Ok.ensures.together c.join.ensures.rings lived.left);
     }
 
 pub returns-in-Ok-settled-clause-kept : goal.returns-in-Ok-settled-clause-kept
@@ -45,7 +46,7 @@ returns-in-Ok-settled-clause-kept g c =
     let many = c.in-Ok.ensures.as_many ∙ c.stations-stations.ensures.count
     ∙ ap stations c.line.ensures in
     let fed : length new ≡ length begun.desks.items =
-    ap length are ∙ c.join.ensures.as_many
+    ap length are ∙ c.join.ensures.rings.as_many
     ∙ sym (AllZip-long AreTogether old begun.desks.items c.in-Ok.ensures.together) in
     let over : AllZip IsOver new closed.conversations.items =
     subst (λ (l : List ConversationState). AllZip IsOver new l) (sym told.conversations)
@@ -58,10 +59,14 @@ returns-in-Ok-settled-clause-kept g c =
     HasLived g.D.Device.state c.args.moves (Unit {0})
     (adjourned_to c.args.clerk begun.desks.items) span life.left.items before after) last lived)
     c.in-Ok.ensures.fresh many (fed ∙ many) told.stations in
-    kept_for g.D.Device.state c.args.moves (rest_of c.args.clerk)
+    let own = ap (map (λ (k : ConversationState). k.own)) told.conversations
+    ∙ c.in-Ok-ended.ensures.own ∙ c.join.ensures.own ∙ c.in-Ok.ensures.own
+    ∙ ap (own_of_all c.args.first)
+    (c.stations-stations.ensures.count ∙ ap stations c.line.ensures) in
+    kept_for g.D.Device.state c.args.moves c.args.first (rest_of c.args.clerk)
     (span_of closed.clerk closed.audit) begun.desks.items life.left.items new
     closed.stations.items closed.conversations.items
-    before after kept many (fed ∙ many) over told.stations
+    before after kept many (fed ∙ many) over told.stations own
 
 pub returns-in-Err-life-clause-left : goal.returns-in-Err-life-clause-left
 returns-in-Err-life-clause-left g c =

@@ -1,4 +1,6 @@
-use Rattle.std.proofs.Common.{◌≡◌, ◌+◌, ◌∙◌, List, [], ◌∷◌, ◌++◌, All, length, map, sym, ap, subst}
+use Rattle.std.specs.Prelude.{suc}
+use Rattle.std.proofs.Common.{◌≡◌, ◌+◌, ◌∙◌, List, [], ◌∷◌, ◌++◌, All, length, map, sym, ap}
+use Rattle.std.proofs.Common.{subst, arith}
 use Rattle.std.specs.List.{AllZip}
 use Rattle.std.proofs.lemmas.List.{length-append, map-append}
 use Rattle.std.proofs.lemmas.List.Elements.{All-push}
@@ -6,6 +8,7 @@ use Rattle.station_desk.specs.Rings.{FeedState, DeskState, AreTogether}
 use Rattle.office_day.specs.HandedIn.{IsFresh}
 use Rattle.office_day.proofs.Lists.{AllZip-more}
 use Rattle.office_sessions.specs.declared.session.Session.{Session}
+use Rattle.office_sessions.specs.Session.{own_of, own_of_all}
 use Rattle.office_sessions.proofs.opening.seat_all.Goals as goal
 
 pub loop-station-preserved : goal.loop-station-preserved
@@ -23,6 +26,7 @@ loop-station-preserved g c =
     c.in_ok-add.ensures.desks in
     let near : AreTogether session.postings.feed desk =
     subst (λ (f : FeedState). AreTogether f desk) (sym own) c.in_ok-feed.ensures.together in
+    let counted : suc at.station ≡ at.station + 1 = omega arith in
     record {
       together = subst (λ (l : List FeedState). AllZip AreTogether l c.add.new.self.desks.items)
           (sym feeds)
@@ -36,4 +40,8 @@ loop-station-preserved g c =
           (ap (λ (d : DeskState). d.given) c.in_ok-feed.ensures.desk));
       many = ap length desks ∙ length-append at.all.desks.items (desk ∷ [])
           ∙ ap (λ n. n + 1) at.invariant.many;
+      own = ap (map own_of) c.in_ok-add.ensures.sessions
+          ∙ map-append own_of at.all.sessions.items (session ∷ [])
+          ∙ (λ i. at.invariant.own i ++ c.in_ok-session.ensures.own i ∷ [])
+          ∙ ap (own_of_all c.args.first) counted;
     }

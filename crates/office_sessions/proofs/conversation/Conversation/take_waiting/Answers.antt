@@ -8,6 +8,7 @@ pub loop-preserved : goal.loop-preserved
 loop-preserved c =
     let was = c.loop.invariant in
     record {
+      own = c.refuse.ensures.own ∙ ap (λ (k : ConversationState). k.own) c.self.view_is ∙ was.own;
       ends = λ feed before.
           c.refuse.ensures.ends feed
           (ending-said feed _ c.in-Ok.message _ _ c.in-Ok.ensures.ok.0 c.in_ok-list.ensures

@@ -14,7 +14,7 @@ returns-clause-over c =
     λ k. IsOver feed (record k { is_silent = true }) in
     subst is-over (sym c.self-2.view_is)
     (elim c.if-not-self.branch [
-      then-not-self w ↦ subst is-over (sym w.self-is)
+      | then-not-self w ↦ subst is-over (sym w.self-is)
           (over-either feed c.args.self.now w.hand_on.new.self w.hand_on.result
           w.hand_on.ensures.told w.hand_on.ensures.untold ending)
       | else-not-self w ↦ subst is-over (sym w.self-is) (over-told feed c.args.self.now ending)

@@ -9,7 +9,6 @@ use Rattle.office_sessions.specs.Conversation.{response_of}
 use Rattle.office_sessions.specs.Replies.{IsLearned}
 use Rattle.office_sessions.specs.declared.responses.Response.TheVariants as response
 use Rattle.office_sessions.specs.declared.session.Earlier.TheVariants as earlier
-use Rattle.office_sessions.specs.Session.{own_of}
 use Rattle.office_sessions.proofs.Exchanges.{answering-still}
 use Rattle.office_sessions.proofs.ToldBy.{among-last, first-learned, learned-first}
 use Rattle.office_sessions.proofs.ToldBy.{looked-learned}
@@ -23,7 +22,7 @@ respond-told-requires-clause-by g c =
     (c.look_back.new.self.earlier ≢ earlier.Unlooked))
     c.in-Some-Ok.field-0-is c.in-Some-Ok.ensures.looked in
     ∥∥₁_map mid.learned
-    (first-learned (own_of mid) (received mid.replies) (sent mid.responses)
+    (first-learned mid.own (received mid.replies) (sent mid.responses)
     (entries_of mid.postings.feed.asked) mid.postings.posted mid.earlier c.args.reference
     looked
     (omega (arith, c.if-reference-greatest.false, c.greatest.ensures)))
@@ -37,7 +36,7 @@ respond-requires-then-reference-greatest-clause-by g c =
     (c.look_back.new.self.earlier ≢ earlier.Unlooked))
     c.in-Some-Ok.field-0-is c.in-Some-Ok.ensures.looked in
     ∥∥₁_map mid.learned
-    (looked-learned (own_of mid) (received mid.replies) (sent mid.responses)
+    (looked-learned mid.own (received mid.replies) (sent mid.responses)
     (entries_of mid.postings.feed.asked) mid.postings.posted mid.earlier looked)
 
 pub invariant_of-self-clause-learned : goal.invariant_of-self-clause-learned
@@ -49,11 +48,11 @@ invariant_of-self-clause-learned g c =
     (λ (told : Result (Unit {0}) FindRefusal). OnOk told
     (c.look_back.new.self.earlier ≢ earlier.Unlooked))
     c.in-Some-Ok.field-0-is c.in-Some-Ok.ensures.looked in
-    subst (λ (feed : FeedState). ∥ IsLearned (own_of mid) (received mid.replies)
+    subst (λ (feed : FeedState). ∥ IsLearned mid.own (received mid.replies)
     (sent mid.responses) (entries_of feed.asked) posted earlier.Known ∥₁)
     (sym c.raise.ensures.feed)
     (∥∥₁_map mid.learned
-    (learned-first (own_of mid) (received mid.replies) (sent mid.responses)
+    (learned-first mid.own (received mid.replies) (sent mid.responses)
     (entries_of mid.postings.feed.asked) mid.postings.posted posted mid.earlier c.args.reference
     (λ unlooked. looked (sym c.respond-told.ensures.keeps.learned.earlier ∙ unlooked))
     (omega (arith, c.raise.ensures.greatest))

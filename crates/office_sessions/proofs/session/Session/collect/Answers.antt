@@ -8,7 +8,6 @@ use Rattle.office_sessions.specs.Conversation.{is_answer, response_of}
 use Rattle.office_sessions.specs.Exchange.{IsAnswering}
 use Rattle.station_desk.specs.declared.messages.Ask.{Ask}
 use Rattle.office_sessions.specs.Replies.{IsToldBy, IsLearned}
-use Rattle.office_sessions.specs.Session.{own_of}
 use Rattle.office_sessions.proofs.Exchanges.{answering-collected, answering-still}
 use Rattle.office_sessions.proofs.Exchanges.{an-answer, more-answers}
 use Rattle.office_sessions.proofs.ToldBy.{told-more, learned-told, learned-raised, told-answer}
@@ -36,11 +35,11 @@ invariant_of-self-in-loop-clause-told c =
 pub invariant_of-self-in-loop-clause-told_by : goal.invariant_of-self-in-loop-clause-told_by
 invariant_of-self-in-loop-clause-told_by c =
     let old = c.loop.self in
-    told-more (own_of old) (sent old.responses) (received old.replies) c.from-response.result
+    told-more old.own (sent old.responses) (received old.replies) c.from-response.result
     c.push_reserved.ensures.sent.0
-    ∣ subst (λ (one : Response). IsToldBy (own_of old) one (received old.replies))
+    ∣ subst (λ (one : Response). IsToldBy old.own one (received old.replies))
     (sym c.from-response.ensures)
-    (told-answer (own_of old) (received old.replies) c.in-Some.answer) ∣₁
+    (told-answer old.own (received old.replies) c.in-Some.answer) ∣₁
     old.told_by
 
 pub invariant_of-self-in-loop-clause-learned : goal.invariant_of-self-in-loop-clause-learned
@@ -50,11 +49,11 @@ invariant_of-self-in-loop-clause-learned c =
     let heard = received old.replies in
     let entries = entries_of old.postings.feed.asked in
     ∥∥₁_map old.learned (λ so.
-    subst (λ (asked : List Ask). IsLearned (own_of old) heard (sent c.push_reserved.new.self)
+    subst (λ (asked : List Ask). IsLearned old.own heard (sent c.push_reserved.new.self)
     (entries_of asked) new.posted old.earlier) (sym c.collect.ensures.asked)
-    (learned-told (own_of old) heard (sent old.responses) c.from-response.result entries new.posted
+    (learned-told old.own heard (sent old.responses) c.from-response.result entries new.posted
     old.earlier c.push_reserved.ensures.sent.0
-    (learned-raised (own_of old) heard (sent old.responses) entries old.postings.posted new.posted
+    (learned-raised old.own heard (sent old.responses) entries old.postings.posted new.posted
     old.earlier c.collect.ensures.never_falls so)))
 
 pub invariant_of-self-clause-learned : goal.invariant_of-self-clause-learned
@@ -63,9 +62,9 @@ invariant_of-self-clause-learned c =
     let new = c.collect.new.self in
     let heard = received old.replies in
     ∥∥₁_map old.learned (λ so.
-    subst (λ (asked : List Ask). IsLearned (own_of old) heard (sent old.responses)
+    subst (λ (asked : List Ask). IsLearned old.own heard (sent old.responses)
     (entries_of asked) new.posted old.earlier) (sym c.collect.ensures.asked)
-    (learned-raised (own_of old) heard (sent old.responses) (entries_of old.postings.feed.asked)
+    (learned-raised old.own heard (sent old.responses) (entries_of old.postings.feed.asked)
     old.postings.posted new.posted old.earlier c.collect.ensures.never_falls so))
 
 pub invariant_of-self-clause-answered : goal.invariant_of-self-clause-answered

@@ -6,7 +6,6 @@ use Rattle.station_desk.specs.Rings.{FeedState}
 use Rattle.office_sessions.specs.Rising.{AreAbove}
 use Rattle.office_sessions.specs.Exchange.{one_of}
 use Rattle.office_sessions.specs.Over.{IsOver, IsEnding}
-use Rattle.office_sessions.specs.Session.{own_of}
 use Rattle.office_sessions.proofs.LateExchanges.{ending-begins, never-both}
 use Rattle.office_sessions.proofs.ToldBy.{rise-learned}
 use Rattle.office_sessions.proofs.session.Session.end.Goals.{then-is_told_closing}
@@ -28,7 +27,7 @@ returns-clause-over g c =
             rest = λ _. left.2;
             waiting = λ is. left.3
                 (elim c.if-is_told_closing.branch [
-                  then-is_told_closing w ↦ absurd
+                  | then-is_told_closing w ↦ absurd
                       (never-both (sym w.if-is_told_closing.true ∙ sym w.new-is ∙ is.0))
                   | else-is_told_closing w ↦ let both = sym w.new-is ∙ is.0 in search rules
                 ]);
@@ -38,7 +37,7 @@ returns-clause-over g c =
       follows = record {
         right = old.told_by;
         rise = ∥∥₁_map old.learned
-            (rise-learned (own_of old) (received old.replies) (sent old.responses)
+            (rise-learned old.own (received old.replies) (sent old.responses)
             (entries_of feed.asked) old.postings.posted old.earlier);
       };
     }) in

@@ -5,7 +5,6 @@ use Rattle.rtrb.specs.Ring.{sent, received}
 use Rattle.station_desk.specs.Messages.{entries_of}
 use Rattle.office_sessions.specs.declared.messages.Message.{Message}
 use Rattle.office_sessions.specs.Exchange.{IsAnswering}
-use Rattle.office_sessions.specs.Session.{own_of}
 use Rattle.office_sessions.proofs.Exchanges.{answering-searched, answering-still, other-answers}
 use Rattle.office_sessions.proofs.Exchanges.{no-answer}
 use Rattle.office_sessions.proofs.ToldBy.{told-more, learned-told}
@@ -17,7 +16,7 @@ invariant_of-self-clause-answered c =
     answering-still refl c.requires.behind
     (∥∥₁_map old.answered (λ was.
     answering-searched old.search c.of-self.result c.args.last c.push_reserved.ensures.sent.0
-    c.requires.counted c.of-self.ensures.count
+    c.requires.counted c.of-self.ensures.fresh
     (subst (λ (next : Option Message). IsAnswering (received old.messages) (sent old.responses)
     (entries_of old.postings.feed.asked) 0 next old.search) c.requires.next
     (subst (λ (unanswered : ℕ). IsAnswering (received old.messages) (sent old.responses)
@@ -32,7 +31,7 @@ invariant_of-self-clause-told c =
 pub invariant_of-self-clause-told_by : goal.invariant_of-self-clause-told_by
 invariant_of-self-clause-told_by c =
     let old = c.args.self.now in
-    told-more (own_of old) (sent old.responses) (received old.replies) c.args.last
+    told-more old.own (sent old.responses) (received old.replies) c.args.last
     c.push_reserved.ensures.sent.0 ∣ c.requires.by ∣₁ old.told_by
 
 pub invariant_of-self-clause-searched : goal.invariant_of-self-clause-searched
@@ -42,6 +41,6 @@ pub invariant_of-self-clause-learned : goal.invariant_of-self-clause-learned
 invariant_of-self-clause-learned c =
     let old = c.args.self.now in
     ∥∥₁_map old.learned
-    (learned-told (own_of old) (received old.replies) (sent old.responses) c.args.last
+    (learned-told old.own (received old.replies) (sent old.responses) c.args.last
     (entries_of old.postings.feed.asked) old.postings.posted old.earlier
     c.push_reserved.ensures.sent.0)

@@ -10,7 +10,6 @@ use Rattle.office_sessions.specs.declared.postings.Submission.TheVariants as sub
 use Rattle.office_sessions.specs.Conversation.{response_of}
 use Rattle.office_sessions.specs.Exchange.{IsAnswering}
 use Rattle.office_sessions.specs.Replies.{IsLearned}
-use Rattle.office_sessions.specs.Session.{own_of}
 use Rattle.office_sessions.proofs.Exchanges.{answering-submitted, answering-still}
 use Rattle.office_sessions.proofs.ToldBy.{learned-asked}
 use Rattle.office_sessions.proofs.session.Session.hand_in.Goals as goal
@@ -36,9 +35,9 @@ invariant_of-self-clause-learned c =
     let heard = received old.replies in
     let told = sent old.responses in
     ∥∥₁_map old.learned (λ so.
-    subst (λ (posted : ℕ). IsLearned (own_of old) heard told (entries_of new.feed.asked) posted
+    subst (λ (posted : ℕ). IsLearned old.own heard told (entries_of new.feed.asked) posted
     old.earlier) (sym c.submit-submission.ensures.posted)
-    (learned-asked (own_of old) heard told (entries_of old.postings.feed.asked)
+    (learned-asked old.own heard told (entries_of old.postings.feed.asked)
     old.postings.posted old.earlier c.args.entry
     (c.submit-submission.ensures.submitted c.in-Submitted.is).0 c.requires.known
     (c.submit-submission.ensures.is_above (λ not. let is = c.in-Submitted.is in absurd (cc))) so))
@@ -71,8 +70,8 @@ invariant_of-self-in-NoPlace-clause-learned c =
     let old = c.args.self.now in
     let heard = received old.replies in
     let told = sent old.responses in
-    subst (λ (posted : ℕ). ∥ IsLearned (own_of old) heard told
+    subst (λ (posted : ℕ). ∥ IsLearned old.own heard told
     (entries_of c.submit-submission.new.self.feed.asked) posted old.earlier ∥₁)
     (sym c.submit-submission.ensures.posted)
-    (subst (λ (feed : FeedState). ∥ IsLearned (own_of old) heard told (entries_of feed.asked)
+    (subst (λ (feed : FeedState). ∥ IsLearned old.own heard told (entries_of feed.asked)
     old.postings.posted old.earlier ∥₁) (sym (same c)) old.learned)

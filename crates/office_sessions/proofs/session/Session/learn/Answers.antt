@@ -8,7 +8,6 @@ use Rattle.office_sessions.specs.Conversation.{response_of}
 use Rattle.office_sessions.specs.Looked.{earlier_by}
 use Rattle.office_sessions.specs.Replies.{HasSeenAll, IsLearned}
 use Rattle.office_sessions.specs.declared.session.Earlier.{Earlier}
-use Rattle.office_sessions.specs.Session.{own_of}
 use Rattle.office_sessions.proofs.Exchanges.{answering-still}
 use Rattle.office_sessions.proofs.ToldBy.{once-now, learned-seen, learned-raised, within-more}
 use Rattle.office_sessions.proofs.session.Session.learn.Goals as goal
@@ -20,28 +19,29 @@ invariant_of-self-clause-learned c =
     let heard = received old.replies in
     let told = sent old.responses in
     let posted = c.raise.new.self.posted in
-    subst (λ (known : Earlier). ∥ IsLearned (own_of old) heard told
+    subst (λ (known : Earlier). ∥ IsLearned old.own heard told
     (entries_of c.raise.new.self.feed.asked) posted known ∥₁) (sym c.by-self.ensures.by)
-    (subst (λ (feed : FeedState). ∥ IsLearned (own_of old) heard told (entries_of feed.asked) posted
+    (subst (λ (feed : FeedState). ∥ IsLearned old.own heard told (entries_of feed.asked) posted
     (earlier_by seen) ∥₁) (sym c.raise.ensures.feed)
     (∥∥₁_elim c.requires.seen squash₁ (λ looked. ∥∥₁_map old.learned (λ so.
-    learned-seen (own_of old) heard told (entries_of old.postings.feed.asked) posted seen
-    (subst (λ (known : Earlier). IsLearned (own_of old) heard told
+    learned-seen old.own heard told (entries_of old.postings.feed.asked) posted seen
+    (subst (λ (known : Earlier). IsLearned old.own heard told
     (entries_of old.postings.feed.asked) old.postings.posted known) c.in-Unlooked.is so)
-    (once-now (HasSeenAll (own_of old) seen) heard looked)
+    (once-now (HasSeenAll old.own seen) heard looked)
     (within-more seen.posting c.greatest.result posted
     (omega (arith, c.raise.ensures.greatest)) c.greatest.ensures.within)))))
 
-pub invariant_of-self-in-OutOfSight-clause-learned : goal.invariant_of-self-in-OutOfSight-clause-learned
+pub invariant_of-self-in-OutOfSight-clause-learned :
+    goal.invariant_of-self-in-OutOfSight-clause-learned
 invariant_of-self-in-OutOfSight-clause-learned c =
     let old = c.args.self.now in
     let heard = received old.replies in
     let told = sent old.responses in
     let posted = c.raise.new.self.posted in
-    subst (λ (feed : FeedState). ∥ IsLearned (own_of old) heard told (entries_of feed.asked) posted
+    subst (λ (feed : FeedState). ∥ IsLearned old.own heard told (entries_of feed.asked) posted
     old.earlier ∥₁) (sym c.raise.ensures.feed)
     (∥∥₁_map old.learned
-    (learned-raised (own_of old) heard told (entries_of old.postings.feed.asked)
+    (learned-raised old.own heard told (entries_of old.postings.feed.asked)
     old.postings.posted posted old.earlier (omega (arith, c.raise.ensures.greatest))))
 
 pub invariant_of-self-clause-answered : goal.invariant_of-self-clause-answered
@@ -54,7 +54,8 @@ invariant_of-self-clause-told c =
     c.args.self.now.told
     ∙ ap (λ (feed : FeedState). map response_of feed.collected) (sym c.raise.ensures.feed)
 
-pub invariant_of-self-in-OutOfSight-clause-answered : goal.invariant_of-self-in-OutOfSight-clause-answered
+pub invariant_of-self-in-OutOfSight-clause-answered :
+    goal.invariant_of-self-in-OutOfSight-clause-answered
 invariant_of-self-in-OutOfSight-clause-answered c =
     answering-still (ap (λ (feed : FeedState). entries_of feed.asked) c.raise.ensures.feed)
     c.raise.ensures.unanswered c.args.self.now.answered

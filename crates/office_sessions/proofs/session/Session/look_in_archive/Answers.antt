@@ -5,7 +5,6 @@ use Rattle.rtrb.specs.Ring.{received}
 use Rattle.office_sessions.specs.Replies.{HasSeenLast, nothing_since, in_archive}
 use Rattle.office_sessions.specs.declared.recess.WishOutcome.{WishOutcome}
 use Rattle.office_sessions.specs.declared.replies.Reply.TheVariants as reply
-use Rattle.office_sessions.specs.Session.{own_of}
 use Rattle.office_sessions.proofs.session.Session.look_in_archive.Goals as goal
 
 pub returns-clause-seen : goal.returns-clause-seen
@@ -14,7 +13,7 @@ returns-clause-seen g c =
     let before = received old.replies in
     ∥∥₁_map
     (subst (λ (since : Option _). ∥ IfSome since (λ number.
-    HasSeenLast (own_of old) (2 ^ 64 - 1) (nothing_since number) before) ∥₁)
+    HasSeenLast old.own (2 ^ 64 - 1) (nothing_since number) before) ∥₁)
     c.in_ok-since.was old.far)
     (λ last. in_archive c.in_ok-since.since c.in-Last.in_archive before last
     (subst (λ (came : WishOutcome).

@@ -6,14 +6,13 @@ use Rattle.station_desk.specs.Messages.{entries_of}
 use Rattle.office_sessions.specs.Replies.{AreToldBy, HasSearched, HasLooked, HasSeenLast, IsLearned}
 use Rattle.office_sessions.specs.Replies.{nothing_since}
 use Rattle.office_sessions.specs.declared.replies.Reply.{Reply}
-use Rattle.office_sessions.specs.Session.{own_of}
 use Rattle.office_sessions.proofs.ToldBy.{told-heard, searched-more, looked-more, learned-heard}
 use Rattle.office_sessions.proofs.session.Session.next_reply.Goals as goal
 
 pub invariant_of-self-clause-told_by : goal.invariant_of-self-clause-told_by
 invariant_of-self-clause-told_by c =
     let old = c.args.self.now in
-    told-heard (own_of old) (sent old.responses) (received old.replies) c.in-Ok.reply
+    told-heard old.own (sent old.responses) (received old.replies) c.in-Ok.reply
     c.in-Ok.ensures.ok.0 old.told_by
 
 pub invariant_of-self-clause-searched : goal.invariant_of-self-clause-searched
@@ -24,20 +23,20 @@ invariant_of-self-clause-searched c =
 pub invariant_of-self-clause-looked : goal.invariant_of-self-clause-looked
 invariant_of-self-clause-looked c =
     let old = c.args.self.now in
-    looked-more (own_of old) old.limit (received old.replies) c.in-Ok.reply old.look
+    looked-more old.own old.limit (received old.replies) c.in-Ok.reply old.look
     c.in-Ok.ensures.ok.0 old.looked
 
 pub invariant_of-self-clause-learned : goal.invariant_of-self-clause-learned
 invariant_of-self-clause-learned c =
     let old = c.args.self.now in
     ∥∥₁_map old.learned
-    (learned-heard (own_of old) (received old.replies) c.in-Ok.reply (sent old.responses)
+    (learned-heard old.own (received old.replies) c.in-Ok.reply (sent old.responses)
     (entries_of old.postings.feed.asked) old.postings.posted old.earlier c.in-Ok.ensures.ok.0)
 
 pub invariant_of-self-in-Err-clause-told_by : goal.invariant_of-self-in-Err-clause-told_by
 invariant_of-self-in-Err-clause-told_by c =
     let old = c.args.self.now in
-    subst (λ (heard : List Reply). AreToldBy (own_of old) (sent old.responses) heard)
+    subst (λ (heard : List Reply). AreToldBy old.own (sent old.responses) heard)
     (sym c.in-Err.ensures.empty.0) old.told_by
 
 pub invariant_of-self-in-Err-clause-searched : goal.invariant_of-self-in-Err-clause-searched
@@ -49,19 +48,19 @@ invariant_of-self-in-Err-clause-searched c =
 pub invariant_of-self-in-Err-clause-looked : goal.invariant_of-self-in-Err-clause-looked
 invariant_of-self-in-Err-clause-looked c =
     let old = c.args.self.now in
-    subst (λ (heard : List Reply). ∥ HasLooked (own_of old) old.limit heard old.look ∥₁)
+    subst (λ (heard : List Reply). ∥ HasLooked old.own old.limit heard old.look ∥₁)
     (sym c.in-Err.ensures.empty.0) old.looked
 
 pub invariant_of-self-in-Err-clause-far : goal.invariant_of-self-in-Err-clause-far
 invariant_of-self-in-Err-clause-far c =
     let old = c.args.self.now in
     subst (λ (heard : List Reply). ∥ IfSome old.out_of_sight (λ number.
-    HasSeenLast (own_of old) (2 ^ 64 - 1) (nothing_since number) heard) ∥₁)
+    HasSeenLast old.own (2 ^ 64 - 1) (nothing_since number) heard) ∥₁)
     (sym c.in-Err.ensures.empty.0) old.far
 
 pub invariant_of-self-in-Err-clause-learned : goal.invariant_of-self-in-Err-clause-learned
 invariant_of-self-in-Err-clause-learned c =
     let old = c.args.self.now in
-    subst (λ (heard : List Reply). ∥ IsLearned (own_of old) heard (sent old.responses)
+    subst (λ (heard : List Reply). ∥ IsLearned old.own heard (sent old.responses)
     (entries_of old.postings.feed.asked) old.postings.posted old.earlier ∥₁)
     (sym c.in-Err.ensures.empty.0) old.learned

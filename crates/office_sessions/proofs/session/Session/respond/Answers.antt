@@ -4,7 +4,6 @@ use Rattle.std.proofs.Math.Logic.{∥∥₁_map}
 use Rattle.rtrb.specs.Ring.{sent, received}
 use Rattle.station_desk.specs.Messages.{entries_of}
 use Rattle.office_sessions.specs.Exchange.{IsAnswering}
-use Rattle.office_sessions.specs.Session.{own_of}
 use Rattle.office_sessions.proofs.Exchanges.{answering-next, other-answers}
 use Rattle.office_sessions.proofs.ToldBy.{told-more, learned-told}
 use Rattle.office_sessions.proofs.session.Session.respond.Goals as goal
@@ -29,13 +28,13 @@ invariant_of-self-clause-told c =
 pub invariant_of-self-clause-told_by : goal.invariant_of-self-clause-told_by
 invariant_of-self-clause-told_by c =
     let old = c.args.self.now in
-    told-more (own_of old) (sent old.responses) (received old.replies) c.args.response
+    told-more old.own (sent old.responses) (received old.replies) c.args.response
     c.push_reserved.ensures.sent.0 c.requires.by old.told_by
 
 pub invariant_of-self-clause-learned : goal.invariant_of-self-clause-learned
 invariant_of-self-clause-learned c =
     let old = c.args.self.now in
     ∥∥₁_map old.learned
-    (learned-told (own_of old) (received old.replies) (sent old.responses) c.args.response
+    (learned-told old.own (received old.replies) (sent old.responses) c.args.response
     (entries_of old.postings.feed.asked) old.postings.posted old.earlier
     c.push_reserved.ensures.sent.0)

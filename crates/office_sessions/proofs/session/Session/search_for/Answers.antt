@@ -17,7 +17,7 @@ invariant_of-self-clause-answered c =
     ∥∥₁_map old.answered (λ was.
     subst So (sym c.requires.next)
     (answering-begun old.search c.of-self.result c.args.reference
-    (λ same. omega (arith, c.if-reference.true, c.reference.ensures, same)) c.of-self.ensures.count
+    (λ same. omega (arith, c.if-reference.true, c.reference.ensures, same)) c.of-self.ensures.fresh
     (subst (λ (next : Option Message). IsAnswering (received old.messages) (sent old.responses)
     (entries_of old.postings.feed.asked) old.postings.unanswered next old.search)
     c.requires.next was)))

@@ -6,7 +6,6 @@ use Rattle.office_sessions.specs.Conversation.{answers_among, response_of}
 use Rattle.office_sessions.specs.Exchange.{IsAnswering}
 use Rattle.office_sessions.specs.Replies.{AreToldBy, IsLearned}
 use Rattle.office_sessions.specs.declared.responses.Response.{Response}
-use Rattle.office_sessions.specs.Session.{own_of}
 use Rattle.office_sessions.proofs.session.Session.take_next.Goals as goal
 
 pub invariant_of-self-clause-answered : goal.invariant_of-self-clause-answered
@@ -26,12 +25,12 @@ invariant_of-self-clause-told g c =
 pub invariant_of-self-clause-told_by : goal.invariant_of-self-clause-told_by
 invariant_of-self-clause-told_by g c =
     let old = c.args.self.now in
-    subst (λ (told : List Response). AreToldBy (own_of old) told (received old.replies))
+    subst (λ (told : List Response). AreToldBy old.own told (received old.replies))
     (sym c.slots.ensures.looked.1) old.told_by
 
 pub invariant_of-self-clause-learned : goal.invariant_of-self-clause-learned
 invariant_of-self-clause-learned g c =
     let old = c.args.self.now in
-    subst (λ (told : List Response). ∥ IsLearned (own_of old) (received old.replies) told
+    subst (λ (told : List Response). ∥ IsLearned old.own (received old.replies) told
     (entries_of old.postings.feed.asked) old.postings.posted old.earlier ∥₁)
     (sym c.slots.ensures.looked.1) old.learned

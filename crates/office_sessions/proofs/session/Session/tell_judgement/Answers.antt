@@ -6,7 +6,6 @@ use Rattle.station_desk.specs.Messages.{entries_of}
 use Rattle.office_sessions.specs.declared.messages.Message.{Message}
 use Rattle.office_sessions.specs.declared.responses.Response.TheVariants as response
 use Rattle.office_sessions.specs.Exchange.{IsAnswering}
-use Rattle.office_sessions.specs.Session.{own_of}
 use Rattle.office_sessions.proofs.Exchanges.{answering-judged, other-answers}
 use Rattle.office_sessions.proofs.ToldBy.{told-more, learned-told}
 use Rattle.office_sessions.proofs.session.Session.tell_judgement.Goals as goal
@@ -33,7 +32,7 @@ invariant_of-self-clause-told c =
 pub invariant_of-self-clause-told_by : goal.invariant_of-self-clause-told_by
 invariant_of-self-clause-told_by c =
     let old = c.args.self.now in
-    told-more (own_of old) (sent old.responses) (received old.replies)
+    told-more old.own (sent old.responses) (received old.replies)
     (response.Judged c.args.entry c.args.judgement) c.push_reserved.ensures.sent.0 c.requires.by
     old.told_by
 
@@ -41,6 +40,6 @@ pub invariant_of-self-clause-learned : goal.invariant_of-self-clause-learned
 invariant_of-self-clause-learned c =
     let old = c.args.self.now in
     ∥∥₁_map old.learned
-    (learned-told (own_of old) (received old.replies) (sent old.responses)
+    (learned-told old.own (received old.replies) (sent old.responses)
     (response.Judged c.args.entry c.args.judgement) (entries_of old.postings.feed.asked)
     old.postings.posted old.earlier c.push_reserved.ensures.sent.0)

@@ -7,7 +7,6 @@ use Rattle.office_sessions.specs.declared.messages.Message.{Message}
 use Rattle.office_sessions.specs.declared.responses.Response.{Response}
 use Rattle.office_sessions.specs.declared.responses.Response.TheVariants as response
 use Rattle.office_sessions.specs.Exchange.{IsAnswering}
-use Rattle.office_sessions.specs.Session.{own_of}
 use Rattle.office_sessions.proofs.Exchanges.{answering-found, answering-still, other-answers}
 use Rattle.office_sessions.proofs.ToldBy.{told-more, learned-told}
 use Rattle.office_sessions.proofs.session.Session.tell_record.Goals as goal
@@ -48,12 +47,12 @@ invariant_of-self-clause-told c =
 pub invariant_of-self-clause-told_by : goal.invariant_of-self-clause-told_by
 invariant_of-self-clause-told_by c =
     let old = c.args.self.now in
-    told-more (own_of old) (sent old.responses) (received old.replies)
+    told-more old.own (sent old.responses) (received old.replies)
     (record-told c) (tells c) ∣ c.requires.by ∣₁ old.told_by
 
 pub invariant_of-self-clause-learned : goal.invariant_of-self-clause-learned
 invariant_of-self-clause-learned c =
     let old = c.args.self.now in
     ∥∥₁_map old.learned
-    (learned-told (own_of old) (received old.replies) (sent old.responses)
+    (learned-told old.own (received old.replies) (sent old.responses)
     (record-told c) (entries_of old.postings.feed.asked) old.postings.posted old.earlier (tells c))
