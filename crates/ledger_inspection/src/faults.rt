@@ -114,7 +114,7 @@ impl<'a> InspectionFault<'a> {
         }
     }
 
-    // It isn't sound. Here too.
+    // It isn't sound. Out of memory stays out of memory.
     pub(crate) fn of_damage(part: Part<'a>, wrong: Wrong) -> InspectionFault<'a> {
         match wrong.refusal {
             OpenRefusal::Memory => InspectionFault::Memory,

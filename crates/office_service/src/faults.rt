@@ -71,7 +71,7 @@ impl From<LiveRefusal> for OfficeFault<'_> {
 }
 
 impl<'a> OfficeFault<'a> {
-    // Here too.
+    // Out of memory stays out of memory.
     pub(crate) fn of_file(path: &'a str, refusal: LedgerRefusal) -> OfficeFault<'a> {
         if refusal.is_memory() {
             return OfficeFault::Memory;
@@ -80,7 +80,7 @@ impl<'a> OfficeFault<'a> {
     }
 }
 
-/// Here too.
+/// Out of memory stays out of memory.
 impl<'a> From<CountersFault<'a>> for OfficeFault<'a> {
     fn from(fault: CountersFault<'a>) -> Self {
         match fault.cause {
@@ -90,7 +90,7 @@ impl<'a> From<CountersFault<'a>> for OfficeFault<'a> {
     }
 }
 
-/// Here too.
+/// Out of memory stays out of memory.
 impl<'a> From<ArchiveFault<'a>> for OfficeFault<'a> {
     fn from(fault: ArchiveFault<'a>) -> Self {
         match fault {
