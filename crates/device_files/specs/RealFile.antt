@@ -17,4 +17,5 @@ unknown_sectors file = record {
   left_since = λ _ _. Unit {0};
   honest = ⊥;
   faults = file.failures;
+  number = 0;
 }

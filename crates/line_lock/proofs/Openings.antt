@@ -42,6 +42,7 @@ module _ {D : Type 0} (state : D → DeviceState) (said : DeviceState) (from : C
       ap (λ (o : Opening D). o.journal) opened.opening in
       record {
         line = ap (λ (o : Opening D). o.line) opened.opening ∙ sym on;
+        number = call.number ∙ sym same.number;
         sectors = call.sectors ∙ ap length (sym same.reads);
         stays_honest = λ honest. call.stays_honest (same.honest.0 honest);
         was_honest = λ honest. same.honest.1 (call.was_honest honest);
@@ -77,6 +78,7 @@ module _ {D : Type 0} (state : D → DeviceState) (said : DeviceState) (from : C
       → WasOpenedOn state said from k) (sym is)
       (λ at_rest found. record {
         line = sym on;
+        number = sym same.number;
         sectors = ap length (sym same.reads);
         stays_honest = same.honest.0;
         was_honest = same.honest.1;

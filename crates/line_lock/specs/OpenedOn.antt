@@ -21,6 +21,7 @@ pub record SayTheSame (one other : DeviceState) : Type 0 where
       → one.left_since since image ↔ other.left_since since image
   pub honest : one.honest ↔ other.honest
   pub faults : one.faults ≡ other.faults
+  pub number : one.number ≡ other.number
 
 -- What the type says that names an office is its ledger's name and number of parts, a device and a
 -- line. This blank and this name are of an office that is opened on the device `opened` with the
@@ -40,7 +41,9 @@ pub record Names (ledger count : ℕ) (said : DeviceState) (from : Configuration
 pub record WasOpenedOn {D : Type 0} (state : D → DeviceState) (device : DeviceState)
     (from : Configuration) (clerk : ClerkState D) : Type 0 where
   pub line : clerk.opening.line ≡ from
-  -- the device has as many sectors as then, and is honest where it was, and only there
+  -- the device has its number and as many sectors as then, and is honest where it was, and only
+  -- there
+  pub number : (state clerk.journal.device).number ≡ device.number
   pub sectors : length (state clerk.journal.device).reads ≡ length device.reads
   pub stays_honest : device.honest → (state clerk.journal.device).honest
   pub was_honest : (state clerk.journal.device).honest → device.honest
@@ -82,6 +85,7 @@ no_device = record {
   left_since = λ _ _. ⊥;
   honest = ⊥;
   faults = 0;
+  number = 0;
 }
 
 abbrev pub no_line : Configuration

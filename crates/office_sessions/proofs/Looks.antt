@@ -6,6 +6,7 @@ use Rattle.sector_device.specs.Crash.{WasLookedAt, looks_joined}
 pub looked_again : (old mid new : DeviceState) → WasLookedAt old mid → WasLookedAt mid new
     → WasLookedAt old new
 looked_again old mid new first second = record {
+  number = second.number ∙ first.number;
   sectors = second.sectors ∙ first.sectors;
   stays_honest = λ honest. second.stays_honest (first.stays_honest honest);
   was_honest = λ honest. first.was_honest (second.was_honest honest);

@@ -102,9 +102,10 @@ pub record AreLooks (old new : DeviceState) (fault : Type 0) : Type 0 where
   pub call : AreCalls old new fault
   pub only : LooksOnly old new
 
--- The device was looked at: it has as many sectors, is honest where it was and only there, and an
--- honest one was read and synced, and not written.
+-- The device was looked at: it has the same number and as many sectors, is honest where it was and
+-- only there, and an honest one was read and synced, and not written.
 pub record WasLookedAt (old new : DeviceState) : Type 0 where
+  pub number : new.number ≡ old.number
   pub sectors : length new.reads ≡ length old.reads
   pub stays_honest : old.honest → new.honest
   pub was_honest : new.honest → old.honest

@@ -17,6 +17,8 @@ pub record DeviceState : Type 1 where
   pub honest : Type 0
   -- how many calls have failed; at 2^64 - 1 the count stands
   pub faults : ℕ
+  -- a number that no call changes, for whoever lends a device and takes it back
+  pub number : ℕ
 
 -- What holds of an honest device at each moment.
 pub record IsSound (state : DeviceState) : Type 0 where
@@ -44,6 +46,7 @@ pub record AreCalls (old new : DeviceState) (fault : Type 0) : Type 0 where
   pub was_honest : new.honest → old.honest
   pub faults : old.faults ≤ new.faults
   pub cause : HasCause old.faults new.faults fault
+  pub number : new.number ≡ old.number
 
 -- no call at all
 pub not_called : (state : DeviceState) (fault : Type 0) → (fault → ⊥) → AreCalls state state fault
@@ -53,6 +56,7 @@ not_called state fault none = record {
   was_honest = λ honest. honest;
   faults = omega arith;
   cause = record { rose = λ fault. absurd (none fault); stayed = λ _. refl };
+  number = refl;
 }
 
 later_cause : (before mid after : ℕ) → mid ≤ after → (before < mid) ⊎ (2 ^ 64 - 1 ≤ mid)
@@ -82,6 +86,7 @@ calls_joined old mid new first second either which told before after = record {
     stayed = λ none. after.cause.stayed (λ two. none (told (inr two)))
         ∙ before.cause.stayed (λ one. none (told (inl one)));
   };
+  number = after.number ∙ before.number;
 }
 
 -- the device that an opening hands on, in what it opened or beside the refusal

@@ -12,19 +12,25 @@ abbrev pub calls_of : MemoryDevice → List Call
 calls_of device = reverse device.calls.items
 
 -- It is honest, and moments are counted by its record.
-abbrev pub memory_state : Image → List Call → ℕ → ℕ → DeviceState
-memory_state reads calls moment faults = record {
+abbrev pub memory_state : Image → List Call → ℕ → ℕ → ℕ → DeviceState
+memory_state reads calls moment faults number = record {
   reads = reads;
   may_leave = MayLeave reads calls;
   moment = moment;
   left_since = LeftSince reads calls;
   honest = Unit {0};
   faults = faults;
+  number = number;
 }
 
 abbrev pub memory_device_state : MemoryDevice → DeviceState
 memory_device_state device =
     memory_state device.sectors.items (calls_of device) (length device.calls.items) device.faults
+    device.number
+
+-- the same device with another number
+abbrev pub with_number : MemoryDevice → ℕ → MemoryDevice
+with_number device number = record device { number = number }
 
 -- A write to the sector answered Ok since the last sync that answered Ok.
 abbrev pub IsPendingIn : MemoryDevice → ℕ → Type 0

@@ -15,6 +15,7 @@ with_failures state failures = record {
   left_since = state.left_since;
   honest = state.honest;
   faults = state.faults + failures;
+  number = state.number;
 }
 
 -- failures are nothing that a crash depends on

@@ -45,12 +45,13 @@ pub struct MemoryDevice {
     sectors: Vec<Sector>,
     calls: Vec<Call>,
     faults: u64,
+    number: u64,
     ghost whole: { IsImage sectors.items },
 }
 
 impl MemoryDevice {
     ghost use Rattle.sector_device.specs.MemoryDevice.{memory_device_state, calls_of, IsPendingIn};
-    ghost use Rattle.sector_device.specs.MemoryDevice.{HasPicks};
+    ghost use Rattle.sector_device.specs.MemoryDevice.{HasPicks, with_number};
 
     /// A device of so many sectors, all zero, with nothing pending.
     ///
@@ -62,12 +63,22 @@ impl MemoryDevice {
         ensures durable { IfOk result (λ device. IsDurable (memory_device_state device)) }
         ensures settled { IfOk result (λ device. (at : ℕ) → IsPendingIn device at → ⊥) }
         ensures no_failure { IfOk result (λ device. (memory_device_state device).faults ≡ 0) }
+        ensures number { IfOk result (λ device. (memory_device_state device).number ≡ 0) }
     {
         Ok(MemoryDevice {
             sectors: vec![in alloc; [0; SECTOR]; sectors as usize]?,
             calls: Vec::new(alloc),
             faults: 0,
+            number: 0,
         })
+    }
+
+    /// The same device with another number.
+    pub fn numbered(mut self, number: u64) -> MemoryDevice
+        ensures { result ≡ with_number self number }
+    {
+        self.number = number;
+        self
     }
 
     /// The bytes of a sector, as a read gives them.
@@ -94,6 +105,7 @@ impl MemoryDevice {
         ensures err { OnErr result (calls_of self.new ≡ calls_of self.old) }
         ensures cause { HasCause self.old.faults self.new.faults (IsErr result) }
         ensures count { self.old.faults ≤ self.new.faults }
+        ensures number { self.new.number ≡ self.old.number }
     {
         if self.calls.push(call).is_err() {
             self.faults = self.faults.saturating_add(1);
@@ -110,6 +122,7 @@ impl MemoryDevice {
         ensures durable { IsDurable (memory_device_state result) }
         ensures settled { (at : ℕ) → IsPendingIn result at → ⊥ }
         ensures faults { (memory_device_state result).faults ≡ (memory_device_state self).faults }
+        ensures number { (memory_device_state result).number ≡ (memory_device_state self).number }
     {
         for pick in &picks.list {
             self.take_pick(pick);
@@ -123,6 +136,7 @@ impl MemoryDevice {
         ensures picked { HasPicks self.old (pick.now ∷ []) (memory_device_state self.new).reads }
         ensures calls { calls_of self.new ≡ calls_of self.old }
         ensures faults { self.new.faults ≡ self.old.faults }
+        ensures number { self.new.number ≡ self.old.number }
     {
         let (at, bytes) = pick;
         if *at < self.sectors() && is_pending(&self.calls, *at) {
@@ -136,6 +150,7 @@ impl MemoryDevice {
             ≡ with_sector (memory_device_state self.old).reads at bytes.now }
         ensures calls { calls_of self.new ≡ calls_of self.old }
         ensures faults { self.new.faults ≡ self.old.faults }
+        ensures number { self.new.number ≡ self.old.number }
     {
         self.sectors[at] = *bytes;
     }

@@ -31,6 +31,7 @@ loop-pick-preserved c =
           picked);
       calls = c.take_pick.ensures.calls ∙ c.loop-pick.invariant.calls;
       faults = c.take_pick.ensures.faults ∙ c.loop-pick.invariant.faults;
+      number = c.take_pick.ensures.number ∙ c.loop-pick.invariant.number;
     }
 
 pub returns-clause-durable : goal.returns-clause-durable

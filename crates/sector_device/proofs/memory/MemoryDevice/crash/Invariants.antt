@@ -11,4 +11,5 @@ invariant-loop-pick l = record {
       (memory_device_state l.self).reads;
   calls : calls_of l.self ≡ calls_of l.initial.self;
   faults : l.self.faults ≡ l.initial.self.faults;
+  number : l.self.number ≡ l.initial.self.number;
 }
