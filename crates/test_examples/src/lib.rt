@@ -23,6 +23,8 @@ mod files;
 #[cfg(test)]
 mod flags;
 #[cfg(test)]
+mod folders;
+#[cfg(test)]
 mod grammar;
 #[cfg(test)]
 mod journals;

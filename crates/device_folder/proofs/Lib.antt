@@ -1,0 +1,6 @@
+mod Entries
+mod Losses
+mod Putting
+mod Settled
+mod Steps
+mod Texts
