@@ -43,6 +43,13 @@ def of_a_ledger_that_was_found_sound():
     return asked, wanted
 
 
+def of_a_record_that_is_listed():
+    """The second entry of a record is none any more, once the listing is opened: the first one is posted by then."""
+    at = "at, end, left (2, 3, 1)"
+    asked = [*two_postings(), later(SECOND.body(0), bytes([9]), 64), "listing", "ledger", "skip 3", "ledger", "numbers"]
+    return asked, [at, "next 2 total 0", CHANGED, "next 2 total 1 1=1", at]
+
+
 def two_postings():
     """A ledger whose second bank is live, with one record of number 2, which has two deposits with references 7 and 8."""
     return [f"device {sectors(3, 2)}", put(0, superblock(3, 2)), put(FIRST.gate, OPEN), put(FIRST.head, head(0, 0)),
@@ -78,4 +85,9 @@ def of_a_record_that_is_searched():
     return asked, wanted
 
 
-TESTS = (of_a_record_that_is_copied, of_a_ledger_that_was_found_sound, of_a_record_that_is_searched)
+TESTS = (
+    of_a_record_that_is_copied,
+    of_a_ledger_that_was_found_sound,
+    of_a_record_that_is_listed,
+    of_a_record_that_is_searched,
+)
