@@ -5,7 +5,9 @@ use Rattle.sector_device.specs.Device.{DeviceState}
 use Rattle.sector_device.specs.Crash.{AreLooks}
 use Rattle.four_state.specs.Configuration.{Configuration}
 use Rattle.turn_ledger.specs.State.{IsAccount, balance_of}
-use Rattle.turn_clerk.specs.Clerk.{ClerkState, KeepsHistory}
+use Rattle.journal_recovery.specs.State.{State}
+use Rattle.turn_clerk.specs.Clerk.{ClerkState, KeepsHistory, opening_state}
+use Rattle.turn_clerk.specs.FarBack.{KeepsSinceOpening}
 use Rattle.turn_clerk.specs.Found.{HasPicked, TellsOfPostings}
 use Rattle.turn_clerk.specs.Search.{IsStepFromSome, end_of_step}
 use Rattle.turn_clerk.specs.declared.searching.Reached.TheVariants.{LookingBack}
@@ -38,16 +40,22 @@ noted seat account turns (Ok amount) =
 noted seat account turns (Err Faulted) = record seat { faulted = true }
 noted seat account turns (Err NoAccount) = seat
 
--- An office that was opened on that device with that line was asked for an account's balance by a
--- seat, and a clerk of it answered: its turns are a legal history, which ends in its ledger, and
--- while it works they are as many as the seat lists, or more. The seat notes the answer, with how
--- many they are.
+-- A clerk of an office that was opened on that device with that line, from a state in which the
+-- office may begin: its turns are a legal history, which ends in its ledger.
+pub record IsClerkOf {D : Type 0} (state : D → DeviceState) (device : DeviceState)
+    (from : Configuration) (begins : State → Type 0) (clerk : ClerkState D) : Type 0 where
+  pub opened : WasOpenedOn state device from clerk
+  pub began : begins (opening_state clerk)
+  pub legal : KeepsHistory clerk
+
+-- An office was asked for an account's balance by a seat, and a clerk of it answered, which has as
+-- many turns as the seat lists, or more, while it works. The seat notes the answer, with how many
+-- they are.
 pub record WasToldBalance {D : Type 0} (state : D → DeviceState) (device : DeviceState)
-    (from : Configuration) (old new : SeatState) (account : ℕ)
+    (from : Configuration) (begins : State → Type 0) (old new : SeatState) (account : ℕ)
     (answer : Result ℕ BalanceRefusal) : Type 0 where
   pub clerk : ClerkState D
-  pub opened : WasOpenedOn state device from clerk
-  pub legal : KeepsHistory clerk
+  pub of : IsClerkOf state device from begins clerk
   pub turns : clerk.journal.faulted ≡ false → length old.turns ≤ length clerk.history
   pub is : IsBalance clerk account answer
   pub note : new ≡ noted old account (length clerk.history) answer
@@ -58,13 +66,11 @@ pub record IsRoom {D : Type 0} (clerk : ClerkState D) (room : Room) : Type 0 whe
   pub next : room.next ≡ clerk.journal.next
   pub free : room.next + room.free ≡ clerk.journal.live.base + clerk.journal.slots
 
--- An office that was opened on that device with that line was asked how much room there is, and a
--- clerk of it answered, whose turns are a legal history.
+-- An office was asked how much room there is, and a clerk of it answered.
 pub record WasToldRoom {D : Type 0} (state : D → DeviceState) (device : DeviceState)
-    (from : Configuration) (room : Room) : Type 0 where
+    (from : Configuration) (begins : State → Type 0) (room : Room) : Type 0 where
   pub clerk : ClerkState D
-  pub opened : WasOpenedOn state device from clerk
-  pub legal : KeepsHistory clerk
+  pub of : IsClerkOf state device from begins clerk
   pub is : IsRoom clerk room
 
 -- a seat that was told this of a search: of a fault of the device alone something is noted
@@ -74,15 +80,14 @@ searched seat (Err find.Faulted) = record seat { faulted = true }
 searched seat (Err find.Changed) = seat
 searched seat (Err find.Device) = seat
 
--- An office that was opened on that device with that line was asked by a seat for what is sought,
--- from the record of a number on and before that of another, and a clerk of it answered, whose
--- turns are a legal history. After it the device is another one at most by looks.
+-- An office was asked by a seat for what is sought, from the record of a number on and before that
+-- of another, and a clerk of it answered. Its device was only looked at. On an honest device its
+-- last records are those that were there at the opening, or were posted since.
 pub record WasSearched {D : Type 0} (state : D → DeviceState) (device : DeviceState)
-    (from : Configuration) (old new : SeatState) (sought : SearchTarget) (first end : ℕ)
-    (answer : Result SearchStep FindRefusal) : Type 0 where
+    (from : Configuration) (begins : State → Type 0) (old new : SeatState) (sought : SearchTarget)
+    (first end : ℕ) (answer : Result SearchStep FindRefusal) : Type 0 where
   pub clerk : ClerkState D
-  pub opened : WasOpenedOn state device from clerk
-  pub legal : KeepsHistory clerk
+  pub of : IsClerkOf state device from begins clerk
   pub after : D
   pub looks : AreLooks (state clerk.journal.device) (state after) (answer ≡ Err find.Device)
   pub faulted : (answer ≡ Err find.Faulted) ↔ IsTrue clerk.journal.faulted
@@ -91,6 +96,7 @@ pub record WasSearched {D : Type 0} (state : D → DeviceState) (device : Device
       (λ step. step.reached ≢ LookingBack → IsStepFromSome clerk.journal sought first end step)
   pub note : new ≡ searched old answer
   -- on an honest device
+  pub kept : device.honest → KeepsSinceOpening state clerk (state clerk.journal.device).reads
   pub picked : device.honest
       → IfOk answer (λ step. step.reached ≢ LookingBack
       → HasPicked state clerk sought first end step)

@@ -235,7 +235,7 @@ impl<D: Device, L: Count + OpenedOn> Office<D, L> {
     /// How far the ledger is, and how much room its live bank has; it may wait for the lock.
     /// Nothing is read of the device.
     pub fn room<R: Wait>(&self, rt: &R) -> Room
-        ensures { WasToldRoom D.state L.device L.line result }
+        ensures { WasToldRoom D.state L.device L.line L.begins result }
     {
         self.locked.lock(rt).room()
     }
@@ -251,7 +251,8 @@ impl<D: Device, L: Count + OpenedOn> Office<D, L> {
         seat: &mut Seat<L>,
         account: u32,
     ) -> Result<u64, BalanceRefusal>
-        ensures told { WasToldBalance D.state L.device L.line seat.old seat.new account result }
+        ensures told { WasToldBalance D.state L.device L.line L.begins
+            seat.old seat.new account result }
         ensures there { OnOk result (IsAccount account) }
         ensures no_account { result ≡ Err BalanceRefusal.NoAccount → IsAccount account → ⊥ }
     {
@@ -273,7 +274,8 @@ impl<D: Device, L: Count + OpenedOn> Office<D, L> {
         from: u64,
         end: u64,
     ) -> Result<SearchStep, FindRefusal>
-        ensures told { WasSearched D.state L.device L.line seat.old seat.new sought from end result }
+        ensures told { WasSearched D.state L.device L.line L.begins
+            seat.old seat.new sought from end result }
         ensures never_changed { L.device.honest → result ≢ Err FindRefusal.Changed }
     {
         self.locked.lock(rt).search(seat, sought, from, end)

@@ -104,13 +104,15 @@ module _ {D : Type 0} (state : D → DeviceState) (moves : ℕ) where
       IsSpan state moves at span
       × ((next : Rest D) × IsLeftBy state span next × AreSpans next spans after)
 
--- In each span from there on, each report that is right on a question is one that is heard: it is
--- the answer of an office that was opened on what the spans before it, in a row, came to.
+-- In each span from there on, each report that is right on a question that is asked is one that is
+-- heard: it is the answer of an office that was opened on what the spans before it, in a row, came
+-- to, and began with the ledger that they left.
 abbrev pub HearsOverSpans : {D : Type 0} → (D → DeviceState) → ℕ → Rest D
-    → (Question → Report → Type 0) → Type 0
-HearsOverSpans state moves from hears =
+    → (Question → Type 0) → (Question → Report → Type 0) → Type 0
+HearsOverSpans state moves from asks hears =
     (spans : List (Span _)) (between : Rest _) → AreSpans state moves from spans between
-    → HearsReports state (state between.device) between.line hears
+    → HearsReports state (state between.device) between.line (λ found. found ≡ between.held) asks
+    hears
 
 -- These batches are the clerk's: all that it acknowledged, with the one in flight or without it.
 abbrev pub AreOf : {D : Type 0} → ClerkState D → List (List Entry) → Type 0

@@ -45,7 +45,8 @@ pub fn run_office<D: Device + Send, G: Gate + Sync, R: Threads + Wait + Sync>(
     requires as_many { length desks.items ≡ stations line }
 
     // Each report that is right is one that the gate hears.
-    requires heard { HearsReports D.state (D.state device) line (G.hears gate.now) }
+    requires heard { HearsReports D.state (D.state device) line (λ _. Unit {0})
+        (G.asks gate.now) (G.hears gate.now) }
 
     // What the stations made of their desks and of their seats, which account for the whole
     // history.
@@ -84,7 +85,8 @@ pub(crate) fn run_over<D: Device + Send, G: Gate + Sync, R: Threads + Wait + Syn
 ) -> Result<OfficeRun<D>, (D, OfficeRefusal<AllocError>)>
     requires as_many { length desks.items ≡ stations clerk.line }
     requires heard { HearsReports D.state (D.state clerk.journal.device) clerk.line
-        (G.hears gate.now) }
+        (λ found. found ≡ present_state clerk)
+        (G.asks gate.now) (G.hears gate.now) }
     ensures ran { IfOk result (λ run. (seats : List SeatState)
         × HaveServed D.state (D.state clerk.journal.device) clerk.line
         (new_seats (stations clerk.line))
@@ -122,7 +124,8 @@ fn named_run<
     requires named { Names L.name L.parts L.device L.line blank (D.state device) line }
     requires begins { (found : State) → L.begins found }
     requires as_many { length desks.items ≡ stations line }
-    requires heard { HearsReports D.state L.device L.line (G.hears gate.now) }
+    requires heard { HearsReports D.state L.device L.line L.begins
+        (G.asks gate.now) (G.hears gate.now) }
     ensures ran { IfOk result (λ run. (seats : List SeatState)
         × HaveServed D.state L.device L.line (new_seats (stations line))
         desks.items seats run.1.items moves (G.closes gate.now)
@@ -158,7 +161,8 @@ fn named_over<
         (D.state clerk.journal.device) clerk.line }
     requires begins { L.begins (present_state clerk) }
     requires as_many { length desks.items ≡ stations clerk.line }
-    requires heard { HearsReports D.state L.device L.line (G.hears gate.now) }
+    requires heard { HearsReports D.state L.device L.line L.begins
+        (G.asks gate.now) (G.hears gate.now) }
     ensures ran { IfOk result (λ run. (seats : List SeatState)
         × HaveServed D.state L.device L.line (new_seats (stations clerk.line))
         desks.items seats run.1.items moves (G.closes gate.now)
@@ -194,7 +198,8 @@ fn run_in<
     requires one_each { L.parts ≡ stations L.line }
     requires seats { seats.items ≡ new_seats L.parts }
     requires as_many { length desks.items ≡ L.parts }
-    requires heard { HearsReports D.state L.device L.line (G.hears gate.now) }
+    requires heard { HearsReports D.state L.device L.line L.begins
+        (G.asks gate.now) (G.hears gate.now) }
     ensures ran { IfOk result (λ run. (after : List SeatState)
         × HaveServed D.state L.device L.line (new_seats L.parts)
         desks.items after run.1.items moves (G.closes gate.now)
@@ -231,7 +236,8 @@ fn served<
     tries: u64,
 ) -> Result<(Vec<Seat<L>>, Vec<StationRemains>), AllocError>
     requires as_many { length desks.items ≡ length seats.items }
-    requires heard { HearsReports D.state L.device L.line (G.hears gate.now) }
+    requires heard { HearsReports D.state L.device L.line L.begins
+        (G.asks gate.now) (G.hears gate.now) }
     ensures { IfOk result (λ both.
         HaveServed D.state L.device L.line seats.items desks.items
         both.0.items both.1.items moves (G.closes gate.now)) }

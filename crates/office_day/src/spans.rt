@@ -4,6 +4,7 @@ ghost use Rattle.std.specs.Prelude.{◌≡◌, ◌↔◌, [], length, map, All, 
 ghost use Rattle.four_state.specs.Configuration.{stations};
 ghost use Rattle.sector_device.specs.Device.{IsSound};
 ghost use Rattle.sector_device.specs.Crash.{WasLookedAt};
+ghost use Rattle.turn_clerk.specs.Clerk.{present_state};
 ghost use Rattle.turn_clerk.specs.Found.{after_looks};
 ghost use Rattle.line_lock.specs.OpenedOn.{WasLeftByClerk};
 ghost use Rattle.line_lock.specs.Lent.{IfOpening, UnlessOpening};
@@ -66,7 +67,8 @@ pub fn run_spans<D: Device + Send, G: Gate + Sync, P: Recess, R: Threads + Wait 
     moves: u64,
 ) -> Result<Life<D>, (D, OfficeRefusal<AllocError>)>
     requires as_many { length office.desks.items ≡ stations office.clerk.line }
-    requires heard { HearsOverSpans D.state moves (rest_of office.clerk) (G.hears gate.now) }
+    requires heard { HearsOverSpans D.state moves (rest_of office.clerk)
+        (G.asks gate.now) (G.hears gate.now) }
     ensures lived { IfOk result (λ life. HasLived D.state moves (G.closes gate.now)
         (adjourned_to office.clerk office.desks.items)
         (span_of life.clerk life.audit) life.left.items
@@ -102,7 +104,8 @@ fn run_span<D: Device + Send, G: Gate + Sync, R: Threads + Wait + Sync>(
 ) -> Result<Life<D>, (D, OfficeRefusal<AllocError>)>
     requires as_many { length office.desks.items ≡ stations office.clerk.line }
     requires heard { HearsReports D.state (D.state office.clerk.journal.device) office.clerk.line
-        (G.hears gate.now) }
+        (λ found. found ≡ present_state office.clerk)
+        (G.asks gate.now) (G.hears gate.now) }
     ensures closed { IfOk result (λ life. IsSpan D.state moves (rest_of office.clerk)
         (span_of life.clerk life.audit)) }
     ensures left { IfOk result (λ life.

@@ -54,7 +54,8 @@ pub(crate) fn put_question<D: Device, L: Count + OpenedOn, R: Wait>(
     seat: &mut Seat<L>,
     question: Question,
 ) -> Report
-    ensures right { IsReportOn D.state L.device L.line seat.old seat.new question result }
+    ensures right { IsReportOn D.state L.device L.line L.begins
+        seat.old seat.new question result }
     ensures seat { NotesAlone seat.old seat.new }
 {
     match question {

@@ -9,12 +9,15 @@ use turn_clerk::Turn;
 /// how far the station is; no sector, as the gates of a journal are. Nothing is claimed of what it
 /// does; a station goes on when a call returns.
 pub trait Gate {
-    ghost use Rattle.station_desk.specs.declared.errand.Errand.TheVariants.{Close};
+    ghost use Rattle.station_desk.specs.declared.errand.Errand.TheVariants.{Ask, Close};
     ghost use Rattle.station_desk.specs.declared.errand.Question.{Question};
     ghost use Rattle.station_desk.specs.declared.errand.Report.{Report};
 
     /// Whether it may send a station home before all turns are taken.
     ghost closes: { Self → Type 0 } = { λ _. Unit {0} };
+
+    /// Which questions it has a station ask.
+    ghost asks: { Self → Question → Type 0 } = { λ _ _. Unit {0} };
 
     /// What is so of each report that it is handed, with the question that it answers.
     ghost hears: { Self → Question → Report → Type 0 } = { λ _ _ _. Unit {0} };
@@ -23,6 +26,7 @@ pub trait Gate {
     /// its own a station asks for its turn.
     fn errand<R: Wait>(&self, _rt: &R, _station: u8) -> Errand
         ensures close { result ≡ Close → closes self.now }
+        ensures asked { (question : Question) → result ≡ Ask question → asks self.now question }
     {
         Errand::Turn
     }

@@ -114,7 +114,8 @@ fn work<D: Device, L: Count + OpenedOn, G: Gate, R: Wait>(
     moves: u64,
     tries: u64,
 ) -> End
-    requires heard { HearsReports D.state L.device L.line (G.hears gate.now) }
+    requires heard { HearsReports D.state L.device L.line L.begins
+        (G.asks gate.now) (G.hears gate.now) }
     ensures worked { HasWorked (WasAcknowledged D.state L.device L.line)
         seat.old seat.new desk.old desk.new moves (result ≡ End.Refused TurnRefusal.Device) }
     ensures reached { result ≡ End.Reached → moves ≤ seat.new.reached }
@@ -165,7 +166,8 @@ fn run_station<D: Device, L: Count + OpenedOn, G: Gate, R: Wait>(
     moves: u64,
     tries: u64,
 )
-    requires heard { HearsReports D.state L.device L.line (G.hears gate.now) }
+    requires heard { HearsReports D.state L.device L.line L.begins
+        (G.asks gate.now) (G.hears gate.now) }
     ensures { HasRun D.state L.device L.line station.old.seat station.new.seat
         station.old.desk station.new.desk station.new.end moves (G.closes gate.now) }
 {
@@ -192,7 +194,8 @@ pub fn run_stations<
     R: Threads + Wait + Sync,
 >(rt: &R, office: &Office<D, L>, stations: &mut [Station<L>], gate: &G, moves: u64, tries: u64)
     // Each report that is right is one that the gate hears.
-    requires heard { HearsReports D.state L.device L.line (G.hears gate.now) }
+    requires heard { HearsReports D.state L.device L.line L.begins
+        (G.asks gate.now) (G.hears gate.now) }
     ensures { HaveRun D.state L.device L.line stations.old stations.new moves (G.closes gate.now) }
 {
     if stations.is_empty() {
