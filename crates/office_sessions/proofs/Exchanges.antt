@@ -1,11 +1,15 @@
 -- What each step of a counter's session leaves of its exchanges.
-use Rattle.std.specs.Prelude.{◌≡◌, ◌≢◌, ◌+◌, ◌-◌, ◌^◌, ◌<◌, ℕ, true, false, min, List, []}
-use Rattle.std.specs.Prelude.{◌∷◌, ◌++◌, map, length, Option, None, Some, IsSomeAnd, refl}
+use Rattle.std.specs.Prelude.{◌≡◌, ◌≢◌, ◌+◌, ◌-◌, ◌^◌, ◌<◌, ◌≤◌, ℕ, true, false, min, List}
+use Rattle.std.specs.Prelude.{[], ◌∷◌, ◌++◌, map, length, Option, None, Some, IsSomeAnd, refl}
 use Rattle.std.specs.List.{flat_map}
 use Rattle.std.proofs.Common.{sym, ◌∙◌, ap, subst, cond, inl, inr, arith}
 use Rattle.std.proofs.lemmas.List.{map-append, append_assoc, append-nil, length-append}
 use Rattle.std.proofs.lemmas.List.Elements.{filter-append}
 use Rattle.std.proofs.lemmas.Grind.{flat_map-append}
+use Rattle.std.specs.Option.{option_to_list}
+use Rattle.std.proofs.lemmas.Bool.{cases_order}
+use Rattle.std.proofs.lemmas.List.{nil_from_length, get_or_append_left, get_or_push}
+use Rattle.std.proofs.lemmas.List.Elements.{All-nil, All-push, All-weaker, All-get_or}
 use Rattle.turn_ledger.specs.declared.entry.Entry.{Entry}
 use Rattle.turn_ledger.specs.Entry.{reference_of}
 use Rattle.station_desk.specs.declared.messages.Answer.{Answer}
@@ -23,7 +27,9 @@ use Rattle.office_sessions.specs.Exchange.{Exchange, message_in, told_in, submit
 use Rattle.office_sessions.specs.Exchange.{entry_answered, entry_judged, search_ended}
 use Rattle.office_sessions.specs.Exchange.{question_answered, input_ended, asks_to_post}
 use Rattle.office_sessions.specs.Exchange.{asks_to_find}
-use Rattle.office_sessions.specs.Exchange.{all_found, one_of, IsAnswering}
+use Rattle.office_sessions.specs.Exchange.{all_found, IsAnswering, RiseTo}
+use Rattle.office_sessions.specs.Right.{SearchGoesAhead}
+use Rattle.office_sessions.specs.declared.search.Step.TheVariants as stepped
 
 -- what is told of an answer is one
 answers : (reference : ℕ) (what : Outcome) → is_answer (told_of reference what) ≡ true
@@ -64,8 +70,41 @@ pub none-in : {X : Type 0} (l : List X) → (0 < length l → ⊥) → l ≡ []
 none-in [] none = refl
 none-in (x ∷ l) none = absurd (none (omega arith))
 
-pub none-at-0 : {X : Type 0} (l : List X) → length l ≡ 0 → l ≡ []
-none-at-0 l is = none-in l (λ some. omega (arith, is, some))
+-- what was told of no record rises
+none-rise : (end : ℕ) → RiseTo end []
+none-rise end = (λ k low. absurd (omega (arith, low)), All-nil _)
+
+-- and goes on to be below where the search goes on
+rise-on : (numbers : List ℕ) (before after : ℕ) → RiseTo before numbers → before ≤ after
+    → RiseTo after numbers
+rise-on numbers before after rise ahead = (
+  rise.0,
+  All-weaker (λ n. n < before) (λ n. n < after) (λ n low. omega (arith, low, ahead)) numbers rise.1,
+)
+
+-- with a record more, from there on
+rise-more : (numbers : List ℕ) (before after number : ℕ) → RiseTo before numbers → before ≤ number
+    → number < after → RiseTo after (numbers ++ number ∷ [])
+rise-more numbers before after number rise from low = (
+  λ k in_it.
+      let long = length-append numbers (number ∷ []) in
+      let there : k < length numbers = omega (arith, in_it, long) in
+      let at = get_or_append_left numbers (number ∷ []) 0 k there in
+      elim (cases_order (k + 1) (length numbers)) [
+        | inl end ↦
+            let last = get_or_push numbers number 0 (k + 1) (sym end) in
+            let below = All-get_or (λ n. n < before) numbers k 0 there rise.1 in
+            omega (arith, at, last, below, from)
+        | inr (inl inside) ↦
+            let next = get_or_append_left numbers (number ∷ []) 0 (k + 1) inside in
+            let rises = rise.0 k inside in
+            omega (arith, at, next, rises)
+        | inr (inr past) ↦ absurd (omega (arith, past, there))
+      ],
+  All-push (λ n. n < after) numbers number
+      (All-weaker (λ n. n < before) (λ n. n < after) (λ n is. omega (arith, is, from, low)) numbers
+      rise.1) low,
+)
 
 -- nothing was said
 pub none-answering : {said : List Message} {told : List Response} {asked : List Entry}
@@ -80,6 +119,7 @@ none-answering nothing_said nothing_told nothing_asked all_answered begins = rec
   submitted = nothing_asked;
   counted = sym all_answered;
   found = ap (λ (s : Search). s.count) begins;
+  rise = none-rise _;
   searches = λ some. absurd (omega (arith, some));
   fresh = λ _. begins;
 }
@@ -103,6 +143,7 @@ module _ {told : List Response} {asked : List Entry} {search : Search} where
     submitted = was.submitted;
     counted = was.counted;
     found = was.found;
+    rise = was.rise;
     searches = λ some. let is-some = (was.searches some).0 in absurd (cc);
     fresh = λ _. was.fresh (λ is-some. let never = is-some in cc);
   }
@@ -125,6 +166,7 @@ module _ {told : List Response} {asked : List Entry} {search : Search} where
         ∙ append_assoc (flat_map submitted_in was.exchanges) was.waiting (entry ∷ []);
     counted = omega (arith, one, was.counted, length-append was.waiting (entry ∷ []));
     found = was.found;
+    rise = was.rise;
     searches = λ some. let is-some = (was.searches some).0 in absurd (cc);
     fresh = λ _. was.fresh (λ is-some. let never = is-some in cc);
   }
@@ -133,30 +175,31 @@ module _ {told : List Response} {asked : List Entry} {search : Search} where
 collected-at : {said : List Message} {told : List Response} {asked : List Entry}
     {next : Option Message} {search : Search} (left : ℕ) (one : Response)
     → is_answer one ≡ true → (exchanges : List Exchange) (waiting : List Entry) (numbers : List ℕ)
-    → said ≡ map message_in exchanges ++ (map asks_to_post waiting ++ one_of next)
+    → said ≡ map message_in exchanges ++ (map asks_to_post waiting ++ option_to_list next)
     → told ≡ flat_map told_in exchanges ++ all_found search.reference numbers
     → asked ≡ flat_map submitted_in exchanges ++ waiting → length waiting ≡ left + 1
-    → search.count ≡ min (length numbers) (2 ^ 64 - 1)
+    → search.count ≡ min (length numbers) (2 ^ 64 - 1) → RiseTo search.from numbers
     → (0 < length numbers → (next ≡ Some (asks_to_find search.reference)) × (waiting ≡ []))
     → ((next ≡ Some (asks_to_find search.reference) → ⊥) → IsFresh search)
     → IsAnswering said (told ++ one ∷ []) asked left next search
-collected-at left one is exchanges [] numbers said told submitted counted found searches fresh =
+collected-at left one is exchanges [] numbers said told submitted counted found rise searches
+    fresh =
     absurd (omega (arith, counted))
 collected-at left one is exchanges (entry ∷ waiting) (number ∷ numbers) said told submitted counted
-    found searches fresh =
+    found rise searches fresh =
     let none = (searches (omega arith)).1 in absurd (cc)
 collected-at {next = next} left one is exchanges (entry ∷ waiting) [] said told submitted counted
-    found searches fresh =
+    found rise searches fresh =
     let exchange = entry_answered entry one is in
     record {
       exchanges = exchanges ++ exchange ∷ [];
       waiting = waiting;
       numbers = [];
       messages = said
-          ∙ sym (ap (λ (l : List Message). l ++ (map asks_to_post waiting ++ one_of next))
+          ∙ sym (ap (λ (l : List Message). l ++ (map asks_to_post waiting ++ option_to_list next))
           (map-append message_in exchanges (exchange ∷ []))
           ∙ append_assoc (map message_in exchanges) (asks_to_post entry ∷ [])
-          (map asks_to_post waiting ++ one_of next));
+          (map asks_to_post waiting ++ option_to_list next));
       responses = ap (λ (l : List Response). l ++ one ∷ [])
           (told ∙ append-nil (flat_map told_in exchanges))
           ∙ sym (append-nil (flat_map told_in (exchanges ++ exchange ∷ []))
@@ -167,6 +210,7 @@ collected-at {next = next} left one is exchanges (entry ∷ waiting) [] said tol
           ∙ append_assoc (flat_map submitted_in exchanges) (entry ∷ []) waiting);
       counted = omega (arith, counted);
       found = found;
+      rise = rise;
       searches = λ some. absurd (omega (arith, some));
       fresh = fresh;
     }
@@ -180,7 +224,8 @@ answering-collected {said} {asked = asked} {next = next} {search = search} left 
     was =
     subst (λ (l : List Response). IsAnswering said l asked left next search) (sym is)
     (collected-at left one answers was.exchanges was.waiting was.numbers was.messages was.responses
-    was.submitted (was.counted ∙ sym fewer) was.found was.searches was.fresh)
+    was.submitted (was.counted ∙ sym fewer) was.found was.rise was.searches
+    was.fresh)
 
 -- the message that is next was answered whole
 module _ {said : List Message} {told : List Response} {asked : List Entry} {search : Search}
@@ -190,7 +235,7 @@ module _ {said : List Message} {told : List Response} {asked : List Entry} {sear
         → more ≡ flat_map told_in was.exchanges ++ told_in exchange → submitted_in exchange ≡ []
         → IsFresh after → IsAnswering said more asked 0 None after
     exchanged after tells none begins =
-        let nothing = none-at-0 was.waiting was.counted in
+        let nothing = nil_from_length was.waiting was.counted in
         record {
           exchanges = was.exchanges ++ exchange ∷ [];
           waiting = [];
@@ -214,6 +259,7 @@ module _ {said : List Message} {told : List Response} {asked : List Entry} {sear
               ∙ append-nil (flat_map submitted_in was.exchanges)));
           counted = refl;
           found = ap (λ (s : Search). s.count) begins;
+          rise = none-rise _;
           searches = λ some. absurd (omega (arith, some));
           fresh = λ _. begins;
         }
@@ -284,7 +330,7 @@ module _ {said : List Message} {told : List Response} {asked : List Entry} (befo
     unfolding exchanged
     answering-searched last is ends begins was =
         exchanged
-        (search_ended before.reference was.numbers last
+        (search_ended before.reference was.numbers last was.rise.0
         (subst (λ (count : ℕ). EndsCount count last) was.found ends))
         was after
         (is ∙ ap (λ (l : List Response). l ++ last ∷ []) was.responses
@@ -295,9 +341,10 @@ module _ {said : List Message} {told : List Response} {asked : List Entry} (befo
     pub answering-found : (number : ℕ) {more : List Response}
         → more ≡ told ++ response.Found number before.reference ∷ []
         → after.reference ≡ before.reference → after.count ≡ min (before.count + 1) (2 ^ 64 - 1)
+        → SearchGoesAhead before (stepped.Found number) after
         → IsAnswering said told asked 0 (Some (asks_to_find before.reference)) before
         → IsAnswering said more asked 0 (Some (asks_to_find before.reference)) after
-    answering-found number is same counts was = record {
+    answering-found number is same counts ahead was = record {
       exchanges = was.exchanges;
       waiting = was.waiting;
       numbers = was.numbers ++ number ∷ [];
@@ -316,9 +363,10 @@ module _ {said : List Message} {told : List Response} {asked : List Entry} (befo
       submitted = was.submitted;
       counted = was.counted;
       found = omega (arith, counts, was.found, length-append was.numbers (number ∷ []));
+      rise = rise-more was.numbers before.from after.from number was.rise ahead.0 ahead.1;
       searches = λ some. (
         ap (λ (reference : ℕ). Some (asks_to_find reference)) (sym same),
-        none-at-0 was.waiting was.counted,
+        nil_from_length was.waiting was.counted,
       );
       fresh = λ not. absurd
           (not (ap (λ (reference : ℕ). Some (asks_to_find reference)) (sym same)));
@@ -326,10 +374,10 @@ module _ {said : List Message} {told : List Response} {asked : List Entry} (befo
 
     -- or of none
     pub answering-same : {unanswered : ℕ} → after.reference ≡ before.reference
-        → after.count ≡ before.count
+        → after.count ≡ before.count → before.from ≤ after.from
         → IsAnswering said told asked unanswered (Some (asks_to_find before.reference)) before
         → IsAnswering said told asked unanswered (Some (asks_to_find before.reference)) after
-    answering-same same counts was = record {
+    answering-same same counts ahead was = record {
       exchanges = was.exchanges;
       waiting = was.waiting;
       numbers = was.numbers;
@@ -340,6 +388,7 @@ module _ {said : List Message} {told : List Response} {asked : List Entry} (befo
       submitted = was.submitted;
       counted = was.counted;
       found = counts ∙ was.found;
+      rise = rise-on was.numbers before.from after.from was.rise ahead;
       searches = λ some. (
         (was.searches some).0 ∙ ap (λ (reference : ℕ). Some (asks_to_find reference)) (sym same),
         (was.searches some).1,
@@ -366,6 +415,7 @@ module _ {said : List Message} {told : List Response} {asked : List Entry} (befo
           submitted = was.submitted;
           counted = was.counted;
           found = ap (λ (s : Search). s.count) begins;
+          rise = none-rise _;
           searches = λ some. absurd (omega (arith, some));
           fresh = λ _. begins;
         }

@@ -33,7 +33,8 @@ stand-set old new i feed there stand stands = record {
 }
 
 -- Sessions stay if one of them does.
-pub all-stay-set : (old new : List Session) (i : ℕ) (s d : Session) → i < length old
+pub all-stay-set : {L : Type 0} (old new : List (Session L)) (i : ℕ) (s d : Session L)
+    → i < length old
     → AllStayAt old new → StaysAt (slice_index_or new i d) s
     → AllStayAt old (slice_set new i s)
 all-stay-set old new i s d low stay stays =
@@ -50,13 +51,13 @@ all-stay-set old new i s d low stay stays =
     }
 
 -- nothing has happened yet
-pub all-stay-still : (sessions : List Session) → AllStayAt sessions sessions
+pub all-stay-still : {L : Type 0} (sessions : List (Session L)) → AllStayAt sessions sessions
 all-stay-still sessions =
     record { own = refl; rings = record { as_many = refl; each = λ i f low. (refl, refl, refl) } }
 
 -- one step after another
-pub all-stay-joined : (old mid new : List Session) → AllStayAt old mid → AllStayAt mid new
-    → AllStayAt old new
+pub all-stay-joined : {L : Type 0} (old mid new : List (Session L)) → AllStayAt old mid
+    → AllStayAt mid new → AllStayAt old new
 all-stay-joined old mid new far next = record {
   own = next.own ∙ far.own;
   rings = record {

@@ -7,6 +7,8 @@ use Rattle.std.proofs.Common.{sym, ◌∙◌, ap, subst, inl, inr, arith}
 use Rattle.std.proofs.Math.Logic.{∥∥₁_map}
 use Rattle.std.proofs.lemmas.List.{append_assoc, append-nil, length-append}
 use Rattle.std.proofs.lemmas.Grind.{flat_map-append}
+use Rattle.std.specs.Option.{option_to_list}
+use Rattle.std.proofs.lemmas.List.{nil_from_length}
 use Rattle.turn_ledger.specs.declared.entry.Entry.{Entry}
 use Rattle.station_desk.specs.Messages.{entries_of}
 use Rattle.station_desk.specs.Rings.{FeedState}
@@ -21,10 +23,10 @@ use Rattle.office_sessions.specs.Conversation.{postings_among}
 use Rattle.office_sessions.specs.Exchange.{IsAnswering, WereAnswered, told_in, message_in}
 use Rattle.office_sessions.specs.Exchange.{submitted_in, all_found, late_answer, told_late}
 use Rattle.office_sessions.specs.Exchange.{asks_to_post}
-use Rattle.office_sessions.specs.Exchange.{one_of}
 use Rattle.office_sessions.specs.Over.{IsEnding, IsOver, IsOpen, AreAnsweredUpTo}
 use Rattle.office_sessions.specs.Replies.{IsPlain}
-use Rattle.office_sessions.proofs.Exchanges.{none-at-0, other-answers}
+use Rattle.office_sessions.specs.declared.replies.Reply.{Reply}
+use Rattle.office_sessions.proofs.Exchanges.{other-answers}
 use Rattle.office_sessions.proofs.ToldBy.{told-more, rise-told}
 
 -- something more behind four parts
@@ -36,7 +38,7 @@ append-fourth {X} a b c d more =
     ∙ ap (λ (l : List X). b ++ l) (append_assoc c d more))
 
 -- the entry that the message handled next asks to post
-postings-next : (next : Option Message) → postings_among (one_of next) ≡ pending next
+postings-next : (next : Option Message) → postings_among (option_to_list next) ≡ pending next
 postings-next None = refl
 postings-next (Some message) = append-nil (posting_of message)
 
@@ -74,13 +76,13 @@ pub ending-begins : {said : List Message} {told : List Response} {asked unheard 
     {unanswered : ℕ} {next : Option Message} {search : Search} → unheard ≡ pending next
     → IsAnswering said told asked unanswered next search
     → (were : WereAnswered said told asked unheard) × (were.closing ≡ [])
-    × (were.rest ≡ one_of next) × (unanswered ≡ 0 → were.waiting ≡ [])
+    × (were.rest ≡ option_to_list next) × (unanswered ≡ 0 → were.waiting ≡ [])
 ending-begins {next = next} {search = search} is was = (
   record {
     exchanges = was.exchanges;
     late = [];
     waiting = was.waiting;
-    rest = one_of next;
+    rest = option_to_list next;
     reference = search.reference;
     numbers = was.numbers;
     closing = [];
@@ -89,28 +91,29 @@ ending-begins {next = next} {search = search} is was = (
         ∙ ap (λ (l : List Response). flat_map told_in was.exchanges ++ l)
         (sym (append-nil (all_found search.reference was.numbers)));
     submitted = was.submitted;
+    rise = was.rise.0;
     no_entry = refl;
     untaken = postings-next next ∙ sym is;
     in_order = λ some. absurd (omega (arith, some));
     unfinished = λ some. (
       (was.searches some).1,
-      ([], ap one_of (was.searches some).0),
+      ([], ap option_to_list (was.searches some).0),
     );
     closes = inl refl;
   },
   refl,
   refl,
-  λ none. none-at-0 was.waiting (was.counted ∙ none),
+  λ none. nil_from_length was.waiting (was.counted ∙ none),
 )
 
-module _ (feed : FeedState) (state : ConversationState) where
+module _ (feed : FeedState) (heard : List Reply) (state : ConversationState) where
   -- with a message more a conversation isn't opened again
   still-open : (message : Message) (said : List Message) (unheard : List Entry)
       → unheard ≡ state.unheard ++ posting_of message
       → IsOpen (record state { said = said; unheard = unheard }) → IsOpen state
   still-open message said unheard late is = (
     is.0,
-    none-at-0 state.unheard
+    nil_from_length state.unheard
         (omega (
           arith,
           ap length (sym late ∙ is.1),
@@ -121,8 +124,8 @@ module _ (feed : FeedState) (state : ConversationState) where
   -- one message more, which nobody looked at yet
   pub ending-said : (message : Message) (said : List Message) (unheard : List Entry)
       → said ≡ state.said ++ message ∷ [] → unheard ≡ state.unheard ++ posting_of message
-      → IsEnding [] feed state
-      → IsEnding (message ∷ []) feed (record state { said = said; unheard = unheard })
+      → IsEnding [] feed heard state
+      → IsEnding (message ∷ []) feed heard (record state { said = said; unheard = unheard })
   ending-said message said unheard more late ending = record {
     told = ending.told;
     answered = ∥∥₁_map ending.answered
@@ -145,6 +148,7 @@ module _ (feed : FeedState) (state : ConversationState) where
             submitted = were.submitted;
             untaken = flat_map-append posting_of were.rest (message ∷ [])
                 ∙ (λ i. were.untaken i ++ append-nil (posting_of message) i) ∙ sym late;
+            rise = were.rise;
             no_entry = were.no_entry;
             in_order = were.in_order;
             unfinished = λ some.
@@ -167,8 +171,8 @@ module _ (feed : FeedState) (state : ConversationState) where
   }
 
   -- where nothing is answered any more
-  pub ending-silent : (next : List Message) → IsEnding next feed state
-      → IsEnding [] feed (record state { is_silent = true })
+  pub ending-silent : (next : List Message) → IsEnding next feed heard state
+      → IsEnding [] feed heard (record state { is_silent = true })
   ending-silent next ending = record {
     told = ending.told;
     answered = ∥∥₁_map ending.answered
@@ -183,8 +187,8 @@ module _ (feed : FeedState) (state : ConversationState) where
   }
 
   -- or wasn't before
-  pub ending-closed : (next : List Message) → (IsOpen state → ⊥) → IsEnding next feed state
-      → IsEnding [] feed state
+  pub ending-closed : (next : List Message) → (IsOpen state → ⊥) → IsEnding next feed heard state
+      → IsEnding [] feed heard state
   ending-closed next not ending = record {
     told = ending.told;
     answered = ∥∥₁_map ending.answered
@@ -233,6 +237,7 @@ module _ (feed : FeedState) (state : ConversationState) where
               ∙ ap (λ (l : List Response). late ++ l) (append-nil (told_late message))));
           submitted = were.submitted
               ∙ (λ i. flat_map submitted_in were.exchanges ++ so.waiting is i);
+          rise = were.rise;
           no_entry = flat_map-append posting_of were.late (message ∷ [])
               ∙ (λ i. were.no_entry i ++ (ap postings_among (sym last) ∙ were.untaken ∙ is.1) i);
           untaken = sym is.1;
@@ -255,22 +260,22 @@ module _ (feed : FeedState) (state : ConversationState) where
 
   -- by nothing
   pub ending-unanswered : (message : Message) → late_answer message ≡ None → IsOpen state
-      → IsEnding (message ∷ []) feed state → IsEnding [] feed state
+      → IsEnding (message ∷ []) feed heard state → IsEnding [] feed heard state
   unfolding answered-late
   ending-unanswered message none is ending = record {
     told = ending.told;
     answered = ∥∥₁_map ending.answered
         (answered-late message state.told
         (sym (append-nil state.told)
-        ∙ ap (λ (l : List Response). state.told ++ l) (sym (ap one_of none))) is);
+        ∙ ap (λ (l : List Response). state.told ++ l) (sym (ap option_to_list none))) is);
     above = ending.above;
     follows = ending.follows;
   }
 
   -- by a response
   pub ending-told : (message : Message) (one : Response) → late_answer message ≡ Some one
-      → IsOpen state → IsEnding (message ∷ []) feed state
-      → IsEnding [] feed (record state { told = state.told ++ one ∷ [] })
+      → IsOpen state → IsEnding (message ∷ []) feed heard state
+      → IsEnding [] feed heard (record state { told = state.told ++ one ∷ [] })
   unfolding answered-late
   ending-told message one is may ending =
       let plain = late-plain message one is in
@@ -278,19 +283,20 @@ module _ (feed : FeedState) (state : ConversationState) where
         told = other-answers state.told one refl plain.0 ∙ ending.told;
         answered = ∥∥₁_map ending.answered
             (answered-late message (state.told ++ one ∷ [])
-            (ap (λ (l : List Response). state.told ++ l) (sym (ap one_of is))) may);
+            (ap (λ (l : List Response). state.told ++ l) (sym (ap option_to_list is))) may);
         above = ending.above;
         follows = record {
-          right = told-more state.own state.told state.replies one refl
-              ∣ plain.1 state.own state.replies ∣₁ ending.follows.right;
+          right = told-more state.own state.told heard one refl
+              ∣ plain.1 state.own heard ∣₁ ending.follows.right;
           rise = ∥∥₁_map ending.follows.rise
-              (rise-told state.own state.replies state.told one (entries_of feed.asked) refl);
+              (rise-told state.own heard state.told one (entries_of feed.asked) refl);
         };
       }
 
   -- the counter was told at last that the office closes
-  pub over-closing : IsEnding [] feed state
-      → IsOver feed (record state { told = state.told ++ response.Closing ∷ []; is_silent = true })
+  pub over-closing : IsEnding [] feed heard state
+      → IsOver feed heard
+      (record state { told = state.told ++ response.Closing ∷ []; is_silent = true })
   over-closing ending = record {
     told = other-answers state.told response.Closing refl refl ∙ ending.told;
     answered = ∥∥₁_map ending.answered (λ so.
@@ -311,6 +317,7 @@ module _ (feed : FeedState) (state : ConversationState) where
               (were.responses ∙ (λ i. front ++ (found ++ (late ++ so.not_closed i))))
               ∙ append-fourth front found late [] (response.Closing ∷ []);
           submitted = were.submitted;
+          rise = were.rise;
           no_entry = were.no_entry;
           untaken = were.untaken;
           in_order = were.in_order;
@@ -319,16 +326,17 @@ module _ (feed : FeedState) (state : ConversationState) where
         });
     above = ending.above;
     follows = record {
-      right = told-more state.own state.told state.replies response.Closing refl ∣ tt ∣₁
+      right = told-more state.own state.told heard response.Closing refl ∣ tt ∣₁
           ending.follows.right;
       rise = ∥∥₁_map ending.follows.rise
-          (rise-told state.own state.replies state.told response.Closing (entries_of feed.asked)
+          (rise-told state.own heard state.told response.Closing (entries_of feed.asked)
           refl);
     };
   }
 
   -- or wasn't
-  pub over-told : IsEnding [] feed state → IsOver feed (record state { is_silent = true })
+  pub over-told : IsEnding [] feed heard state
+      → IsOver feed heard (record state { is_silent = true })
   over-told ending = record {
     told = ending.told;
     answered = ∥∥₁_map ending.answered (λ so. so.were);
@@ -345,36 +353,33 @@ silent-more silent before unheard message late (inr some) =
     inr (omega (arith, some, ap length late, length-append before (posting_of message)))
 
 -- a message that came late was answered, or there is no place for its answer
-pub ending-either : (feed : FeedState) (state after : ConversationState) (message : Message)
-    (one : Response) (result : Bool)
+pub ending-either : (feed : FeedState) (heard : List Reply) (state after : ConversationState)
+    (message : Message) (one : Response) (result : Bool)
     → (IsTrue result → after ≡ record state { told = state.told ++ one ∷ [] })
     → (result ≡ false → after ≡ state) → late_answer message ≡ Some one → IsOpen state
-    → IsEnding (message ∷ []) feed state
-    → IsEnding [] feed (record after { is_silent = not result })
+    → IsEnding (message ∷ []) feed heard state
+    → IsEnding [] feed heard (record after { is_silent = not result })
 unfolding ending-told
-ending-either feed state after message one true told untold is may ending =
-    subst (λ (k : ConversationState). IsEnding [] feed (record k { is_silent = false }))
+ending-either feed heard state after message one true told untold is may ending =
+    subst (λ (k : ConversationState). IsEnding [] feed heard (record k { is_silent = false }))
     (sym (told refl))
-    (subst (λ (silent : Bool). IsEnding [] feed
+    (subst (λ (silent : Bool). IsEnding [] feed heard
     (record state { told = state.told ++ one ∷ []; is_silent = silent })) may.0
-    (ending-told feed state message one is may ending))
-ending-either feed state after message one false told untold is may ending =
-    subst (λ (k : ConversationState). IsEnding [] feed (record k { is_silent = true }))
-    (sym (untold refl)) (ending-silent feed state (message ∷ []) ending)
+    (ending-told feed heard state message one is may ending))
+ending-either feed heard state after message one false told untold is may ending =
+    subst (λ (k : ConversationState). IsEnding [] feed heard (record k { is_silent = true }))
+    (sym (untold refl)) (ending-silent feed heard state (message ∷ []) ending)
 
 -- the counter was told that the office closes, or there was no place for that
-pub over-either : (feed : FeedState) (state after : ConversationState) (result : Bool)
+pub over-either : (feed : FeedState) (heard : List Reply) (state after : ConversationState)
+    (result : Bool)
     → (IsTrue result → after ≡ record state { told = state.told ++ response.Closing ∷ [] })
-    → (result ≡ false → after ≡ state) → IsEnding [] feed state
-    → IsOver feed (record after { is_silent = true })
+    → (result ≡ false → after ≡ state) → IsEnding [] feed heard state
+    → IsOver feed heard (record after { is_silent = true })
 unfolding over-closing over-told
-over-either feed state after true told untold ending =
-    subst (λ (k : ConversationState). IsOver feed (record k { is_silent = true }))
-    (sym (told refl)) (over-closing feed state ending)
-over-either feed state after false told untold ending =
-    subst (λ (k : ConversationState). IsOver feed (record k { is_silent = true }))
-    (sym (untold refl)) (over-told feed state ending)
-
--- what says both says nothing
-pub never-both : true ≡ false → ⊥
-never-both is = let same = is in cc
+over-either feed heard state after true told untold ending =
+    subst (λ (k : ConversationState). IsOver feed heard (record k { is_silent = true }))
+    (sym (told refl)) (over-closing feed heard state ending)
+over-either feed heard state after false told untold ending =
+    subst (λ (k : ConversationState). IsOver feed heard (record k { is_silent = true }))
+    (sym (untold refl)) (over-told feed heard state ending)

@@ -1,3 +1,4 @@
+mod Ahead
 pub mod Exchanges
 pub mod Feeds
 pub mod Heard

@@ -127,7 +127,7 @@ module _ (own : OwnPostings) (heard : List Reply) (one : Reply) (told : List Res
   unfolding above-heard
   learned-heard earlier.Unlooked is so = so
   learned-heard (earlier.OutOfSight since) is so =
-      (so.0, once-more (HasSeenAll own (nothing_since since)) heard one is so.1)
+      (so.0, (so.1.0, once-more (HasSeenAll own (nothing_since since)) heard one is so.1.1))
   learned-heard earlier.Known is so = (above-heard is so.0, so.1, so.2)
 
 -- with one response more
@@ -322,7 +322,8 @@ by-seen own heard told asked posted None zero none looked within = (
   tt,
   tt,
 )
-by-seen own heard told asked posted None (suc before) none looked within = (none, looked)
+by-seen own heard told asked posted None (suc before) none looked within =
+    (none, (omega arith, looked))
 
 -- a look at all that was posted says what is known
 pub learned-seen : (own : OwnPostings) (heard : List Reply) (told : List Response)
@@ -341,7 +342,7 @@ pub first-learned : (own : OwnPostings) (heard : List Reply) (told : List Respon
 first-learned own heard told asked posted earlier.Unlooked reference looked above so =
     absurd (looked refl)
 first-learned own heard told asked posted (earlier.OutOfSight since) reference looked above so =
-    record { seen = nothing_since since; looked = so.1; above = tt }
+    record { seen = nothing_since since; looked = so.1.1; above = tt }
 first-learned own heard told asked posted earlier.Known reference looked above so = record {
   seen = so.0.seen;
   looked = so.0.looked;
@@ -361,7 +362,7 @@ learned-first own heard told asked posted most (earlier.OutOfSight since) refere
     from first so = (
       record {
         seen = nothing_since since;
-        looked = so.1;
+        looked = so.1.1;
         enough = inr (record {
           reference = reference;
           said = first;
@@ -386,7 +387,7 @@ pub looked-learned : (own : OwnPostings) (heard : List Reply) (told : List Respo
     → (seen : LookAnswer) × HeldAtSomeMoment (HasSeenAll own seen) heard
 looked-learned own heard told asked posted earlier.Unlooked looked so = absurd (looked refl)
 looked-learned own heard told asked posted (earlier.OutOfSight since) looked so =
-    (nothing_since since, so.1)
+    (nothing_since since, so.1.1)
 looked-learned own heard told asked posted earlier.Known looked so =
     (so.0.seen, so.0.looked)
 

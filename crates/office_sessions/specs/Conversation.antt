@@ -21,7 +21,6 @@ use Rattle.station_desk.specs.declared.messages.Outcome.TheVariants as outcome
 use Rattle.office_sessions.specs.declared.messages.Message.{Message}
 use Rattle.office_sessions.specs.declared.messages.Message.TheVariants.{Asked, Wrong, Ended}
 use Rattle.office_sessions.specs.declared.look.OwnPostings.{OwnPostings}
-use Rattle.office_sessions.specs.declared.replies.Reply.{Reply}
 use Rattle.office_sessions.specs.declared.search.Search.{Search}
 use Rattle.office_sessions.specs.declared.search.Step.{Step}
 use Rattle.office_sessions.specs.declared.search.Step.TheVariants as stepped
@@ -220,14 +219,12 @@ IsAll (reached.All began since) = Unit {0}
 IsAll reached.LookingBack = ⊥
 
 -- A conversation at one moment, with the counter of a station: every message that was taken from
--- its reader, every response that was handed to its writer, and every reply that came to its
--- session, each in order; the entries that it asked to post and that nobody submitted; and whether
--- no question is answered any more.
+-- its reader and every response that was handed to its writer, each in order; the entries that it
+-- asked to post and that nobody submitted; and whether no question is answered any more.
 pub record ConversationState : Type 0 where
   pub own : OwnPostings
   pub said : List Message
   pub told : List Response
-  pub replies : List Reply
   pub unheard : List Entry
   pub is_silent : Bool
 

@@ -1,7 +1,9 @@
 -- The messages of a counter, and what each was answered with.
 use Rattle.std.specs.Prelude.{◌≡◌, ◌⊎◌, ◌-◌, ◌^◌, ◌<◌, ℕ, true, min, List, [], ◌∷◌, ◌++◌}
-use Rattle.std.specs.Prelude.{map, length, Option, None, Some}
+use Rattle.std.specs.Prelude.{map, length, Option, None, Some, All}
 use Rattle.std.specs.List.{flat_map}
+use Rattle.std.specs.Option.{option_to_list}
+use Rattle.std.specs.List.Sorted.{IsStrictlyIncreasing}
 use Rattle.turn_ledger.specs.declared.entry.Entry.{Entry}
 use Rattle.text_grammar.specs.declared.requests.Request.TheVariants as request
 use Rattle.office_sessions.specs.declared.messages.Message.{Message}
@@ -19,9 +21,11 @@ pub data Exchange : Type 0 where
   entry_answered : (entry : Entry) (answer : Response) → is_answer answer ≡ true → Exchange
   -- an entry that wasn't, for the sake of its reference
   entry_judged : Entry → Judgement → Exchange
-  -- a search for a reference, which told of the batches of these numbers, and how it ended
+  -- a search for a reference: the numbers of the batches that it told of, which rise, and how it
+  -- ended
   search_ended : (reference : ℕ) (numbers : List ℕ) (last : Response)
-      → EndsCount (min (length numbers) (2 ^ 64 - 1)) last → Exchange
+      → IsStrictlyIncreasing numbers → EndsCount (min (length numbers) (2 ^ 64 - 1)) last
+      → Exchange
   -- any other question
   question_answered : (asked : Message) (answer : Response) → IsResponseTo asked answer → Exchange
   -- the end of the input
@@ -41,14 +45,14 @@ all_found reference numbers = map (λ number. response.Found number reference) n
 abbrev pub message_in : Exchange → Message
 message_in (entry_answered entry answer is) = asks_to_post entry
 message_in (entry_judged entry judgement) = asks_to_post entry
-message_in (search_ended reference numbers last ends) = asks_to_find reference
+message_in (search_ended reference numbers last rise ends) = asks_to_find reference
 message_in (question_answered asked answer is) = asked
 message_in input_ended = Ended
 
 abbrev pub told_in : Exchange → List Response
 told_in (entry_answered entry answer is) = answer ∷ []
 told_in (entry_judged entry judgement) = response.Judged entry judgement ∷ []
-told_in (search_ended reference numbers last ends) = all_found reference numbers ++ last ∷ []
+told_in (search_ended reference numbers last rise ends) = all_found reference numbers ++ last ∷ []
 told_in (question_answered asked answer is) = answer ∷ []
 told_in input_ended = []
 
@@ -56,7 +60,7 @@ told_in input_ended = []
 abbrev pub submitted_in : Exchange → List Entry
 submitted_in (entry_answered entry answer is) = entry ∷ []
 submitted_in (entry_judged entry judgement) = []
-submitted_in (search_ended reference numbers last ends) = []
+submitted_in (search_ended reference numbers last rise ends) = []
 submitted_in (question_answered asked answer is) = []
 submitted_in input_ended = []
 
@@ -78,27 +82,30 @@ late_answer (Asked request.Close) = None
 late_answer (Wrong wrong) = Some (response.Wrong wrong)
 late_answer Ended = None
 
--- a list of what is there, if it is
-abbrev pub one_of : {X : Type 0} → Option X → List X
-one_of None = []
-one_of (Some one) = one ∷ []
-
+-- the same as a list
 abbrev pub told_late : Message → List Response
-told_late message = one_of (late_answer message)
+told_late message = option_to_list (late_answer message)
+
+-- The numbers rise, and are below that one.
+abbrev pub RiseTo : ℕ → List ℕ → Type 0
+RiseTo end numbers = IsStrictlyIncreasing numbers × All (λ number. number < end) numbers
 
 -- How far a session is with its messages. The first ones were answered, in order. Then come the
 -- entries that wait for an answer, then the next message, if there is one. If that is a search, the
--- numbers are those of the records that were told so far. Any other search begins anew.
+-- numbers are those of the records that were told so far, which rise up to where it is. Any other
+-- search begins anew.
 pub record IsAnswering (said : List Message) (told : List Response) (asked : List Entry)
     (unanswered : ℕ) (next : Option Message) (search : Search) : Type 0 where
   pub exchanges : List Exchange
   pub waiting : List Entry
   pub numbers : List ℕ
-  pub messages : said ≡ map message_in exchanges ++ (map asks_to_post waiting ++ one_of next)
+  pub messages : said
+      ≡ map message_in exchanges ++ (map asks_to_post waiting ++ option_to_list next)
   pub responses : told ≡ flat_map told_in exchanges ++ all_found search.reference numbers
   pub submitted : asked ≡ flat_map submitted_in exchanges ++ waiting
   pub counted : length waiting ≡ unanswered
   pub found : search.count ≡ min (length numbers) (2 ^ 64 - 1)
+  pub rise : RiseTo search.from numbers
   pub searches : 0 < length numbers → (next ≡ Some (asks_to_find search.reference)) × (waiting ≡ [])
   pub fresh : (next ≡ Some (asks_to_find search.reference) → ⊥) → IsFresh search
 
@@ -109,8 +116,8 @@ IsClosing told = (told ≡ []) ⊎ (told ≡ response.Closing ∷ [])
 -- How a counter's messages were answered, when its conversation is over, in order: some while the
 -- office was open; then some that came late, none of them an entry. Then come entries that were
 -- submitted and not answered, and then what nobody took up, of which the entries are unheard. What
--- was found by a search that the office left unfinished was told before; and at last that the
--- office closes, or nothing.
+-- was found by a search that the office left unfinished was told before, by numbers that rise; and
+-- at last that the office closes, or nothing.
 pub record WereAnswered (said : List Message) (told : List Response)
     (asked unheard : List Entry) : Type 0 where
   pub exchanges : List Exchange
@@ -125,6 +132,7 @@ pub record WereAnswered (said : List Message) (told : List Response)
   pub responses : told ≡ flat_map told_in exchanges
       ++ (all_found reference numbers ++ (flat_map told_late late ++ closing))
   pub submitted : asked ≡ flat_map submitted_in exchanges ++ waiting
+  pub rise : IsStrictlyIncreasing numbers
   pub no_entry : postings_among late ≡ []
   pub untaken : postings_among rest ≡ unheard
   pub in_order : 0 < length late → waiting ≡ []

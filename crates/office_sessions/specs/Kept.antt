@@ -13,6 +13,7 @@ use Rattle.office_day.specs.Archive.{Archive}
 use Rattle.office_day.specs.Spans.{AreSpans, Rest, Span, WasKeptOpen, WasAbandoned}
 use Rattle.office_sessions.specs.Conversation.{ConversationState}
 use Rattle.office_sessions.specs.Over.{IsHeard}
+use Rattle.office_sessions.specs.Right.{WasReported}
 use Rattle.office_sessions.specs.Session.{own_of_all}
 use Rattle.office_sessions.specs.declared.counter.Unserved.{Unserved}
 use Rattle.office_sessions.specs.declared.counter.Unserved.TheVariants as unserved
@@ -27,7 +28,9 @@ stands_with feed part = AreTogether feed part.desk
 -- An office was kept open from there on, of whose spans this is the last, for counters with whom it
 -- had these conversations: each was told the answers that were collected for it, and what it asked
 -- for was heard. A look at a station's own postings begins with that batch: its caller says that
--- only offices posted from there on. Its archive was kept behind each of the earlier spans.
+-- only offices posted from there on. What was reported to a session is an answer of an office that
+-- was opened behind spans that could follow from there. Its archive was kept behind each of the
+-- earlier ones.
 pub record WasKeptFor {D : Type 0} (state : D → DeviceState) (moves first : ℕ) (from : Rest D)
     (last : Span D) (days : List StationDay)
     (conversations : List ConversationState) (old new : Archive) : Type 0 where
@@ -38,8 +41,8 @@ pub record WasKeptFor {D : Type 0} (state : D → DeviceState) (moves first : �
       ≡ own_of_all first (stations from.line)
   pub heard : (i : ℕ) (conversation : ConversationState) (answers : List Answer) (day : StationDay)
       → i < stations from.line
-      → IsHeard (slice_index_or conversations i conversation) (slice_index_or collected i answers)
-      (slice_index_or days i day)
+      → IsHeard (WasReported state moves from) (slice_index_or conversations i conversation)
+      (slice_index_or collected i answers) (slice_index_or days i day)
 
 -- why an office isn't kept open, one of whose counters can't be served
 abbrev pub live_refusal : Unserved → LiveRefusal

@@ -5,6 +5,7 @@ pub mod Looked
 pub mod Over
 pub mod Reading
 pub mod Replies
+pub mod Right
 pub mod Rising
 pub mod Session
 pub mod OfficeStatus

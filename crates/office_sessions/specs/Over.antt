@@ -1,6 +1,8 @@
 -- What a conversation with a counter was when it is over.
-use Rattle.std.specs.Prelude.{◌≡◌, false, List, [], ◌++◌, map}
+use Rattle.std.specs.Prelude.{◌≡◌, false, List, [], ◌++◌, map, All}
 use Rattle.station_desk.specs.Messages.{entries_of, asks_of}
+use Rattle.station_desk.specs.declared.errand.Question.{Question}
+use Rattle.station_desk.specs.declared.errand.Report.{Report}
 use Rattle.station_desk.specs.Rings.{FeedState}
 use Rattle.station_desk.specs.declared.messages.Answer.{Answer}
 use Rattle.office_day.specs.declared.reconciled.StationDay.{StationDay}
@@ -11,6 +13,7 @@ use Rattle.office_sessions.specs.Conversation.{ConversationState}
 use Rattle.office_sessions.specs.Conversation.{answers_among, response_of}
 use Rattle.office_sessions.specs.Exchange.{WereAnswered}
 use Rattle.office_sessions.specs.Replies.{AreToldBy, RiseFromEarlier}
+use Rattle.office_sessions.specs.Right.{IsRight}
 use Rattle.office_sessions.specs.declared.messages.Message.{Message}
 use Rattle.office_sessions.specs.declared.replies.Reply.{Reply}
 use Rattle.office_sessions.specs.declared.responses.Response.{Response}
@@ -25,14 +28,14 @@ pub record FollowsReplies (own : OwnPostings) (told : List Response) (heard : Li
 -- The conversation with a counter is over, whose requests went by this feed: its messages were
 -- answered, in order; the answers among its responses are those that were collected, each once; the
 -- references of the entries that were submitted are above; and what else was told follows from the
--- replies.
-pub record IsOver (feed : FeedState) (conversation : ConversationState) : Type 0 where
+-- replies that its session heard.
+pub record IsOver (feed : FeedState) (heard : List Reply)
+    (conversation : ConversationState) : Type 0 where
   pub told : answers_among conversation.told ≡ map response_of feed.collected
   pub answered : ∥ WereAnswered conversation.said conversation.told (entries_of feed.asked)
       conversation.unheard ∥₁
   pub above : AreAbove feed.asked feed.collected
-  pub follows : FollowsReplies conversation.own conversation.told conversation.replies
-      (entries_of feed.asked)
+  pub follows : FollowsReplies conversation.own conversation.told heard (entries_of feed.asked)
 
 -- The counter may be told something more: no question is left without an answer, and no entry is
 -- unheard.
@@ -50,19 +53,19 @@ pub record AreAnsweredUpTo (next : List Message) (conversation : ConversationSta
 
 -- The conversation ends: these messages are looked at next, and then the counter is told that the
 -- office closes.
-pub record IsEnding (next : List Message) (feed : FeedState)
+pub record IsEnding (next : List Message) (feed : FeedState) (heard : List Reply)
     (conversation : ConversationState) : Type 0 where
   pub told : answers_among conversation.told ≡ map response_of feed.collected
   pub answered : ∥ AreAnsweredUpTo next conversation (entries_of feed.asked) ∥₁
   pub above : AreAbove feed.asked feed.collected
-  pub follows : FollowsReplies conversation.own conversation.told conversation.replies
-      (entries_of feed.asked)
+  pub follows : FollowsReplies conversation.own conversation.told heard (entries_of feed.asked)
 
 -- A conversation that ends with the first of these messages still to be looked at goes on, whatever
 -- its feed, to end with the second ones still to be looked at.
 abbrev pub EndsOn : List Message → List Message → ConversationState → ConversationState → Type 0
 EndsOn before after old new =
-    (feed : FeedState) → IsEnding before feed old → IsEnding after feed new
+    (feed : FeedState) (heard : List Reply) → IsEnding before feed heard old
+    → IsEnding after feed heard new
 
 -- the entries of what became of a station's requests: those whose answers were collected, those
 -- whose answers weren't, and those without an answer
@@ -73,11 +76,14 @@ entries_asked collected day =
 -- The conversation is over, and so the counter's requests were answered: these answers were
 -- collected, and the rest is in what its station left. So the first entry that was submitted has
 -- the first of these answers, and so on. The references above 0 of those that were posted rise.
-pub record IsHeard (conversation : ConversationState) (collected : List Answer)
-    (day : StationDay) : Type 0 where
+-- What else was told follows from some replies, of which each report is one of these.
+pub record IsHeard (reports : Question → Report → Type 0) (conversation : ConversationState)
+    (collected : List Answer) (day : StationDay) : Type 0 where
   pub told : answers_among conversation.told ≡ map response_of collected
   pub answered : ∥ WereAnswered conversation.said conversation.told (entries_asked collected day)
       conversation.unheard ∥₁
   pub rising : PostsRising (collected ++ day.answers.items)
-  pub follows : FollowsReplies conversation.own conversation.told conversation.replies
+  pub replies : List Reply
+  pub reported : All (IsRight reports) replies
+  pub follows : FollowsReplies conversation.own conversation.told replies
       (entries_asked collected day)

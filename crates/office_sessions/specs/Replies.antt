@@ -168,6 +168,12 @@ pub record HasSeenUpTo (own : OwnPostings) (entry : Entry) (P : LookAnswer → T
   pub last : HasSeenLast own (reference_of entry) seen heard
   pub so : P seen
 
+-- A look at the station's postings, in sight and in the archive, saw none from that batch on,
+-- before which there are others.
+abbrev pub SawNothing : OwnPostings → ℕ → List Reply → Type 0
+SawNothing own since heard =
+    (0 < since) × HeldAtSomeMoment (HasSeenAll own (nothing_since since)) heard
+
 -- The reference is more than 2^32 above the one that a look saw, or above 0 if it saw none.
 pub record IsTooFar (own : OwnPostings) (reference : ℕ) (heard : List Reply) : Type 0 where
   pub seen : LookAnswer
@@ -183,8 +189,7 @@ IsJudgedBy own entry (judgement.Posted number) heard =
 IsJudgedBy own entry judgement.Reference heard =
     HasSeenUpTo own entry (IsUsed entry) heard ⊎ IsTooFar own (reference_of entry) heard
 IsJudgedBy own entry (judgement.Unknown since) heard =
-    HasSeenUpTo own entry (λ seen. IsUnknown entry seen since) heard
-    ⊎ HeldAtSomeMoment (HasSeenAll own (nothing_since since)) heard
+    HasSeenUpTo own entry (λ seen. IsUnknown entry seen since) heard ⊎ SawNothing own since heard
 IsJudgedBy own entry (judgement.NotSeen refusal) heard = FailedLast refusal heard
 
 -- A look at what was posted at the station saw no posting with this reference or a greater one.
@@ -300,7 +305,7 @@ IsFrom seen told asked most (inr begins) = begins.reference ≤ most + 1
 abbrev pub IsLearned : OwnPostings → List Reply → List Response → List Entry → ℕ → Earlier → Type 0
 IsLearned own heard told asked posted earlier.Unlooked = AreWithoutReference asked
 IsLearned own heard told asked posted (earlier.OutOfSight since) =
-    AreWithoutReference asked × HeldAtSomeMoment (HasSeenAll own (nothing_since since)) heard
+    AreWithoutReference asked × SawNothing own since heard
 IsLearned own heard told asked posted earlier.Known =
     (above : AreAboveEarlier own heard told asked) × IsWithin posted above.seen
     × IsFrom above.seen told asked posted above.enough

@@ -1,15 +1,16 @@
 //! What was said at a counter, and what it was told.
-ghost use Rattle.std.specs.Prelude.{◌≡◌, ◌↔◌, [], ◌∷◌, ◌++◌, false, true, IfOk, IsTrue, OnOk};
+ghost use Rattle.std.specs.Prelude.{◌≡◌, ◌↔◌, List, [], ◌∷◌, ◌++◌, false, true, IfOk, IsTrue, OnOk};
+ghost use Rattle.std.specs.Option.{option_to_list};
 ghost use Rattle.station_desk.specs.Rings.{FeedState};
 ghost use Rattle.office_sessions.specs.Conversation.{pending, posting_of, IsSilent};
 ghost use Rattle.office_sessions.specs.Conversation.{IsToldNoMore};
-ghost use Rattle.office_sessions.specs.Exchange.{one_of, late_answer};
+ghost use Rattle.office_sessions.specs.Exchange.{late_answer};
+ghost use Rattle.office_sessions.specs.declared.replies.Reply.{Reply};
 ghost use Rattle.office_sessions.specs.Over.{EndsOn, IsEnding, IsOpen, IsOver};
 
 use crate::look::OwnPostings;
 use crate::messages::Message;
 use crate::recent::Recent;
-use crate::replies::Reply;
 use crate::responses::Response;
 use crate::session::CAPACITY;
 use crate::wakers::Wakers;
@@ -31,15 +32,13 @@ const LOOKS: u64 = 400;
 const PAUSE: u64 = 5;
 
 /// What was said at a counter of an office that closes, and what it was told. Contracts see both,
-/// by the ends of the rings whose other ends the counter's threads have, and the replies to its
-/// session, which came from the scheduler; a program sees what came too late, and what the counter
-/// wasn't told.
+/// by the ends of the rings whose other ends the counter's threads have; a program sees what came
+/// too late, and what the counter wasn't told.
 #[derive(Drop)]
 pub struct Conversation {
     own: OwnPostings,
     messages: Consumer<Message>,
     responses: Producer<Response>,
-    replies: Consumer<Reply>,
     unheard: Vec<Entry>,
     recent: Recent,
     wakers: Arc<Wakers>,
@@ -60,7 +59,6 @@ impl Model for Conversation {
       own = c.own;
       said = received c.messages;
       told = sent c.responses;
-      replies = received c.replies;
       unheard = c.unheard.items;
       is_silent = c.is_silent;
     } };
@@ -74,7 +72,6 @@ impl Conversation {
         own: OwnPostings,
         messages: Consumer<Message>,
         responses: Producer<Response>,
-        replies: Consumer<Reply>,
         unheard: Vec<Entry>,
         recent: Recent,
         wakers: Arc<Wakers>,
@@ -85,7 +82,6 @@ impl Conversation {
           own = own;
           said = received messages;
           told = sent responses;
-          replies = received replies;
           unheard = unheard.items;
           is_silent = is_silent;
         } }
@@ -94,7 +90,6 @@ impl Conversation {
             own,
             messages,
             responses,
-            replies,
             unheard,
             recent,
             wakers,
@@ -164,7 +159,7 @@ impl Conversation {
     /// Answers the question that would have come next, if all before it is answered.
     pub(crate) fn refuse_next(&mut self, next: Option<Message>)
         ensures own { self.new.own ≡ self.old.own }
-        ensures ends { EndsOn (one_of next) [] self.old self.new }
+        ensures ends { EndsOn (option_to_list next) [] self.old self.new }
         ensures silent { IsSilent self.old → self.new ≡ self.old }
     {
         if let Some(message) = next {
@@ -175,7 +170,8 @@ impl Conversation {
     /// Tells the counter that the office closes.
     pub(crate) fn tell_closing(&mut self)
         ensures own { self.new.own ≡ self.old.own }
-        ensures over { (feed : FeedState) → IsEnding [] feed self.old → IsOver feed self.new }
+        ensures over { (feed : FeedState) → (heard : List Reply) → IsEnding [] feed heard self.old
+            → IsOver feed heard self.new }
         ensures told { IsToldNoMore self.old.told self.new.told }
     {
         if !self.is_told_closing {

@@ -1,17 +1,17 @@
 //! Counters, and the threads that serve them.
 ghost use Rattle.std.specs.Prelude.{◌≡◌, [], IfOk};
-ghost use Rattle.rtrb.specs.Ring.{producer_capacity, received};
+ghost use Rattle.rtrb.specs.Ring.{producer_capacity};
 
 use crate::identity::Identity;
 use crate::look::OwnPostings;
 use crate::reader::Reader;
 use crate::recent::Recent;
-use crate::replies::Reply;
+use crate::replies::{Inbox, OfficeLife};
 use crate::scheduler::Scheduler;
 use crate::session::{CAPACITY, Session};
 use crate::wakers::Wakers;
 use crate::writer::Writer;
-use rtrb::{Consumer, RingBuffer};
+use rtrb::RingBuffer;
 use station_desk::Feed;
 use std::alloc::{AllocError, Global};
 use std::io::{Read, Write};
@@ -65,6 +65,7 @@ impl From<AllocError> for Unserved {
 
 /// Starts the threads of a counter, and begins its session at its station.
 pub(crate) fn begin_session<
+    L: OfficeLife + Send + Sync + 'static,
     R: Threads + Wait + Send + Clone + Drop + 'static,
     I: Read + Send + Drop + 'static,
     O: Write + Send + Drop + 'static,
@@ -74,8 +75,8 @@ pub(crate) fn begin_session<
     own: OwnPostings,
     counter: Counter<I, O>,
     feed: Feed,
-    scheduler: &Arc<Scheduler>,
-) -> Result<Session, Unserved>
+    scheduler: &Arc<Scheduler<L>>,
+) -> Result<Session<L>, Unserved>
     requires nothing_asked { feed.asked ≡ [] }
     requires nothing_collected { feed.collected ≡ [] }
     ensures feed { IfOk result (λ session. session.postings.feed ≡ feed) }
@@ -115,17 +116,17 @@ pub(crate) fn begin_session<
 }
 
 // The ring out of which the replies for a station come. One thing is asked at a time.
-fn connect<R: Wait>(
+fn connect<L: OfficeLife, R: Wait>(
     rt: &R,
     alloc: Global,
     station: u8,
-    scheduler: &Scheduler,
-) -> Result<Consumer<Reply>, AllocError>
-    ensures nothing { IfOk result (λ replies. received replies ≡ []) }
+    scheduler: &Scheduler<L>,
+) -> Result<Inbox<L>, AllocError>
+    ensures nothing { IfOk result (λ replies. replies ≡ []) }
 {
-    let (replies, incoming) = RingBuffer::new(alloc, 1)?;
-    scheduler.connect(rt, station, replies);
-    Ok(incoming)
+    let (outbox, inbox) = Inbox::open(alloc, 1)?;
+    scheduler.connect(rt, station, outbox);
+    Ok(inbox)
 }
 
 // What wakes the threads of one counter.
@@ -135,11 +136,11 @@ fn new_wakers(alloc: Global) -> Result<Arc<Wakers>, AllocError> {
 
 /// A session at a station that has no counter. Its rings have no places: what is told to nobody
 /// would count as unwritten, and the office would wait for that before it ends.
-pub(crate) fn empty_session(
+pub(crate) fn empty_session<L: OfficeLife>(
     alloc: Global,
     own: OwnPostings,
     feed: Feed,
-) -> Result<Session, AllocError>
+) -> Result<Session<L>, AllocError>
     requires nothing_asked { feed.asked ≡ [] }
     requires nothing_collected { feed.collected ≡ [] }
     ensures feed { IfOk result (λ session. session.postings.feed ≡ feed) }
@@ -148,7 +149,7 @@ pub(crate) fn empty_session(
 {
     let (_, messages) = RingBuffer::new(alloc, 0)?;
     let (responses, _) = RingBuffer::new(alloc, 0)?;
-    let (_, replies) = RingBuffer::new(alloc, 0)?;
+    let (_, replies) = Inbox::open(alloc, 0)?;
     let wakers = new_wakers(alloc)?;
     let recent = Recent::new(alloc)?;
     Ok(Session::new(
@@ -157,11 +158,15 @@ pub(crate) fn empty_session(
 }
 
 // Starts the thread that reads; nobody waits for its end.
-fn start_reader<R: Threads + Wait + Send + Clone + Drop + 'static, I: Read + Send + Drop + 'static>(
+fn start_reader<
+    L: OfficeLife + Send + Sync + 'static,
+    R: Threads + Wait + Send + Clone + Drop + 'static,
+    I: Read + Send + Drop + 'static,
+>(
     rt: &R,
     reader: Reader<I>,
     wakers: &Arc<Wakers>,
-    scheduler: &Arc<Scheduler>,
+    scheduler: &Arc<Scheduler<L>>,
 ) -> Result<(), Unserved> {
     let (own, wakers) = (rt.clone()?, Arc::try_clone(wakers)?);
     let scheduler = Arc::try_clone(scheduler)?;
@@ -174,13 +179,14 @@ fn start_reader<R: Threads + Wait + Send + Clone + Drop + 'static, I: Read + Sen
 
 // Starts the thread that writes; nobody waits for its end.
 fn start_writer<
+    L: OfficeLife + Send + Sync + 'static,
     R: Threads + Wait + Send + Clone + Drop + 'static,
     O: Write + Send + Drop + 'static,
 >(
     rt: &R,
     writer: Writer<O>,
     wakers: &Arc<Wakers>,
-    scheduler: &Arc<Scheduler>,
+    scheduler: &Arc<Scheduler<L>>,
 ) -> Result<(), Unserved> {
     let (own, wakers) = (rt.clone()?, Arc::try_clone(wakers)?);
     let scheduler = Arc::try_clone(scheduler)?;

@@ -1,7 +1,7 @@
 //! The thread that holds every feed.
-ghost use Rattle.std.specs.Prelude.{◌≡◌};
 ghost use Rattle.office_sessions.specs.Session.{AllStayAt};
 
+use crate::replies::OfficeLife;
 use crate::scheduler::Scheduler;
 use crate::session::Session;
 use crate::status::Clients;
@@ -11,21 +11,21 @@ use std::thread::Promise;
 
 /// That each session's feed is the one that it was, and that it looks at the same postings.
 #[derive(Drop)]
-pub(crate) struct SameSessions(pub Snapshot<Vec<Session>>);
+pub(crate) struct SameSessions<L: OfficeLife>(pub Snapshot<Vec<Session<L>>>);
 
-impl Promise<Vec<Session>> for SameSessions {
+impl<L: OfficeLife> Promise<Vec<Session<L>>> for SameSessions<L> {
     ghost use Rattle.office_sessions.specs.Session.{AllStayAt};
 
     ghost kept_by = { λ promise sessions. AllStayAt promise.0.value.items sessions.items };
 }
 
 /// Attends to the counters until the office's life is over.
-pub(crate) fn dispatch<R: Wait, C: Clients + Drop>(
+pub(crate) fn dispatch<L: OfficeLife, R: Wait, C: Clients + Drop>(
     rt: &R,
-    scheduler: &Scheduler,
-    sessions: Vec<Session>,
+    scheduler: &Scheduler<L>,
+    sessions: Vec<Session<L>>,
     clients: C,
-) -> Vec<Session>
+) -> Vec<Session<L>>
     ensures { AllStayAt sessions.items result.items }
 {
     let (mut sessions, mut clients) = (sessions, clients);
@@ -42,10 +42,10 @@ pub(crate) fn dispatch<R: Wait, C: Clients + Drop>(
 }
 
 // Attends to each counter once.
-fn attend_all<R: Wait, C: Clients>(
+fn attend_all<L: OfficeLife, R: Wait, C: Clients>(
     rt: &R,
-    scheduler: &Scheduler,
-    sessions: &mut [Session],
+    scheduler: &Scheduler<L>,
+    sessions: &mut [Session<L>],
     clients: &mut C,
 )
     ensures { AllStayAt sessions.old sessions.new }

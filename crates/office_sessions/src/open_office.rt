@@ -1,16 +1,19 @@
 //! An office that is kept open for its counters.
-ghost use Rattle.std.specs.Prelude.{◌≡◌, map, IfOk, IfErr};
+ghost use Rattle.std.specs.Prelude.{◌≡◌, ◌↔◌, map, IfOk, IfErr};
 ghost use Rattle.std.specs.List.{AllZip};
 ghost use Rattle.office_day.specs.Day.{AreReconciled};
 ghost use Rattle.office_day.specs.Spans.{rest_of, span_of};
-ghost use Rattle.office_sessions.specs.Over.{IsOver};
-ghost use Rattle.office_sessions.specs.Session.{own_of};
+ghost use Rattle.station_desk.specs.declared.errand.Question.{Question};
+ghost use Rattle.station_desk.specs.declared.errand.Report.{Report};
+ghost use Rattle.office_sessions.specs.Right.{WasReported};
+ghost use Rattle.office_sessions.specs.Session.{EndsIn, feed_of};
 ghost use Rattle.office_sessions.specs.Kept.{WasKeptFor, HandsBack, stands_with};
 
 use crate::conversation::Conversation;
 use crate::counter::{Counter, Unserved};
 use crate::opening::{AttendedCounters, begin};
 use crate::recess::{Keeper, WishGranter};
+use crate::replies::OfficeLife;
 use crate::scheduler::Scheduler;
 use crate::session::Session;
 use crate::status::Clients;
@@ -21,6 +24,7 @@ use sector_device::Device;
 use station_desk::Feed;
 use std::alloc::{AllocError, Global};
 use std::io::{Read, Write};
+use std::marker::Brand;
 use std::sync::{Arc, Wait};
 use std::thread::{Threads, sleep};
 use std::time::{Clock, Duration};
@@ -116,8 +120,38 @@ pub fn keep_open<
         (K.archive keeper) (K.archive both.1)) }
     ensures left { IfErr result (λ e. HandsBack D.state moves (rest_of clerk) e.0 e.1) }
 {
+    // the name is this call's own: which reports are right of this office
+    keep_named::<D, Brand, R, I, O, C, K>(rt, alloc, clerk, counters, clients, first, moves, keeper)
+}
+
+// The same of an office whose life has a name, which says which reports are right.
+fn keep_named<
+    D: Device + Send,
+    L: OfficeLife + Send + Sync + 'static,
+    R: Threads + Wait + Clock + Sync + Send + Clone + Drop + 'static,
+    I: Read + Send + Drop + 'static,
+    O: Write + Send + Drop + 'static,
+    C: Clients + Send + Drop + 'static,
+    K: Keeper + Drop,
+>(
+    rt: &R,
+    alloc: Global,
+    clerk: Clerk<D>,
+    counters: Vec<Counter<I, O>>,
+    clients: C,
+    first: u64,
+    moves: u64,
+    keeper: K,
+) -> Result<(ClosedOffice<D>, K), (D, LiveRefusal)>
+    requires named { (question : Question) → (report : Report) → L.reports question report
+        ↔ WasReported D.state moves (rest_of clerk) question report }
+    ensures kept { IfOk result (λ both. WasKeptFor D.state moves first (rest_of clerk)
+        (span_of both.0.clerk both.0.audit) both.0.stations.items both.0.conversations.items
+        (K.archive keeper) (K.archive both.1)) }
+    ensures left { IfErr result (λ e. HandsBack D.state moves (rest_of clerk) e.0 e.1) }
+{
     let (stations, kept) = (clerk.line().stations(), keeper.kept());
-    let begun = match begin(rt, alloc, stations, kept, first, counters, clients) {
+    let begun = match begin::<L, R, I, O, C>(rt, alloc, stations, kept, first, counters, clients) {
         Ok(begun) => begun,
         Err(unserved) => return Err((clerk.into_device(), LiveRefusal::from(unserved))),
     };
@@ -161,12 +195,12 @@ fn await_writers<C: Clock>(clock: &C, wakers: &[Arc<Wakers>]) {
 }
 
 // The office's end, with what became of what its clients weren't told yet.
-fn settled<D: Device>(
+fn settled<D: Device, L: OfficeLife>(
     alloc: Global,
     life: Life<D>,
     feeds: Vec<Feed>,
     conversations: Vec<Conversation>,
-    scheduler: &Scheduler,
+    scheduler: &Scheduler<L>,
 ) -> Result<ClosedOffice<D>, (D, LiveRefusal)>
     requires together { AllZip stands_with feeds.items life.left.items }
     ensures clerk { IfOk result (λ closed. closed.clerk ≡ life.clerk) }
@@ -193,17 +227,13 @@ fn settled<D: Device>(
 }
 
 // The feeds of the sessions, and the conversations, which are over.
-fn all_ended<C: Clock>(
+fn all_ended<L: OfficeLife, C: Clock>(
     clock: &C,
     alloc: Global,
-    sessions: Vec<Session>,
+    sessions: Vec<Session<L>>,
 ) -> Result<(Vec<Feed>, Vec<Conversation>), AllocError>
-    ensures feeds { IfOk result (λ both.
-        both.0.items ≡ map (λ session. session.postings.feed) sessions.items) }
-    ensures over { IfOk result (λ both. AllZip IsOver
-        (map (λ session. session.postings.feed) sessions.items) both.1.items) }
-    ensures own { IfOk result (λ both.
-        map (λ conversation. conversation.own) both.1.items ≡ map own_of sessions.items) }
+    ensures feeds { IfOk result (λ both. both.0.items ≡ map feed_of sessions.items) }
+    ensures each { IfOk result (λ both. AllZip (EndsIn L.reports) sessions.items both.1.items) }
 {
     let mut feeds = Vec::with_capacity(alloc, sessions.len())?;
     let mut conversations = Vec::with_capacity(alloc, sessions.len())?;

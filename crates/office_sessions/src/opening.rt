@@ -3,12 +3,13 @@ ghost use Rattle.std.specs.Prelude.{◌≡◌, [], ◌∷◌, ◌++◌, length, 
 ghost use Rattle.std.specs.List.{AllZip};
 ghost use Rattle.station_desk.specs.Rings.{AreTogether};
 ghost use Rattle.office_day.specs.HandedIn.{IsFresh};
-ghost use Rattle.office_sessions.specs.Session.{own_of, own_of_all};
+ghost use Rattle.office_sessions.specs.Session.{feed_of, own_of, own_of_all};
 
 use crate::counter::{Counter, Unserved, begin_session, empty_session};
 use crate::dispatcher::{SameSessions, dispatch};
 use crate::look::OwnPostings;
 use crate::recess::ArchiveState;
+use crate::replies::OfficeLife;
 use crate::scheduler::Scheduler;
 use crate::session::{CAPACITY, Session};
 use crate::status::Clients;
@@ -22,11 +23,11 @@ use std::thread::{PromisedHandle, Threads, spawn_with};
 
 /// An office's counters, attended to, before its stations take turns.
 #[derive(Drop)]
-pub(crate) struct AttendedCounters {
+pub(crate) struct AttendedCounters<L: OfficeLife> {
     /// What the stations are woken by.
-    pub scheduler: Arc<Scheduler>,
+    pub scheduler: Arc<Scheduler<L>>,
     /// The thread that attends to the counters.
-    pub dispatcher: PromisedHandle<Vec<Session>, SameSessions>,
+    pub dispatcher: PromisedHandle<Vec<Session<L>>, SameSessions<L>>,
     /// The desks of the stations.
     pub desks: Vec<Desk>,
     /// What the counters' threads are woken by.
@@ -35,15 +36,15 @@ pub(crate) struct AttendedCounters {
 
 // The sessions of stations, and their desks.
 #[derive(Drop)]
-struct Attendance {
-    sessions: Vec<Session>,
+struct Attendance<L: OfficeLife> {
+    sessions: Vec<Session<L>>,
     desks: Vec<Desk>,
     wakers: Vec<Arc<Wakers>>,
 }
 
-impl Attendance {
+impl<L: OfficeLife> Attendance<L> {
     // No station, and places for so many.
-    fn new(alloc: Global, stations: usize) -> Result<Attendance, AllocError>
+    fn new(alloc: Global, stations: usize) -> Result<Attendance<L>, AllocError>
         ensures sessions { IfOk result (λ all. all.sessions.items ≡ []) }
         ensures desks { IfOk result (λ all. all.desks.items ≡ []) }
     {
@@ -55,7 +56,7 @@ impl Attendance {
     }
 
     // The next station.
-    fn add(&mut self, session: Session, desk: Desk) -> Result<(), AllocError>
+    fn add(&mut self, session: Session<L>, desk: Desk) -> Result<(), AllocError>
         ensures sessions { OnOk result (self.new.sessions.items ≡ self.old.sessions.items ++ session ∷ []) }
         ensures desks { OnOk result (self.new.desks.items ≡ self.old.desks.items ++ desk ∷ []) }
     {
@@ -69,6 +70,7 @@ impl Attendance {
 /// Begins to attend to the counters, at as many stations, of an office whose archive is so far.
 /// From the batch of the number `first` on only offices posted.
 pub(crate) fn begin<
+    L: OfficeLife + Send + Sync + 'static,
     R: Threads + Wait + Send + Clone + Drop + 'static,
     I: Read + Send + Drop + 'static,
     O: Write + Send + Drop + 'static,
@@ -81,9 +83,9 @@ pub(crate) fn begin<
     first: u64,
     counters: Vec<Counter<I, O>>,
     clients: C,
-) -> Result<AttendedCounters, Unserved>
+) -> Result<AttendedCounters<L>, Unserved>
     ensures together { IfOk result (λ begun. AllZip AreTogether
-        (map (λ session. session.postings.feed) begun.dispatcher.promise.0.value.items)
+        (map feed_of begun.dispatcher.promise.0.value.items)
         begun.desks.items) }
     ensures fresh { IfOk result (λ begun. All IsFresh begun.desks.items) }
     ensures as_many { IfOk result (λ begun. length begun.desks.items ≡ stations) }
@@ -113,16 +115,17 @@ pub(crate) fn begin<
     }
 }
 
-fn new_scheduler(
+fn new_scheduler<L: OfficeLife>(
     alloc: Global,
     stations: u8,
     kept: ArchiveState,
-) -> Result<Arc<Scheduler>, AllocError> {
+) -> Result<Arc<Scheduler<L>>, AllocError> {
     Ok(Arc::new(alloc, Scheduler::new(alloc, stations, kept)?)?)
 }
 
 // A session for each station, with its counter where it has one, and its desk.
 fn seat_all<
+    L: OfficeLife + Send + Sync + 'static,
     R: Threads + Wait + Send + Clone + Drop + 'static,
     I: Read + Send + Drop + 'static,
     O: Write + Send + Drop + 'static,
@@ -132,10 +135,10 @@ fn seat_all<
     stations: u8,
     first: u64,
     counters: Vec<Counter<I, O>>,
-    scheduler: &Arc<Scheduler>,
-) -> Result<Attendance, Unserved>
+    scheduler: &Arc<Scheduler<L>>,
+) -> Result<Attendance<L>, Unserved>
     ensures together { IfOk result (λ all. AllZip AreTogether
-        (map (λ session. session.postings.feed) all.sessions.items) all.desks.items) }
+        (map feed_of all.sessions.items) all.desks.items) }
     ensures fresh { IfOk result (λ all. All IsFresh all.desks.items) }
     ensures as_many { IfOk result (λ all. length all.desks.items ≡ stations) }
     ensures own { IfOk result (λ all.
@@ -169,6 +172,7 @@ fn counter_of<I: Read + Drop, O: Write + Drop>(
 
 // The session of a station, with its counter where it has one.
 fn session_at<
+    L: OfficeLife + Send + Sync + 'static,
     R: Threads + Wait + Send + Clone + Drop + 'static,
     I: Read + Send + Drop + 'static,
     O: Write + Send + Drop + 'static,
@@ -178,8 +182,8 @@ fn session_at<
     own: OwnPostings,
     counter: Option<Counter<I, O>>,
     feed: Feed,
-    scheduler: &Arc<Scheduler>,
-) -> Result<Session, Unserved>
+    scheduler: &Arc<Scheduler<L>>,
+) -> Result<Session<L>, Unserved>
     requires nothing_asked { feed.asked ≡ [] }
     requires nothing_collected { feed.collected ≡ [] }
     requires station { IfSome counter (λ its. its.station ≡ own.station) }

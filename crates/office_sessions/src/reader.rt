@@ -7,6 +7,7 @@ ghost use Rattle.text_grammar.specs.Script.{words_of};
 ghost use Rattle.office_sessions.specs.Reading.{Says, HandsOn, IsHello};
 
 use crate::messages::{Message, WrongLine};
+use crate::replies::OfficeLife;
 use crate::scheduler::Scheduler;
 use crate::wakers::Wakers;
 use rtrb::Producer;
@@ -67,7 +68,12 @@ impl<I: Read + Drop> Reader<I> {
     }
 
     /// Hands on what each line says, until nothing comes any more, or the office's life is over.
-    pub(crate) fn read_all<R: Wait>(&mut self, rt: &R, wakers: &Wakers, scheduler: &Scheduler) {
+    pub(crate) fn read_all<L: OfficeLife, R: Wait>(
+        &mut self,
+        rt: &R,
+        wakers: &Wakers,
+        scheduler: &Scheduler<L>,
+    ) {
         let mut chunk = [0; CHUNK];
         for _ in rt.forever() {
             wakers.note_handed_on(true);
@@ -90,7 +96,13 @@ impl<I: Read + Drop> Reader<I> {
     }
 
     // Takes bytes that were read.
-    fn take<R: Wait>(&mut self, rt: &R, wakers: &Wakers, scheduler: &Scheduler, bytes: &[u8]) {
+    fn take<L: OfficeLife, R: Wait>(
+        &mut self,
+        rt: &R,
+        wakers: &Wakers,
+        scheduler: &Scheduler<L>,
+        bytes: &[u8],
+    ) {
         for byte in bytes {
             let cut = self.cutter.push(*byte);
             self.take_cut(rt, wakers, scheduler, cut);
@@ -102,7 +114,13 @@ impl<I: Read + Drop> Reader<I> {
     }
 
     // Takes a line, if one has ended.
-    fn take_cut<R: Wait>(&mut self, rt: &R, wakers: &Wakers, scheduler: &Scheduler, cut: Cut)
+    fn take_cut<L: OfficeLife, R: Wait>(
+        &mut self,
+        rt: &R,
+        wakers: &Wakers,
+        scheduler: &Scheduler<L>,
+        cut: Cut,
+    )
         ensures line { (line : List ℕ) → cut ≡ Line → self.old.cutter.ended ≡ Some line
             → HandsOn self.old.awaits_hello line (sent self.old.messages) (sent self.new.messages) }
         ensures nothing { cut ≡ Nothing → sent self.new.messages ≡ sent self.old.messages }
@@ -151,7 +169,13 @@ impl<I: Read + Drop> Reader<I> {
     }
 
     // Hands a message to the dispatcher, and waits for a place where there is none.
-    fn hand_on<R: Wait>(&mut self, rt: &R, wakers: &Wakers, scheduler: &Scheduler, message: Message)
+    fn hand_on<L: OfficeLife, R: Wait>(
+        &mut self,
+        rt: &R,
+        wakers: &Wakers,
+        scheduler: &Scheduler<L>,
+        message: Message,
+    )
         ensures { sent self.new.messages ≡ sent self.old.messages ++ message ∷ [] }
     {
         for _ in rt.forever() {

@@ -5,6 +5,7 @@ ghost use Rattle.office_day.specs.Archive.{Archive, CatchesUp, IsKept, WasKept, 
 ghost use Rattle.office_sessions.specs.OfficeStatus.{archived_of};
 
 use crate::look::LookAnswer;
+use crate::replies::OfficeLife;
 use crate::scheduler::Scheduler;
 use gate_journal::{Borrower, Journal};
 use office_day::Recess;
@@ -116,13 +117,13 @@ pub(crate) enum WishOutcome {
 /// A live office between two spans: its archive is kept, and copies are made that were asked for.
 /// If the archive can't be kept, no station takes a turn any more.
 #[derive(Drop)]
-pub(crate) struct WishGranter<'a, R, K> {
+pub(crate) struct WishGranter<'a, L: OfficeLife, R, K> {
     pub rt: &'a R,
-    pub scheduler: &'a Scheduler,
+    pub scheduler: &'a Scheduler<L>,
     pub keeper: K,
 }
 
-impl<R: Wait, K: Keeper> WishGranter<'_, R, K> {
+impl<L: OfficeLife, R: Wait, K: Keeper> WishGranter<'_, L, R, K> {
     // Keeps the archive; if it can't be kept, no station takes a turn any more.
     fn keep_archive<D: Device>(&mut self, journal: Journal<D>) -> (D, ArchiveState)
         ensures looked { WasLookedAt (D.state journal.device) (D.state result.0) }
@@ -158,7 +159,7 @@ impl<R: Wait, K: Keeper> WishGranter<'_, R, K> {
     }
 }
 
-impl<R: Wait, K: Keeper> Borrower for WishGranter<'_, R, K> {
+impl<L: OfficeLife, R: Wait, K: Keeper> Borrower for WishGranter<'_, L, R, K> {
     ghost changes = { λ old new. IsKept (K.archive old.keeper) (K.archive new.keeper) };
 
     ghost learns = { λ image old new.
@@ -175,7 +176,7 @@ impl<R: Wait, K: Keeper> Borrower for WishGranter<'_, R, K> {
     }
 }
 
-impl<R: Wait, K: Keeper> Recess for WishGranter<'_, R, K> {
+impl<L: OfficeLife, R: Wait, K: Keeper> Recess for WishGranter<'_, L, R, K> {
     ghost archive = { λ granting. K.archive granting.keeper };
 
     ghost keeps = { λ old new kept. kept };

@@ -3,10 +3,11 @@
 //! Nobody asks for a turn while no request waits. While the line may still be healing each station
 //! may ask after each turn; from then on one station alone is privileged, and which one follows
 //! from the last move, so that it alone is woken.
+ghost use Rattle.office_sessions.specs.Right.{IsRight};
+
 use crate::recess::{ArchiveState, Wish, WishOutcome};
-use crate::replies::Reply;
+use crate::replies::{OfficeLife, Outbox, Reply};
 use four_state::Rule;
-use rtrb::Producer;
 use station_desk::{Errand, Gate, Question, Report};
 use std::alloc::{AllocError, Global};
 use std::sync::atomic::{AtomicBool, AtomicU64, Ordering};
@@ -30,17 +31,19 @@ const TRIES: u64 = 2;
 
 /// What is asked at a station, and the ring into which the replies go.
 #[derive(Drop)]
-struct Mailbox {
+struct Mailbox<L: OfficeLife> {
     question: Option<Question>,
     // What is wanted there of the next recess.
     wish: Option<Wish>,
     // None if the station has no counter.
-    replies: Option<Producer<Reply>>,
+    replies: Option<Outbox<L>>,
 }
 
-impl Mailbox {
+impl<L: OfficeLife> Mailbox<L> {
     // Hands on what came. One thing is asked at a time, so that there is a place for it.
-    fn reply(&mut self, reply: Reply) {
+    fn reply(&mut self, reply: Reply)
+        requires { IsRight L.reports reply }
+    {
         if let Some(replies) = &mut self.replies {
             let _ = replies.push(reply);
         }
@@ -49,16 +52,16 @@ impl Mailbox {
 
 /// What wakes one station.
 #[derive(Drop)]
-struct Waker {
+struct Waker<L: OfficeLife> {
     parker: Parker,
     // Whether it may have become privileged since it last asked for its turn.
     may_ask: AtomicBool,
     has_begun: AtomicBool,
-    mailbox: Mutex<Mailbox>,
+    mailbox: Mutex<Mailbox<L>>,
 }
 
-impl Waker {
-    fn new() -> Waker {
+impl<L: OfficeLife> Waker<L> {
+    fn new() -> Waker<L> {
         Waker {
             parker: Parker::new(),
             may_ask: AtomicBool::new(true),
@@ -84,8 +87,8 @@ impl Waker {
 
 /// What the threads of a live office share.
 #[derive(Drop)]
-pub(crate) struct Scheduler {
-    wakers: Vec<Waker>,
+pub(crate) struct Scheduler<L: OfficeLife> {
+    wakers: Vec<Waker<L>>,
     // Requests that were submitted, and that no turn has taken.
     waiting: AtomicU64,
     // After so many turns of the office's life one station alone is privileged.
@@ -117,13 +120,13 @@ pub(crate) struct Scheduler {
     dispatcher: Parker,
 }
 
-impl Scheduler {
+impl<L: OfficeLife> Scheduler<L> {
     /// For a line of so many stations, and an archive that is so far.
     pub(crate) fn new(
         alloc: Global,
         stations: u8,
         kept: ArchiveState,
-    ) -> Result<Scheduler, AllocError> {
+    ) -> Result<Scheduler<L>, AllocError> {
         let mut wakers = Vec::with_capacity(alloc, stations as usize)?;
         for _ in 0..stations {
             wakers.push(Waker::new())?;
@@ -160,7 +163,7 @@ impl Scheduler {
     }
 
     /// From now on the replies for a station go into this ring.
-    pub(crate) fn connect<R: Wait>(&self, rt: &R, station: u8, replies: Producer<Reply>) {
+    pub(crate) fn connect<R: Wait>(&self, rt: &R, station: u8, replies: Outbox<L>) {
         if let Some(waker) = self.wakers.get(station as usize) {
             waker.mailbox.lock(rt).replies = Some(replies);
         }
@@ -296,7 +299,7 @@ impl Scheduler {
 
     // Waits, at a station's first errand, until each has begun, or all are sent home. Where that
     // takes too long, all are: a thread is late, or the system refuses it.
-    fn await_others<R: Wait>(&self, rt: &R, waker: &Waker) {
+    fn await_others<R: Wait>(&self, rt: &R, waker: &Waker<L>) {
         if waker.has_begun.swap(true, Ordering::SeqCst) {
             return;
         }
@@ -346,7 +349,7 @@ impl Scheduler {
     }
 
     // What a station is to do now, if there is anything.
-    fn due<R: Wait>(&self, rt: &R, waker: &Waker) -> Option<Errand> {
+    fn due<R: Wait>(&self, rt: &R, waker: &Waker<L>) -> Option<Errand> {
         if self.goes_home() {
             return Some(Errand::Close);
         }
@@ -397,7 +400,9 @@ impl Scheduler {
     }
 }
 
-impl Gate for Scheduler {
+impl<L: OfficeLife> Gate for Scheduler<L> {
+    ghost hears = { λ _. L.reports };
+
     fn errand<R: Wait>(&self, rt: &R, station: u8) -> Errand {
         let Some(waker) = self.wakers.get(station as usize) else {
             return Errand::Close;

@@ -4,6 +4,7 @@ ghost use Rattle.office_sessions.specs.Conversation.{step_of_posting, step_of};
 ghost use Rattle.office_sessions.specs.Conversation.{counted_with, IsCountedBy, IsFresh};
 ghost use Rattle.office_sessions.specs.Replies.{HasSearched, SearchesOn, CameLast, step_of_search};
 ghost use Rattle.office_sessions.specs.Replies.{IsToldByStep};
+ghost use Rattle.office_sessions.specs.Right.{GoesAhead, SearchGoesAhead};
 ghost use Rattle.office_sessions.specs.declared.look.OwnPostings.{OwnPostings};
 ghost use Rattle.office_sessions.specs.declared.replies.Reply.{Reply};
 
@@ -77,6 +78,8 @@ impl Search {
         ensures on { IfOk found (λ step. SearchesOn self.old step self.new) }
         ensures failed { IfErr found (λ refusal. self.new ≡ self.old) }
         ensures counts { IsCountedBy self.old result self.new }
+        ensures ahead { IfOk found (λ step. GoesAhead self.old.from step.posting step.reached)
+            → SearchGoesAhead self.old result self.new }
         ensures by { (own : OwnPostings) (heard : List Reply) → ∥ HasSearched heard self.old ∥₁
             → CameLast (step_of_search self.old found) heard
             → IsToldByStep own self.old.reference result heard }

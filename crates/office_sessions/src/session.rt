@@ -12,7 +12,7 @@ use crate::look::{Look, LookAnswer, OwnPostings};
 use crate::messages::Message;
 use crate::postings::Postings;
 use crate::recent::Recent;
-use crate::replies::Reply;
+use crate::replies::{Inbox, OfficeLife};
 use crate::responses::Response;
 use crate::search::Search;
 use crate::wakers::Wakers;
@@ -60,12 +60,12 @@ impl Earlier {
 /// place is kept for the response to it, so that a counter that reads nothing holds up nobody but
 /// itself.
 #[derive(Drop)]
-pub(crate) struct Session {
+pub(crate) struct Session<L: OfficeLife> {
     own: OwnPostings,
     messages: Consumer<Message>,
     responses: Producer<Response>,
     // What came of what was asked of the station, and of recesses.
-    replies: Consumer<Reply>,
+    replies: Inbox<L>,
     pub(crate) postings: Postings,
     earlier: Earlier,
     wakers: Arc<Wakers>,
@@ -89,30 +89,30 @@ pub(crate) struct Session {
     ghost answered: { ∥ IsAnswering (received messages) (sent responses)
         (entries_of postings.feed.asked) postings.unanswered next search ∥₁ },
     ghost told: { answers_among (sent responses) ≡ map response_of postings.feed.collected },
-    ghost told_by: { AreToldBy own (sent responses) (received replies) },
-    ghost searched: { ∥ HasSearched (received replies) search ∥₁ },
-    ghost looked: { ∥ HasLooked own limit (received replies) look ∥₁ },
+    ghost told_by: { AreToldBy own (sent responses) replies },
+    ghost searched: { ∥ HasSearched replies search ∥₁ },
+    ghost looked: { ∥ HasLooked own limit replies look ∥₁ },
     ghost far: { ∥ IfSome out_of_sight (λ since. HasSeenLast own
-        (2 ^ 64 - 1) (nothing_since since) (received replies)) ∥₁ },
-    ghost learned: { ∥ IsLearned own (received replies) (sent responses)
+        (2 ^ 64 - 1) (nothing_since since) replies) ∥₁ },
+    ghost learned: { ∥ IsLearned own replies (sent responses)
         (entries_of postings.feed.asked) postings.posted earlier ∥₁ },
 }
 
-impl Session {
+impl<L: OfficeLife> Session<L> {
     /// A counter that has said nothing yet.
     pub(crate) fn new(
         own: OwnPostings,
         messages: Consumer<Message>,
         responses: Producer<Response>,
-        replies: Consumer<Reply>,
+        replies: Inbox<L>,
         feed: Feed,
         wakers: Arc<Wakers>,
         recent: Recent,
         closes_at_end: bool,
-    ) -> Session
+    ) -> Session<L>
         requires nothing_said { received messages ≡ [] }
         requires nothing_told { sent responses ≡ [] }
-        requires nothing_heard { received replies ≡ [] }
+        requires nothing_heard { replies ≡ [] }
         requires nothing_asked { feed.asked ≡ [] }
         requires nothing_collected { feed.collected ≡ [] }
         ensures feed { result.postings.feed ≡ feed }

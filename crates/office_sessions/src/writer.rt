@@ -1,5 +1,6 @@
 //! The thread that writes what a counter is told.
 use crate::identity::Identity;
+use crate::replies::OfficeLife;
 use crate::responses::Response;
 use crate::scheduler::Scheduler;
 use crate::wakers::Wakers;
@@ -51,7 +52,12 @@ impl<O: Write + Drop> Writer<O> {
     }
 
     /// Writes each response as it comes.
-    pub(crate) fn write_all<R: Wait>(&mut self, rt: &R, wakers: &Wakers, scheduler: &Scheduler) {
+    pub(crate) fn write_all<L: OfficeLife, R: Wait>(
+        &mut self,
+        rt: &R,
+        wakers: &Wakers,
+        scheduler: &Scheduler<L>,
+    ) {
         self.write(self.prompt.as_bytes());
         for _ in rt.forever() {
             let count = self.gather();

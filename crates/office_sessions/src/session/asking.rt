@@ -1,16 +1,16 @@
 //! What a counter asks that is no entry: of its station, or of a recess.
-ghost use Rattle.std.specs.Prelude.{◌≡◌, [], ◌∷◌, ◌++◌, false, IsTrue, IfSome, Some, None};
-ghost use Rattle.rtrb.specs.Ring.{received};
+ghost use Rattle.std.specs.Prelude.{◌≡◌, [], ◌∷◌, ◌++◌, false, IsTrue, IfSome, IfOk, Some, None};
 ghost use Rattle.text_grammar.specs.declared.requests.Request.TheVariants.{Balance, Find, Archive};
 ghost use Rattle.text_grammar.specs.declared.requests.Request.TheVariants.{Copy, Status};
 ghost use Rattle.office_sessions.specs.declared.messages.Message.TheVariants.{Asked};
 ghost use Rattle.office_sessions.specs.Conversation.{IsAskedBy, IsCountedBy, EndsCount};
 ghost use Rattle.office_sessions.specs.Replies.{CameLast, IsToldBy, HasSearched, step_of_search};
+ghost use Rattle.office_sessions.specs.Right.{GoesAhead, SearchGoesAhead, IsRight};
 ghost use Rattle.office_sessions.specs.Session.{HasPlace, OnlyTells, TellsNothing, KeepsLooking};
 ghost use Rattle.office_sessions.specs.Session.{KeepsLearned};
 
 use crate::recess::{ArchiveState, Wish, WishOutcome};
-use crate::replies::Reply;
+use crate::replies::{OfficeLife, Reply};
 use crate::responses::Response;
 use crate::scheduler::Scheduler;
 use crate::search::{Search, Step};
@@ -20,13 +20,13 @@ use station_desk::{Question, Report};
 use std::sync::Wait;
 use turn_clerk::{FindRefusal, SearchStep};
 
-impl Session {
+impl<L: OfficeLife> Session<L> {
     // What the station reports on a question, which is put to it once, behind all that was asked
     // before.
     pub(super) fn report<R: Wait>(
         &mut self,
         rt: &R,
-        scheduler: &Scheduler,
+        scheduler: &Scheduler<L>,
         question: Question,
     ) -> Option<Report>
         requires behind { self.old.postings.unanswered ≡ 0 }
@@ -35,7 +35,8 @@ impl Session {
         ensures stays { TellsNothing self.old self.new }
         ensures keeps { KeepsLooking self.old self.new }
         ensures last { IfSome result (λ report.
-            CameLast (Reply.Report question report) (received self.new.replies)) }
+            CameLast (Reply.Report question report) self.new.replies) }
+        ensures right { IfSome result (L.reports question) }
     {
         if !self.is_asked {
             self.is_asked = true;
@@ -58,16 +59,17 @@ impl Session {
         ensures stays { TellsNothing self.old self.new }
         ensures keeps { KeepsLooking self.old self.new }
         ensures last { IfSome result (λ reply.
-            received self.new.replies ≡ received self.old.replies ++ reply ∷ []) }
+            self.new.replies ≡ self.old.replies ++ reply ∷ []) }
+        ensures right { IfSome result (IsRight L.reports) }
         ensures none { result ≡ None → self.new.out_of_sight ≡ self.old.out_of_sight }
     {
-        match self.replies.pop() {
-            Ok(reply) => {
+        match self.replies.take() {
+            Some(reply) => {
                 self.is_asked = false;
                 self.out_of_sight = None;
                 Some(reply)
             }
-            Err(_) => None,
+            None => None,
         }
     }
 
@@ -75,7 +77,7 @@ impl Session {
     pub(super) fn tell_balance<R: Wait>(
         &mut self,
         rt: &R,
-        scheduler: &Scheduler,
+        scheduler: &Scheduler<L>,
         account: u32,
     ) -> bool
         requires place { HasPlace self.old }
@@ -95,7 +97,7 @@ impl Session {
     pub(super) fn tell_found<R: Wait>(
         &mut self,
         rt: &R,
-        scheduler: &Scheduler,
+        scheduler: &Scheduler<L>,
         reference: u64,
     ) -> bool
         requires place { HasPlace self.old }
@@ -134,8 +136,9 @@ impl Session {
         requires place { HasPlace self.old }
         requires behind { self.old.postings.unanswered ≡ 0 }
         requires next { self.old.next ≡ Some (Asked (Find self.old.search.reference)) }
-        requires last { CameLast (step_of_search self.old.search found)
-            (received self.old.replies) }
+        requires last { CameLast (step_of_search self.old.search found) self.old.replies }
+        requires ahead { IfOk found (λ step.
+            GoesAhead self.old.search.from step.posting step.reached) }
         ensures stays { OnlyTells self.old self.new }
         ensures handled { IsTrue result → self.new.next ≡ None }
         ensures goes_on { result ≡ false → (self.new.next ≡ self.old.next)
@@ -157,9 +160,10 @@ impl Session {
         requires behind { self.old.postings.unanswered ≡ 0 }
         requires next { self.old.next ≡ Some (Asked (Find self.old.search.reference)) }
         requires counted { IsCountedBy self.old.search (Step.Found number) search }
-        requires searched { ∥ HasSearched (received self.old.replies) search ∥₁ }
+        requires ahead { SearchGoesAhead self.old.search (Step.Found number) search }
+        requires searched { ∥ HasSearched self.old.replies search ∥₁ }
         requires by { IsToldBy self.old.own
-            (Response.Found number self.old.search.reference) (received self.old.replies) }
+            (Response.Found number self.old.search.reference) self.old.replies }
         ensures stays { OnlyTells self.old self.new }
         ensures goes_on { self.new.next ≡ self.old.next }
         ensures search { self.new.search ≡ search }
@@ -180,7 +184,7 @@ impl Session {
         requires behind { self.old.postings.unanswered ≡ 0 }
         requires next { self.old.next ≡ Some (Asked (Find self.old.search.reference)) }
         requires counted { EndsCount self.old.search.count last }
-        requires by { IsToldBy self.old.own last (received self.old.replies) }
+        requires by { IsToldBy self.old.own last self.old.replies }
         ensures done { IsTrue result }
         ensures stays { OnlyTells self.old self.new }
         ensures handled { self.new.next ≡ None }
@@ -197,14 +201,14 @@ impl Session {
     pub(super) fn what_came<R: Wait>(
         &mut self,
         rt: &R,
-        scheduler: &Scheduler,
+        scheduler: &Scheduler<L>,
         wish: Wish,
     ) -> Option<WishOutcome>
         requires behind { self.old.postings.unanswered ≡ 0 }
         ensures stays { TellsNothing self.old self.new }
         ensures keeps { KeepsLooking self.old self.new }
-        ensures last { IfSome result (λ came. received self.new.replies
-            ≡ received self.old.replies ++ Reply.Outcome came ∷ []) }
+        ensures last { IfSome result (λ came. self.new.replies
+            ≡ self.old.replies ++ Reply.Outcome came ∷ []) }
     {
         if !self.is_asked {
             self.is_asked = true;
@@ -220,7 +224,7 @@ impl Session {
 
     // Tells how far the archive is; false if that isn't known yet. Where it can't be kept the
     // office closes, and tells that.
-    pub(super) fn tell_archived<R: Wait>(&mut self, rt: &R, scheduler: &Scheduler) -> bool
+    pub(super) fn tell_archived<R: Wait>(&mut self, rt: &R, scheduler: &Scheduler<L>) -> bool
         requires place { HasPlace self.old }
         requires behind { self.old.postings.unanswered ≡ 0 }
         requires next { self.old.next ≡ Some (Asked Archive) }
@@ -244,7 +248,7 @@ impl Session {
     }
 
     // Tells of a copy; false if it isn't made yet.
-    pub(super) fn tell_copied<R: Wait>(&mut self, rt: &R, scheduler: &Scheduler) -> bool
+    pub(super) fn tell_copied<R: Wait>(&mut self, rt: &R, scheduler: &Scheduler<L>) -> bool
         requires place { HasPlace self.old }
         requires behind { self.old.postings.unanswered ≡ 0 }
         requires next { self.old.next ≡ Some (Asked Copy) }
@@ -262,7 +266,7 @@ impl Session {
     pub(super) fn tell_status<R: Wait, C: Clients>(
         &mut self,
         rt: &R,
-        scheduler: &Scheduler,
+        scheduler: &Scheduler<L>,
         clients: &mut C,
     ) -> bool
         requires place { HasPlace self.old }

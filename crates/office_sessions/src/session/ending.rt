@@ -1,16 +1,18 @@
 //! How a conversation with a counter ends.
-ghost use Rattle.std.specs.Prelude.{◌≡◌, ◌⊎◌, ◌<◌, length, IfOk};
+ghost use Rattle.std.specs.Prelude.{◌≡◌, ◌⊎◌, ◌<◌, length, All, IfOk};
 ghost use Rattle.rtrb.specs.Ring.{sent};
 ghost use Rattle.office_sessions.specs.Conversation.{pending, IsToldNoMore};
 ghost use Rattle.office_sessions.specs.Over.{IsOver};
+ghost use Rattle.office_sessions.specs.Right.{IsRight};
 
 use crate::conversation::{Conversation, listed};
+use crate::replies::OfficeLife;
 use crate::session::Session;
 use station_desk::Feed;
 use std::alloc::{AllocError, Global};
 use std::time::Clock;
 
-impl Session {
+impl<L: OfficeLife> Session<L> {
     /// Ends the conversation: what the counter asks to post by now is listed, other questions are
     /// refused, and it is told that the office closes. Nothing is answered behind an entry that
     /// isn't.
@@ -24,7 +26,8 @@ impl Session {
     ) -> Result<(Feed, Conversation), AllocError>
         ensures feed { IfOk result (λ both. both.0 ≡ self.postings.feed) }
         ensures own { IfOk result (λ both. both.1.own ≡ self.own) }
-        ensures over { IfOk result (λ both. IsOver both.0 both.1) }
+        ensures right { All (IsRight L.reports) self.replies }
+        ensures over { IfOk result (λ both. IsOver both.0 self.replies both.1) }
         ensures silent { (0 < self.postings.unanswered) ⊎ (0 < length (pending self.next))
             → IfOk result (λ both. IsToldNoMore (sent self.responses) both.1.told) }
     {
@@ -40,12 +43,12 @@ impl Session {
             is_told_closing,
             ..
         } = self;
+        replies.are_right();
         let unheard = listed(alloc, next)?;
         let mut conversation = Conversation::new(
             own,
             messages,
             responses,
-            replies,
             unheard,
             recent,
             wakers,

@@ -1,7 +1,6 @@
 //! How a counter's entries are posted: each reference once.
 ghost use Rattle.std.specs.Prelude.{◌≡◌, ◌≢◌, ◌+◌, ◌^◌, ◌<◌, max, IsTrue, IfSome, IfOk, IfErr};
 ghost use Rattle.std.specs.Prelude.{Some, None, OnOk, IsOkAnd};
-ghost use Rattle.rtrb.specs.Ring.{received};
 ghost use Rattle.text_grammar.specs.declared.requests.Request.TheVariants.{Post, Last, First};
 ghost use Rattle.office_sessions.specs.declared.messages.Message.TheVariants.{Asked};
 ghost use Rattle.office_sessions.specs.Conversation.{MayLook};
@@ -15,6 +14,7 @@ ghost use Rattle.turn_ledger.specs.Entry.{reference_of};
 use crate::look::{Look, LookAnswer, farther, judge};
 use crate::postings::Submission;
 use crate::recess::{Wish, WishOutcome};
+use crate::replies::OfficeLife;
 use crate::responses::{Judgement, Response};
 use crate::scheduler::Scheduler;
 use crate::session::{Earlier, Session};
@@ -23,11 +23,11 @@ use std::sync::Wait;
 use turn_clerk::FindRefusal;
 use turn_ledger::Entry;
 
-impl Session {
+impl<L: OfficeLife> Session<L> {
     // Posts the entry that is asked for next, for whose response there is a place; false if that
     // can't be done yet. One with a reference is submitted only if that is above all that were
     // posted here or are under way.
-    pub(super) fn post<R: Wait>(&mut self, rt: &R, scheduler: &Scheduler, entry: Entry) -> bool
+    pub(super) fn post<R: Wait>(&mut self, rt: &R, scheduler: &Scheduler<L>, entry: Entry) -> bool
         requires place { HasPlace self.old }
         requires next { self.old.next ≡ Some (Asked (Post entry)) }
         ensures stands { StaysAt self.old self.new }
@@ -40,7 +40,7 @@ impl Session {
     }
 
     // The same, if it isn't known whether its reference is above: that is found out first.
-    fn post_first<R: Wait>(&mut self, rt: &R, scheduler: &Scheduler, entry: Entry) -> bool
+    fn post_first<R: Wait>(&mut self, rt: &R, scheduler: &Scheduler<L>, entry: Entry) -> bool
         requires place { HasPlace self.old }
         requires next { self.old.next ≡ Some (Asked (Post entry)) }
         ensures stands { StaysAt self.old self.new }
@@ -64,7 +64,7 @@ impl Session {
 
     // Submits the entry, or, if its reference isn't above or is too far above, judges it behind all
     // that was asked before.
-    fn submit<R: Wait>(&mut self, rt: &R, scheduler: &Scheduler, entry: Entry) -> bool
+    fn submit<R: Wait>(&mut self, rt: &R, scheduler: &Scheduler<L>, entry: Entry) -> bool
         requires known { 0 < reference_of entry → self.old.earlier ≡ Earlier.Known }
         requires place { HasPlace self.old }
         requires next { self.old.next ≡ Some (Asked (Post entry)) }
@@ -84,7 +84,7 @@ impl Session {
     }
 
     // Hands the entry to the feed, if its reference is above.
-    fn hand_in(&mut self, scheduler: &Scheduler, entry: Entry) -> Submission
+    fn hand_in(&mut self, scheduler: &Scheduler<L>, entry: Entry) -> Submission
         requires known { 0 < reference_of entry → self.old.earlier ≡ Earlier.Known }
         requires place { HasPlace self.old }
         requires next { self.old.next ≡ Some (Asked (Post entry)) }
@@ -111,7 +111,7 @@ impl Session {
     }
 
     // Answers an entry whose reference isn't above those that were posted, by what stands under it.
-    fn judge_repeated<R: Wait>(&mut self, rt: &R, scheduler: &Scheduler, entry: Entry) -> bool
+    fn judge_repeated<R: Wait>(&mut self, rt: &R, scheduler: &Scheduler<L>, entry: Entry) -> bool
         requires place { HasPlace self.old }
         requires behind { self.old.postings.unanswered ≡ 0 }
         requires next { self.old.next ≡ Some (Asked (Post entry)) }
@@ -133,7 +133,7 @@ impl Session {
         requires behind { self.old.postings.unanswered ≡ 0 }
         requires next { self.old.next ≡ Some (Asked (Post entry)) }
         requires by { ∥ IsJudgedBy self.old.own entry judgement
-            (received self.old.replies) ∥₁ }
+            self.old.replies ∥₁ }
         ensures told { IsTrue result }
         ensures own { self.new.own ≡ self.old.own }
         ensures feed { self.new.postings.feed ≡ self.old.postings.feed }
@@ -152,7 +152,7 @@ impl Session {
     fn look<R: Wait>(
         &mut self,
         rt: &R,
-        scheduler: &Scheduler,
+        scheduler: &Scheduler<L>,
         limit: u64,
     ) -> Option<Result<LookAnswer, FindRefusal>>
         requires behind { self.old.postings.unanswered ≡ 0 }
@@ -160,9 +160,9 @@ impl Session {
         ensures stays { TellsNothing self.old self.new }
         ensures learns { KeepsLearned self.old self.new }
         ensures seen { IfSome result (λ told. IfOk told (λ seen.
-            HasSeenLast self.old.own limit seen (received self.new.replies))) }
+            HasSeenLast self.old.own limit seen self.new.replies)) }
         ensures failed { IfSome result (λ told. IfErr told (λ refusal.
-            FailedLast refusal (received self.new.replies))) }
+            FailedLast refusal self.new.replies)) }
     {
         self.look_up_to(limit);
         let question = self.look.question(self.own.station, self.limit);
@@ -197,14 +197,14 @@ impl Session {
     fn look_back<R: Wait>(
         &mut self,
         rt: &R,
-        scheduler: &Scheduler,
+        scheduler: &Scheduler<L>,
     ) -> Option<Result<(), FindRefusal>>
         requires behind { self.old.postings.unanswered ≡ 0 }
         requires right { MayLook self.old.next self.old.own.station u64.MAX }
         ensures stays { TellsNothing self.old self.new }
         ensures looked { IfSome result (λ told. OnOk told (self.new.earlier ≢ Earlier.Unlooked)) }
         ensures failed { IfSome result (λ told. IfErr told (λ refusal.
-            FailedLast refusal (received self.new.replies))) }
+            FailedLast refusal self.new.replies)) }
     {
         if self.earlier != Earlier::Unlooked {
             return Some(Ok(()));
@@ -223,16 +223,16 @@ impl Session {
     fn look_far<R: Wait>(
         &mut self,
         rt: &R,
-        scheduler: &Scheduler,
+        scheduler: &Scheduler<L>,
     ) -> Option<Result<LookAnswer, FindRefusal>>
         requires behind { self.old.postings.unanswered ≡ 0 }
         requires right { MayLook self.old.next self.old.own.station u64.MAX }
         ensures stays { TellsNothing self.old self.new }
         ensures earlier { self.new.earlier ≡ self.old.earlier }
         ensures seen { IfSome result (λ told. IfOk told (λ seen.
-            ∥ HasSeenAll self.old.own seen (received self.new.replies) ∥₁)) }
+            ∥ HasSeenAll self.old.own seen self.new.replies ∥₁)) }
         ensures failed { IfSome result (λ told. IfErr told (λ refusal.
-            FailedLast refusal (received self.new.replies))) }
+            FailedLast refusal self.new.replies)) }
     {
         if self.out_of_sight.is_none() {
             let seen = match self.look(rt, scheduler, u64::MAX)? {
@@ -251,13 +251,13 @@ impl Session {
     fn look_in_archive<R: Wait>(
         &mut self,
         rt: &R,
-        scheduler: &Scheduler,
+        scheduler: &Scheduler<L>,
     ) -> Option<Result<LookAnswer, FindRefusal>>
         requires behind { self.old.postings.unanswered ≡ 0 }
         ensures stays { TellsNothing self.old self.new }
         ensures earlier { self.new.earlier ≡ self.old.earlier }
         ensures seen { IfSome result (λ told. IsOkAnd told (λ seen.
-            ∥ HasSeenAll self.old.own seen (received self.new.replies) ∥₁)) }
+            ∥ HasSeenAll self.old.own seen self.new.replies ∥₁)) }
     {
         let since = self.out_of_sight?;
         let WishOutcome::Last(in_archive) = self.what_came(rt, scheduler, Wish::Last)? else {
@@ -268,7 +268,7 @@ impl Session {
 
     // Learns which reference was posted last.
     fn learn(&mut self, seen: LookAnswer)
-        requires seen { ∥ HasSeenAll self.old.own seen (received self.old.replies) ∥₁ }
+        requires seen { ∥ HasSeenAll self.old.own seen self.old.replies ∥₁ }
         ensures heard { self.new.replies ≡ self.old.replies }
         ensures learned { self.old.earlier ≡ Earlier.Unlooked → self.new.earlier ≡ earlier_by seen }
         ensures known { self.new.earlier ≢ Earlier.Unlooked }
@@ -285,7 +285,7 @@ impl Session {
     }
 
     // Tells which reference was posted here last; false if that isn't known yet.
-    pub(super) fn tell_last<R: Wait>(&mut self, rt: &R, scheduler: &Scheduler) -> bool
+    pub(super) fn tell_last<R: Wait>(&mut self, rt: &R, scheduler: &Scheduler<L>) -> bool
         requires place { HasPlace self.old }
         requires behind { self.old.postings.unanswered ≡ 0 }
         requires next { self.old.next ≡ Some (Asked Last) }
@@ -307,7 +307,7 @@ impl Session {
     pub(super) fn begin_with<R: Wait>(
         &mut self,
         rt: &R,
-        scheduler: &Scheduler,
+        scheduler: &Scheduler<L>,
         reference: u64,
     ) -> bool
         requires place { HasPlace self.old }

@@ -1,6 +1,6 @@
 //! How what a counter says is taken, and what has come is handed on.
 ghost use Rattle.std.specs.Prelude.{◌≡◌, [], ◌∷◌, ◌++◌, false, IsTrue, IsSomeAnd, Some, None};
-ghost use Rattle.rtrb.specs.Ring.{sent, received};
+ghost use Rattle.rtrb.specs.Ring.{sent};
 ghost use Rattle.text_grammar.specs.declared.requests.Request.TheVariants.{Close};
 ghost use Rattle.office_sessions.specs.declared.messages.Message.TheVariants.{Asked, Ended};
 ghost use Rattle.office_sessions.specs.Conversation.{is_answer, IsResponseTo};
@@ -8,6 +8,7 @@ ghost use Rattle.office_sessions.specs.Replies.{IsToldBy};
 ghost use Rattle.office_sessions.specs.Session.{HasPlace, OnlyTells, KeepsLooking, StaysAt};
 
 use crate::messages::Message;
+use crate::replies::OfficeLife;
 use crate::responses::Response;
 use crate::scheduler::Scheduler;
 use crate::session::{CAPACITY, Session};
@@ -15,13 +16,13 @@ use crate::status::Clients;
 use std::sync::Wait;
 use text_grammar::Request;
 
-impl Session {
+impl<L: OfficeLife> Session<L> {
     /// Hands on the answers that have come, and takes what the counter has said, as far as there is
     /// room.
     pub(crate) fn attend<R: Wait, C: Clients>(
         &mut self,
         rt: &R,
-        scheduler: &Scheduler,
+        scheduler: &Scheduler<L>,
         clients: &mut C,
     )
         ensures { StaysAt self.old self.new }
@@ -46,7 +47,12 @@ impl Session {
     }
 
     // Takes what the counter has said, one message after another.
-    fn take_messages<R: Wait, C: Clients>(&mut self, rt: &R, scheduler: &Scheduler, clients: &mut C)
+    fn take_messages<R: Wait, C: Clients>(
+        &mut self,
+        rt: &R,
+        scheduler: &Scheduler<L>,
+        clients: &mut C,
+    )
         ensures { StaysAt self.old self.new }
     {
         for _ in 0..CAPACITY {
@@ -60,7 +66,7 @@ impl Session {
     fn take_next<R: Wait, C: Clients>(
         &mut self,
         rt: &R,
-        scheduler: &Scheduler,
+        scheduler: &Scheduler<L>,
         clients: &mut C,
     ) -> bool
         ensures { StaysAt self.old self.new }
@@ -75,7 +81,7 @@ impl Session {
     }
 
     // What is handled next. Of an office that closes nothing more is taken.
-    fn next_message(&mut self, scheduler: &Scheduler) -> Option<Message>
+    fn next_message(&mut self, scheduler: &Scheduler<L>) -> Option<Message>
         ensures next { result ≡ self.new.next }
         ensures own { self.new.own ≡ self.old.own }
         ensures feed { self.new.postings.feed ≡ self.old.postings.feed }
@@ -107,7 +113,7 @@ impl Session {
     fn handle<R: Wait, C: Clients>(
         &mut self,
         rt: &R,
-        scheduler: &Scheduler,
+        scheduler: &Scheduler<L>,
         clients: &mut C,
         message: Message,
     ) -> bool
@@ -145,7 +151,7 @@ impl Session {
     }
 
     // Where nothing comes any more the office closes, if its counter is a terminal.
-    fn end_input(&mut self, scheduler: &Scheduler) -> bool
+    fn end_input(&mut self, scheduler: &Scheduler<L>) -> bool
         requires behind { self.old.postings.unanswered ≡ 0 }
         requires next { self.old.next ≡ Some Ended }
         ensures stays { OnlyTells self.old self.new }
@@ -159,7 +165,7 @@ impl Session {
     }
 
     // Closes the office, as the counter asks, and tells it so.
-    fn close(&mut self, scheduler: &Scheduler) -> bool
+    fn close(&mut self, scheduler: &Scheduler<L>) -> bool
         requires place { HasPlace self.old }
         requires behind { self.old.postings.unanswered ≡ 0 }
         requires next { self.old.next ≡ Some (Asked Close) }
@@ -178,7 +184,7 @@ impl Session {
         requires behind { self.old.postings.unanswered ≡ 0 }
         requires other { is_answer response ≡ false }
         requires right { IsSomeAnd self.old.next (λ message. IsResponseTo message response) }
-        requires by { ∥ IsToldBy self.old.own response (received self.old.replies) ∥₁ }
+        requires by { ∥ IsToldBy self.old.own response self.old.replies ∥₁ }
         ensures done { IsTrue result }
         ensures handled { self.new.next ≡ None }
         ensures stays { OnlyTells self.old self.new }

@@ -7,8 +7,7 @@ use Rattle.std.proofs.lemmas.List.Elements.{All-push}
 use Rattle.station_desk.specs.Rings.{FeedState, DeskState, AreTogether}
 use Rattle.office_day.specs.HandedIn.{IsFresh}
 use Rattle.office_day.proofs.Lists.{AllZip-more}
-use Rattle.office_sessions.specs.declared.session.Session.{Session}
-use Rattle.office_sessions.specs.Session.{own_of, own_of_all}
+use Rattle.office_sessions.specs.Session.{feed_of, own_of, own_of_all}
 use Rattle.office_sessions.proofs.opening.seat_all.Goals as goal
 
 pub loop-station-preserved : goal.loop-station-preserved
@@ -16,7 +15,6 @@ loop-station-preserved g c =
     let at = c.loop-station in
     let session = c.in_ok-session.session in
     let desk = c.in_ok-feed.desk in
-    let feed_of : Session → FeedState = λ s. s.postings.feed in
     let own : session.postings.feed ≡ c.in_ok-feed.feed = c.in_ok-session.ensures.feed in
     let feeds : map feed_of c.add.new.self.sessions.items
     ≡ map feed_of at.all.sessions.items ++ session.postings.feed ∷ [] =

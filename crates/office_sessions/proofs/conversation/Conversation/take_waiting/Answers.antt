@@ -9,10 +9,10 @@ loop-preserved c =
     let was = c.loop.invariant in
     record {
       own = c.refuse.ensures.own ∙ ap (λ (k : ConversationState). k.own) c.self.view_is ∙ was.own;
-      ends = λ feed before.
-          c.refuse.ensures.ends feed
-          (ending-said feed _ c.in-Ok.message _ _ c.in-Ok.ensures.ok.0 c.in_ok-list.ensures
-          (subst (IsEnding _ feed) (sym c.self.view_is) (was.ends feed before)));
+      ends = λ feed heard before.
+          c.refuse.ensures.ends feed heard
+          (ending-said feed heard _ c.in-Ok.message _ _ c.in-Ok.ensures.ok.0 c.in_ok-list.ensures
+          (subst (IsEnding _ feed heard) (sym c.self.view_is) (was.ends feed heard before)));
       silent = λ before.
           let so = was.silent before in
           let mid = silent-more c.self.inside.is_silent c.self.inside.unheard.items

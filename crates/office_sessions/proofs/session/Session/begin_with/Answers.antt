@@ -1,7 +1,7 @@
 use Rattle.std.specs.Prelude.{◌≢◌, map, Result, OnOk}
 use Rattle.std.proofs.Common.{sym, ◌∙◌, ap, subst, arith}
 use Rattle.std.proofs.Math.Logic.{∥∥₁_map}
-use Rattle.rtrb.specs.Ring.{sent, received}
+use Rattle.rtrb.specs.Ring.{sent}
 use Rattle.station_desk.specs.Messages.{entries_of}
 use Rattle.station_desk.specs.Rings.{FeedState}
 use Rattle.turn_clerk.specs.declared.refusals.FindRefusal.{FindRefusal}
@@ -22,7 +22,7 @@ respond-told-requires-clause-by g c =
     (c.look_back.new.self.earlier ≢ earlier.Unlooked))
     c.in-Some-Ok.field-0-is c.in-Some-Ok.ensures.looked in
     ∥∥₁_map mid.learned
-    (first-learned mid.own (received mid.replies) (sent mid.responses)
+    (first-learned mid.own mid.replies (sent mid.responses)
     (entries_of mid.postings.feed.asked) mid.postings.posted mid.earlier c.args.reference
     looked
     (omega (arith, c.if-reference-greatest.false, c.greatest.ensures)))
@@ -36,7 +36,7 @@ respond-requires-then-reference-greatest-clause-by g c =
     (c.look_back.new.self.earlier ≢ earlier.Unlooked))
     c.in-Some-Ok.field-0-is c.in-Some-Ok.ensures.looked in
     ∥∥₁_map mid.learned
-    (looked-learned mid.own (received mid.replies) (sent mid.responses)
+    (looked-learned mid.own mid.replies (sent mid.responses)
     (entries_of mid.postings.feed.asked) mid.postings.posted mid.earlier looked)
 
 pub invariant_of-self-clause-learned : goal.invariant_of-self-clause-learned
@@ -48,11 +48,11 @@ invariant_of-self-clause-learned g c =
     (λ (told : Result (Unit {0}) FindRefusal). OnOk told
     (c.look_back.new.self.earlier ≢ earlier.Unlooked))
     c.in-Some-Ok.field-0-is c.in-Some-Ok.ensures.looked in
-    subst (λ (feed : FeedState). ∥ IsLearned mid.own (received mid.replies)
+    subst (λ (feed : FeedState). ∥ IsLearned mid.own mid.replies
     (sent mid.responses) (entries_of feed.asked) posted earlier.Known ∥₁)
     (sym c.raise.ensures.feed)
     (∥∥₁_map mid.learned
-    (learned-first mid.own (received mid.replies) (sent mid.responses)
+    (learned-first mid.own mid.replies (sent mid.responses)
     (entries_of mid.postings.feed.asked) mid.postings.posted posted mid.earlier c.args.reference
     (λ unlooked. looked (sym c.respond-told.ensures.keeps.learned.earlier ∙ unlooked))
     (omega (arith, c.raise.ensures.greatest))

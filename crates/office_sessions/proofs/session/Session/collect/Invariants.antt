@@ -2,4 +2,4 @@ use Rattle.office_sessions.specs.Session.{StaysAt}
 use Rattle.office_sessions.proofs.session.Session.collect.Given as goal
 
 abbrev pub invariant-loop : goal.invariant-loop
-invariant-loop l = StaysAt l.initial.self l.self
+invariant-loop g l = StaysAt l.initial.self l.self

@@ -1,12 +1,13 @@
 use Rattle.std.proofs.Common.{rules, ◌∙◌, sym, subst}
 use Rattle.std.proofs.Math.Logic.{∥∥₁_map}
-use Rattle.rtrb.specs.Ring.{sent, received}
+use Rattle.std.specs.Option.{option_to_list}
+use Rattle.std.proofs.lemmas.Bool.{true≢false}
+use Rattle.rtrb.specs.Ring.{sent}
 use Rattle.station_desk.specs.Messages.{entries_of}
 use Rattle.station_desk.specs.Rings.{FeedState}
 use Rattle.office_sessions.specs.Rising.{AreAbove}
-use Rattle.office_sessions.specs.Exchange.{one_of}
 use Rattle.office_sessions.specs.Over.{IsOver, IsEnding}
-use Rattle.office_sessions.proofs.LateExchanges.{ending-begins, never-both}
+use Rattle.office_sessions.proofs.LateExchanges.{ending-begins}
 use Rattle.office_sessions.proofs.ToldBy.{rise-learned}
 use Rattle.office_sessions.proofs.session.Session.end.Goals.{then-is_told_closing}
 use Rattle.office_sessions.proofs.session.Session.end.Goals.{else-is_told_closing}
@@ -16,8 +17,9 @@ pub returns-clause-over : goal.returns-clause-over
 returns-clause-over g c =
     let old = c.args.self in
     let feed = old.postings.feed in
-    let begun : IsEnding (one_of old.next) feed c.new-conversation.result =
-    subst (IsEnding (one_of old.next) feed) (sym c.new-conversation.ensures) (record {
+    let begun : IsEnding (option_to_list old.next) feed old.replies c.new-conversation.result =
+    subst (IsEnding (option_to_list old.next) feed old.replies) (sym c.new-conversation.ensures)
+    (record {
       told = old.told;
       answered = ∥∥₁_map old.answered (λ was.
           let left = ending-begins c.in_ok-unheard.ensures was in
@@ -28,7 +30,7 @@ returns-clause-over g c =
             waiting = λ is. left.3
                 (elim c.if-is_told_closing.branch [
                   | then-is_told_closing w ↦ absurd
-                      (never-both (sym w.if-is_told_closing.true ∙ sym w.new-is ∙ is.0))
+                      (true≢false (sym w.if-is_told_closing.true ∙ sym w.new-is ∙ is.0))
                   | else-is_told_closing w ↦ let both = sym w.new-is ∙ is.0 in search rules
                 ]);
           });
@@ -37,10 +39,12 @@ returns-clause-over g c =
       follows = record {
         right = old.told_by;
         rise = ∥∥₁_map old.learned
-            (rise-learned old.own (received old.replies) (sent old.responses)
+            (rise-learned old.own old.replies (sent old.responses)
             (entries_of feed.asked) old.postings.posted old.earlier);
       };
     }) in
-    subst (λ (one : FeedState). IsOver one c.tell_closing.new.self) (sym c.into_feed.ensures.feed)
-    (c.tell_closing.ensures.over feed
-    (c.in_ok-take_late.ensures.ends feed (c.refuse_next.ensures.ends feed begun)))
+    subst (λ (one : FeedState). IsOver one old.replies c.tell_closing.new.self)
+    (sym c.into_feed.ensures.feed)
+    (c.tell_closing.ensures.over feed old.replies
+    (c.in_ok-take_late.ensures.ends feed old.replies
+    (c.refuse_next.ensures.ends feed old.replies begun)))

@@ -9,7 +9,7 @@ use Rattle.office_sessions.proofs.Exchanges.{answering-ended, answering-still}
 use Rattle.office_sessions.proofs.session.Session.end_input.Goals as goal
 
 pub invariant_of-self-clause-answered : goal.invariant_of-self-clause-answered
-invariant_of-self-clause-answered c =
+invariant_of-self-clause-answered g c =
     let old = c.args.self.now in
     answering-still refl c.requires.behind
     (∥∥₁_map old.answered (λ was.

@@ -12,10 +12,11 @@ use Rattle.office_sessions.specs.Exchange.{IsAnswering}
 use Rattle.office_sessions.specs.Replies.{IsLearned}
 use Rattle.office_sessions.proofs.Exchanges.{answering-submitted, answering-still}
 use Rattle.office_sessions.proofs.ToldBy.{learned-asked}
+use Rattle.office_sessions.proofs.session.Session.hand_in.Given.{Over}
 use Rattle.office_sessions.proofs.session.Session.hand_in.Goals as goal
 
 pub invariant_of-self-clause-answered : goal.invariant_of-self-clause-answered
-invariant_of-self-clause-answered c =
+invariant_of-self-clause-answered g c =
     let old = c.args.self.now in
     let submitted = c.submit-submission.ensures.submitted c.in-Submitted.is in
     ∥∥₁_map old.answered (λ was.
@@ -25,14 +26,14 @@ invariant_of-self-clause-answered c =
     c.requires.next was))
 
 pub invariant_of-self-clause-told : goal.invariant_of-self-clause-told
-invariant_of-self-clause-told c =
+invariant_of-self-clause-told g c =
     c.args.self.now.told ∙ ap (map response_of) (sym c.submit-submission.ensures.collected)
 
 pub invariant_of-self-clause-learned : goal.invariant_of-self-clause-learned
-invariant_of-self-clause-learned c =
+invariant_of-self-clause-learned g c =
     let old = c.args.self.now in
     let new = c.submit-submission.new.self in
-    let heard = received old.replies in
+    let heard = old.replies in
     let told = sent old.responses in
     ∥∥₁_map old.learned (λ so.
     subst (λ (posted : ℕ). IsLearned old.own heard told (entries_of new.feed.asked) posted
@@ -51,27 +52,29 @@ refused (inr (inl is)) other = absurd (cc)
 refused (inr (inr is)) other = absurd (cc)
 
 -- leaves the feed as it was
-same : (c : goal.In-NoPlace) → c.submit-submission.new.self.feed ≡ c.args.self.now.postings.feed
-same c = (c.submit-submission.ensures.not_submitted (refused c.in-NoPlace.is)).0
+same : (g : Over) (c : goal.In-NoPlace g)
+    → c.submit-submission.new.self.feed ≡ c.args.self.now.postings.feed
+same g c = (c.submit-submission.ensures.not_submitted (refused c.in-NoPlace.is)).0
 
 pub invariant_of-self-in-NoPlace-clause-answered :
     goal.invariant_of-self-in-NoPlace-clause-answered
-invariant_of-self-in-NoPlace-clause-answered c =
-    answering-still (ap (λ (feed : FeedState). entries_of feed.asked) (same c))
+invariant_of-self-in-NoPlace-clause-answered g c =
+    answering-still (ap (λ (feed : FeedState). entries_of feed.asked) (same g c))
     (c.submit-submission.ensures.not_submitted (refused c.in-NoPlace.is)).1
     c.args.self.now.answered
 
 pub invariant_of-self-in-NoPlace-clause-told : goal.invariant_of-self-in-NoPlace-clause-told
-invariant_of-self-in-NoPlace-clause-told c =
-    c.args.self.now.told ∙ ap (λ (feed : FeedState). map response_of feed.collected) (sym (same c))
+invariant_of-self-in-NoPlace-clause-told g c =
+    c.args.self.now.told
+    ∙ ap (λ (feed : FeedState). map response_of feed.collected) (sym (same g c))
 
 pub invariant_of-self-in-NoPlace-clause-learned : goal.invariant_of-self-in-NoPlace-clause-learned
-invariant_of-self-in-NoPlace-clause-learned c =
+invariant_of-self-in-NoPlace-clause-learned g c =
     let old = c.args.self.now in
-    let heard = received old.replies in
+    let heard = old.replies in
     let told = sent old.responses in
     subst (λ (posted : ℕ). ∥ IsLearned old.own heard told
     (entries_of c.submit-submission.new.self.feed.asked) posted old.earlier ∥₁)
     (sym c.submit-submission.ensures.posted)
     (subst (λ (feed : FeedState). ∥ IsLearned old.own heard told (entries_of feed.asked)
-    old.postings.posted old.earlier ∥₁) (sym (same c)) old.learned)
+    old.postings.posted old.earlier ∥₁) (sym (same g c)) old.learned)

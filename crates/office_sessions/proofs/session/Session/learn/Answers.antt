@@ -1,7 +1,7 @@
 use Rattle.std.specs.Prelude.{map}
 use Rattle.std.proofs.Common.{sym, ◌∙◌, ap, subst, arith}
 use Rattle.std.proofs.Math.Logic.{∥∥₁_elim, ∥∥₁_map}
-use Rattle.rtrb.specs.Ring.{sent, received}
+use Rattle.rtrb.specs.Ring.{sent}
 use Rattle.station_desk.specs.Messages.{entries_of}
 use Rattle.station_desk.specs.Rings.{FeedState}
 use Rattle.office_sessions.specs.Conversation.{response_of}
@@ -13,10 +13,10 @@ use Rattle.office_sessions.proofs.ToldBy.{once-now, learned-seen, learned-raised
 use Rattle.office_sessions.proofs.session.Session.learn.Goals as goal
 
 pub invariant_of-self-clause-learned : goal.invariant_of-self-clause-learned
-invariant_of-self-clause-learned c =
+invariant_of-self-clause-learned g c =
     let old = c.args.self.now in
     let seen = c.args.seen in
-    let heard = received old.replies in
+    let heard = old.replies in
     let told = sent old.responses in
     let posted = c.raise.new.self.posted in
     subst (λ (known : Earlier). ∥ IsLearned old.own heard told
@@ -33,9 +33,9 @@ invariant_of-self-clause-learned c =
 
 pub invariant_of-self-in-OutOfSight-clause-learned :
     goal.invariant_of-self-in-OutOfSight-clause-learned
-invariant_of-self-in-OutOfSight-clause-learned c =
+invariant_of-self-in-OutOfSight-clause-learned g c =
     let old = c.args.self.now in
-    let heard = received old.replies in
+    let heard = old.replies in
     let told = sent old.responses in
     let posted = c.raise.new.self.posted in
     subst (λ (feed : FeedState). ∥ IsLearned old.own heard told (entries_of feed.asked) posted
@@ -45,22 +45,22 @@ invariant_of-self-in-OutOfSight-clause-learned c =
     old.postings.posted posted old.earlier (omega (arith, c.raise.ensures.greatest))))
 
 pub invariant_of-self-clause-answered : goal.invariant_of-self-clause-answered
-invariant_of-self-clause-answered c =
+invariant_of-self-clause-answered g c =
     answering-still (ap (λ (feed : FeedState). entries_of feed.asked) c.raise.ensures.feed)
     c.raise.ensures.unanswered c.args.self.now.answered
 
 pub invariant_of-self-clause-told : goal.invariant_of-self-clause-told
-invariant_of-self-clause-told c =
+invariant_of-self-clause-told g c =
     c.args.self.now.told
     ∙ ap (λ (feed : FeedState). map response_of feed.collected) (sym c.raise.ensures.feed)
 
 pub invariant_of-self-in-OutOfSight-clause-answered :
     goal.invariant_of-self-in-OutOfSight-clause-answered
-invariant_of-self-in-OutOfSight-clause-answered c =
+invariant_of-self-in-OutOfSight-clause-answered g c =
     answering-still (ap (λ (feed : FeedState). entries_of feed.asked) c.raise.ensures.feed)
     c.raise.ensures.unanswered c.args.self.now.answered
 
 pub invariant_of-self-in-OutOfSight-clause-told : goal.invariant_of-self-in-OutOfSight-clause-told
-invariant_of-self-in-OutOfSight-clause-told c =
+invariant_of-self-in-OutOfSight-clause-told g c =
     c.args.self.now.told
     ∙ ap (λ (feed : FeedState). map response_of feed.collected) (sym c.raise.ensures.feed)

@@ -1,6 +1,6 @@
 use Rattle.std.proofs.Common.{subst, inr}
 use Rattle.std.proofs.Math.Logic.{∥∥₁_map}
-use Rattle.rtrb.specs.Ring.{sent, received}
+use Rattle.rtrb.specs.Ring.{sent}
 use Rattle.station_desk.specs.Messages.{entries_of}
 use Rattle.office_sessions.specs.Replies.{IsLearned}
 use Rattle.office_sessions.specs.declared.session.Earlier.{Earlier}
@@ -11,6 +11,6 @@ pub tell_judgement-requires-in-OutOfSight-clause-by :
 tell_judgement-requires-in-OutOfSight-clause-by g c =
     let mid = c.look_back.new.self in
     ∥∥₁_map mid.learned (λ so.
-    inr (subst (λ (known : Earlier). IsLearned mid.own (received mid.replies)
+    inr (subst (λ (known : Earlier). IsLearned mid.own mid.replies
     (sent mid.responses) (entries_of mid.postings.feed.asked) mid.postings.posted known)
     c.in-OutOfSight.is so).1)

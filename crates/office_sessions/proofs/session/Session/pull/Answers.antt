@@ -9,7 +9,7 @@ use Rattle.office_sessions.proofs.Exchanges.{answering-said}
 use Rattle.office_sessions.proofs.session.Session.pull.Goals as goal
 
 pub invariant_of-self-clause-answered : goal.invariant_of-self-clause-answered
-invariant_of-self-clause-answered c =
+invariant_of-self-clause-answered g c =
     let old = c.args.self.now in
     ∥∥₁_map old.answered (λ was.
     answering-said c.in-Ok.message c.in-Ok.ensures.ok.0

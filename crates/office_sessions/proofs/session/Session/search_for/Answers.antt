@@ -9,7 +9,7 @@ use Rattle.office_sessions.proofs.Exchanges.{answering-begun}
 use Rattle.office_sessions.proofs.session.Session.search_for.Goals as goal
 
 pub invariant_of-self-clause-answered : goal.invariant_of-self-clause-answered
-invariant_of-self-clause-answered c =
+invariant_of-self-clause-answered g c =
     let old = c.args.self.now in
     let So : Option Message → Type 0 =
     λ next. IsAnswering (received old.messages) (sent old.responses)
@@ -23,4 +23,4 @@ invariant_of-self-clause-answered c =
     c.requires.next was)))
 
 pub invariant_of-self-clause-searched : goal.invariant_of-self-clause-searched
-invariant_of-self-clause-searched c = ∣ c.of-self.ensures.begins _ ∣₁
+invariant_of-self-clause-searched g c = ∣ c.of-self.ensures.begins _ ∣₁

@@ -1,6 +1,6 @@
 use Rattle.std.proofs.Common.{◌∙◌, inr, arith}
 use Rattle.std.proofs.Math.Logic.{∥∥₁_map}
-use Rattle.rtrb.specs.Ring.{sent, received}
+use Rattle.rtrb.specs.Ring.{sent}
 use Rattle.turn_ledger.specs.Entry.{reference_of}
 use Rattle.station_desk.specs.Messages.{entries_of}
 use Rattle.office_sessions.proofs.ToldBy.{far-learned}
@@ -12,7 +12,7 @@ tell_judgement-requires-clause-by g c =
     let keeps = c.hand_in.ensures.learned (λ submitted. let is = c.in-TooFar.is in absurd (cc)) in
     let far = c.hand_in.ensures.too_far c.in-TooFar.is in
     ∥∥₁_map new.learned (λ so.
-    inr (far-learned new.own (received new.replies) (sent new.responses)
+    inr (far-learned new.own new.replies (sent new.responses)
     (entries_of new.postings.feed.asked) new.postings.posted (reference_of c.args.entry) new.earlier
     (keeps.earlier ∙ c.requires.known (omega (arith, far)))
     (omega (arith, far, keeps.posted)) so))

@@ -25,12 +25,12 @@ invariant_of-self-clause-told g c =
 pub invariant_of-self-clause-told_by : goal.invariant_of-self-clause-told_by
 invariant_of-self-clause-told_by g c =
     let old = c.args.self.now in
-    subst (λ (told : List Response). AreToldBy old.own told (received old.replies))
+    subst (λ (told : List Response). AreToldBy old.own told old.replies)
     (sym c.slots.ensures.looked.1) old.told_by
 
 pub invariant_of-self-clause-learned : goal.invariant_of-self-clause-learned
 invariant_of-self-clause-learned g c =
     let old = c.args.self.now in
-    subst (λ (told : List Response). ∥ IsLearned old.own (received old.replies) told
+    subst (λ (told : List Response). ∥ IsLearned old.own old.replies told
     (entries_of old.postings.feed.asked) old.postings.posted old.earlier ∥₁)
     (sym c.slots.ensures.looked.1) old.learned

@@ -11,7 +11,7 @@ use Rattle.office_sessions.proofs.ToldBy.{told-more, learned-told}
 use Rattle.office_sessions.proofs.session.Session.tell_judgement.Goals as goal
 
 pub invariant_of-self-clause-answered : goal.invariant_of-self-clause-answered
-invariant_of-self-clause-answered c =
+invariant_of-self-clause-answered g c =
     let old = c.args.self.now in
     let said = received old.messages in
     let asked = entries_of old.postings.feed.asked in
@@ -25,21 +25,21 @@ invariant_of-self-clause-answered c =
     old.search) c.requires.behind was))))
 
 pub invariant_of-self-clause-told : goal.invariant_of-self-clause-told
-invariant_of-self-clause-told c =
+invariant_of-self-clause-told g c =
     other-answers (sent c.args.self.now.responses) (response.Judged c.args.entry c.args.judgement)
     c.push_reserved.ensures.sent.0 refl ∙ c.args.self.now.told
 
 pub invariant_of-self-clause-told_by : goal.invariant_of-self-clause-told_by
-invariant_of-self-clause-told_by c =
+invariant_of-self-clause-told_by g c =
     let old = c.args.self.now in
-    told-more old.own (sent old.responses) (received old.replies)
+    told-more old.own (sent old.responses) old.replies
     (response.Judged c.args.entry c.args.judgement) c.push_reserved.ensures.sent.0 c.requires.by
     old.told_by
 
 pub invariant_of-self-clause-learned : goal.invariant_of-self-clause-learned
-invariant_of-self-clause-learned c =
+invariant_of-self-clause-learned g c =
     let old = c.args.self.now in
     ∥∥₁_map old.learned
-    (learned-told old.own (received old.replies) (sent old.responses)
+    (learned-told old.own old.replies (sent old.responses)
     (response.Judged c.args.entry c.args.judgement) (entries_of old.postings.feed.asked)
     old.postings.posted old.earlier c.push_reserved.ensures.sent.0)

@@ -11,13 +11,13 @@ use Rattle.office_sessions.proofs.ToldBy.{searched-by}
 use Rattle.office_sessions.proofs.session.Session.tell_step.Goals as goal
 
 pub tell_record-requires-clause-searched : goal.tell_record-requires-clause-searched
-tell_record-requires-clause-searched c =
+tell_record-requires-clause-searched g c =
     let old = c.args.self.now in
-    searched-by (received old.replies) c.args.found old.search c.go_on-step.new.self
+    searched-by old.replies c.args.found old.search c.go_on-step.new.self
     c.go_on-step.ensures.on c.go_on-step.ensures.failed c.requires.last old.searched
 
 pub invariant_of-self-clause-answered : goal.invariant_of-self-clause-answered
-invariant_of-self-clause-answered c =
+invariant_of-self-clause-answered g c =
     let old = c.args.self.now in
     let So : Search → Option Message → Type 0 =
     λ search next. IsAnswering (received old.messages) (sent old.responses)
@@ -25,10 +25,11 @@ invariant_of-self-clause-answered c =
     ∥∥₁_map old.answered (λ was.
     subst (So c.go_on-step.new.self) (sym c.requires.next)
     (answering-same old.search c.go_on-step.new.self c.in-UnderWay.ensures.counts.0
-    c.in-UnderWay.ensures.counts.1 (subst (So old.search) c.requires.next was)))
+    c.in-UnderWay.ensures.counts.1 (c.in-UnderWay.ensures.ahead c.requires.ahead)
+    (subst (So old.search) c.requires.next was)))
 
 pub invariant_of-self-clause-searched : goal.invariant_of-self-clause-searched
-invariant_of-self-clause-searched c =
+invariant_of-self-clause-searched g c =
     let old = c.args.self.now in
-    searched-by (received old.replies) c.args.found old.search c.go_on-step.new.self
+    searched-by old.replies c.args.found old.search c.go_on-step.new.self
     c.go_on-step.ensures.on c.go_on-step.ensures.failed c.requires.last old.searched
