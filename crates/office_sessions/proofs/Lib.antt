@@ -1,4 +1,5 @@
 mod Ahead
+mod Covered
 pub mod Exchanges
 pub mod Feeds
 pub mod Heard

@@ -1,4 +1,5 @@
 pub mod Conversation
+pub mod Covered
 pub mod Exchange
 pub mod Kept
 pub mod Looked
