@@ -1,10 +1,9 @@
 -- What each call of a folder in memory does to what a crash may leave.
-use Rattle.std.proofs.Common.{◌≡◌, ◌≢◌, inl, inr, ⊎_elim, ℕ, zero, suc, ◌+◌, ◌<◌, ◌≤◌, Bool}
-use Rattle.std.proofs.Common.{true, false, cond, List, [], ◌∷◌, ◌++◌, length, reverse, set, refl}
+use Rattle.std.proofs.Common.{◌≡◌, ◌≢◌, inl, inr, ⊎_elim, ℕ, zero, suc, ◌+◌, ◌<◌, ◌≤◌}
+use Rattle.std.proofs.Common.{List, [], ◌∷◌, ◌++◌, length, reverse, set, refl}
 use Rattle.std.proofs.Common.{sym}
 use Rattle.std.proofs.Common.{◌∙◌, ap, subst, arith}
 use Rattle.std.specs.Prelude.{Option, None, Some, slice_get, replicate}
-use Rattle.std.proofs.lemmas.Bool.{false≢true}
 use Rattle.std.proofs.lemmas.List.{length-reverse, reverse-append}
 use Rattle.std.specs.declared.snapshot.Snapshot.{Snapshot}
 use Rattle.sector_device.specs.Image.{Image}
@@ -24,17 +23,16 @@ use Rattle.device_folder.specs.declared.memory.Slot.TheVariants.{Kept, Lent, Los
 use Rattle.device_folder.specs.declared.memory.Parts.{Parts}
 
 -- one snapshot more
-pub one_past : (b : Bool) (old new : List (Snapshot Parts)) (was : Snapshot Parts)
-    → new ≡ cond b (old ++ was ∷ []) old → b ≡ true → reverse new ≡ was ∷ reverse old
-one_past true old new was is ok = ap reverse is ∙ reverse-append old (was ∷ [])
-one_past false old new was is ok = absurd (false≢true ok)
+pub one_past : (old new : List (Snapshot Parts)) (was : Snapshot Parts) → new ≡ old ++ was ∷ []
+    → reverse new ≡ was ∷ reverse old
+one_past old new was is = ap reverse is ∙ reverse-append old (was ∷ [])
 
 -- what the folder was stands in its past, and nothing else has come there
 pub noted_elapses : (parts : Parts) (entries : List Entry) (files : List Slot)
-    (old new : List (Snapshot Parts)) (before after : ℕ) → IsNoted parts old new
-    → Elapses (folder_state parts.names.entries.items parts.files.items old before)
-    (folder_state entries files new after)
-noted_elapses parts entries files old new before after noted =
+    (old new : List (Snapshot Parts)) → IsNoted parts old new
+    → Elapses (folder_state parts.names.entries.items parts.files.items old)
+    (folder_state entries files new)
+noted_elapses parts entries files old new noted =
     let past : List (Snapshot Parts) = reverse old in
     let length_old : length past ≡ length old = length-reverse old in
     let length_new : length past + 1 ≡ length new =
@@ -67,12 +65,12 @@ FilesTouch F old new = (file : ℕ) → (F file → ⊥) → slice_get new file 
 
 pub touched : (P : Name → Option ℕ → Type 0) (F : ℕ → Type 0) (parts : Parts)
     (entries : List Entry) (files : List Slot) (old new : List (Snapshot Parts))
-    (before after : ℕ) → IsNoted parts old new → Changes P parts.names.entries.items entries
+    → IsNoted parts old new → Changes P parts.names.entries.items entries
     → FilesTouch F parts.files.items files
-    → Touches P F (folder_state parts.names.entries.items parts.files.items old before)
-    (folder_state entries files new after)
-touched P F parts entries files old new before after noted names same = record {
-  time = noted_elapses parts entries files old new before after noted;
+    → Touches P F (folder_state parts.names.entries.items parts.files.items old)
+    (folder_state entries files new)
+touched P F parts entries files old new noted names same = record {
+  time = noted_elapses parts entries files old new noted;
   names = names.names;
   may_name = names.may_name;
   reads = λ file not. ap read_as (same file not);
@@ -160,10 +158,10 @@ lent_within (x ∷ xs) (suc file) lent =
 
 -- the file was given back
 pub is_kept : (device : MemoryDevice) (entries : List Entry) (files : List Slot)
-    (past : List (Snapshot Parts)) (faults : ℕ)
+    (past : List (Snapshot Parts))
     → slice_get files (memory_device_state device).number ≡ Some (Kept device)
-    → IsKept (memory_device_state device) (folder_state entries files past faults)
-is_kept device entries files past faults is = record {
+    → IsKept (memory_device_state device) (folder_state entries files past)
+is_kept device entries files past is = record {
   not_lent = λ lent. subst IsLentOut is lent;
   reads = ap read_as is;
   may_hold = λ image may. subst (λ (slot : Option Slot). MayHold slot image) is may;
@@ -179,9 +177,9 @@ kept_at files at device own lt =
 
 -- the next number is a new file's
 pub next_fresh : (entries : List Entry) (files : List Slot) (past : List (Snapshot Parts))
-    (faults count : ℕ) → AreKnown entries count → count ≡ length files
-    → IsFresh (folder_state entries files past faults) count
-next_fresh entries files past faults count known is = record {
+    (count : ℕ) → AreKnown entries count → count ≡ length files
+    → IsFresh (folder_state entries files past) count
+next_fresh entries files past count known is = record {
   nameless = λ name may. let lt : count < count = known name count may in omega (arith, lt);
   not_lent = λ lent. let lt : count < length files = lent_within files count lent in
       omega (arith, lt, is);
@@ -189,12 +187,12 @@ next_fresh entries files past faults count known is = record {
 
 -- a file was made
 pub is_made : (name : Name) (sectors : ℕ) (old : FolderState) (device : MemoryDevice) (file : ℕ)
-    (entries : List Entry) (files : List Slot) (past : List (Snapshot Parts)) (faults : ℕ)
+    (entries : List Entry) (files : List Slot) (past : List (Snapshot Parts))
     → IsFresh old file → named entries name ≡ Some file → slice_get files file ≡ Some Lent
     → (memory_device_state device).reads ≡ replicate sectors (replicate 512 0)
-    → IsMade name sectors old (folder_state entries files past faults)
+    → IsMade name sectors old (folder_state entries files past)
     (memory_device_state (with_number device file))
-is_made name sectors old device file entries files past faults fresh is lent zeros = record {
+is_made name sectors old device file entries files past fresh is lent zeros = record {
   fresh = fresh;
   named = is;
   lent = subst IsLentOut (sym lent) tt;
@@ -220,15 +218,14 @@ lent_may_hold Lost empty image not none durable may = durable image may ∙ none
 
 -- a file was lent
 pub is_lent : (name : Name) (slot : Slot) (empty : MemoryDevice) (file : ℕ) (old : List Entry)
-    (old_files : List Slot) (past now : List (Snapshot Parts)) (before after : ℕ)
+    (old_files : List Slot) (past now : List (Snapshot Parts))
     (entries : List Entry) (files : List Slot)
     → named old name ≡ Some file → slice_get old_files file ≡ Some slot
     → (IsLentOut (slice_get old_files file) → ⊥) → slice_get files file ≡ Some Lent
     → (memory_device_state empty).reads ≡ [] → IsDurable (memory_device_state empty)
-    → IsLent name (folder_state old old_files past before) (folder_state entries files now after)
+    → IsLent name (folder_state old old_files past) (folder_state entries files now)
     (memory_device_state (with_number (device_in slot empty) file))
-is_lent name slot empty file old old_files past now before after entries files is was not lent none
-    durable =
+is_lent name slot empty file old old_files past now entries files is was not lent none durable =
     let free : IsLentOut (Some slot) → ⊥ = subst (λ (s : Option Slot). IsLentOut s → ⊥) was not in
     record {
       named = is;

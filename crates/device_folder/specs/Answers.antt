@@ -1,10 +1,12 @@
 -- What each answer of a call says of the folder before it. The causes of one call exclude each
--- other. So each refusal comes exactly where its cause holds, unless the system failed.
+-- other. So each refusal comes exactly where its cause holds, unless there is no memory, or the
+-- system failed.
 use Rattle.std.specs.Prelude.{◌≡◌, ◌⊎◌, ℕ, None, Some, Result, Ok, Err, IsSome}
 use Rattle.device_folder.specs.Folder.{Name, FolderState}
 use Rattle.device_folder.specs.declared.folder.FolderFault.{FolderFault}
 use Rattle.device_folder.specs.declared.folder.FolderFault.TheVariants.{Exists, Missing, InUse}
-use Rattle.device_folder.specs.declared.folder.FolderFault.TheVariants.{Foreign, Failed}
+use Rattle.device_folder.specs.declared.folder.FolderFault.TheVariants.{Foreign, Memory}
+use Rattle.device_folder.specs.declared.folder.FolderFault.TheVariants.{Failed}
 
 -- the system failed
 abbrev pub IsFailed : {T : Type 0} → Result T FolderFault → Type 0
@@ -34,6 +36,7 @@ pub record IsFree (state : FolderState) (name : Name) : Type 0 where
 abbrev pub MakeAnswers : {T : Type 0} → FolderState → Name → Result T FolderFault → Type 0
 MakeAnswers state name (Ok file) = state.names name ≡ None
 MakeAnswers state name (Err Exists) = IsSome (state.names name)
+MakeAnswers state name (Err Memory) = Unit {0}
 MakeAnswers state name (Err Failed) = Unit {0}
 MakeAnswers state name (Err fault) = ⊥
 
@@ -42,6 +45,7 @@ abbrev pub OpenAnswers : {T : Type 0} → FolderState → Name → Result T Fold
 OpenAnswers state name (Ok file) = IsFree state name
 OpenAnswers state name (Err Missing) = state.names name ≡ None
 OpenAnswers state name (Err InUse) = IsInUse state name
+OpenAnswers state name (Err Memory) = Unit {0}
 OpenAnswers state name (Err Failed) = Unit {0}
 OpenAnswers state name (Err fault) = ⊥
 
@@ -49,6 +53,7 @@ OpenAnswers state name (Err fault) = ⊥
 abbrev pub KeepAnswers : {T : Type 0} → FolderState → ℕ → Result T FolderFault → Type 0
 KeepAnswers state file (Ok done) = state.lent file
 KeepAnswers state file (Err Foreign) = state.lent file → ⊥
+KeepAnswers state file (Err Memory) = Unit {0}
 KeepAnswers state file (Err Failed) = Unit {0}
 KeepAnswers state file (Err fault) = ⊥
 
@@ -64,11 +69,13 @@ RenameAnswers state from target (Ok done) =
 RenameAnswers state from target (Err Missing) = state.names from ≡ None
 RenameAnswers state from target (Err InUse) =
     IsInUse state from ⊎ (IsFree state from × IsInUse state target)
+RenameAnswers state from target (Err Memory) = Unit {0}
 RenameAnswers state from target (Err Failed) = Unit {0}
 RenameAnswers state from target (Err fault) = ⊥
 
--- nothing is refused
-abbrev pub SyncAnswers : {T : Type 0} → Result T FolderFault → Type 0
-SyncAnswers (Ok done) = Unit {0}
-SyncAnswers (Err Failed) = Unit {0}
-SyncAnswers (Err fault) = ⊥
+-- nothing is refused but for want of memory
+abbrev pub NeverRefuses : {T : Type 0} → Result T FolderFault → Type 0
+NeverRefuses (Ok value) = Unit {0}
+NeverRefuses (Err Memory) = Unit {0}
+NeverRefuses (Err Failed) = Unit {0}
+NeverRefuses (Err fault) = ⊥

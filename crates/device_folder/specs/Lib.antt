@@ -1,8 +1,9 @@
-pub mod Folder
 pub mod Answers
 pub mod Crash
-pub mod Put
-pub mod Names
+pub mod Folder
+pub mod Loss
 pub mod Memory
 pub mod MemoryLaws
-pub mod Loss
+pub mod Names
+pub mod Put
+pub mod PutLaws

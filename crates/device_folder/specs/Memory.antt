@@ -44,9 +44,9 @@ LeftSince entries files (was ∷ past) since left =
     ⊎ ((since ≤ length past)
     × LeftSince was.value.names.entries.items was.value.files.items past since left)
 
--- It is honest, and moments are counted by its past.
-abbrev pub folder_state : List Entry → List Slot → List (Snapshot Parts) → ℕ → FolderState
-folder_state entries files past faults = record {
+-- It is honest, no call of it fails, and moments are counted by its past.
+abbrev pub folder_state : List Entry → List Slot → List (Snapshot Parts) → FolderState
+folder_state entries files past = record {
   names = named entries;
   may_name = MayName entries;
   reads = λ file. read_as (slice_get files file);
@@ -55,13 +55,12 @@ folder_state entries files past faults = record {
   moment = length past;
   left_since = LeftSince entries files (reverse past);
   honest = Unit {0};
-  faults = faults;
+  faults = 0;
 }
 
 abbrev pub memory_folder_state : MemoryFolder → FolderState
 memory_folder_state folder =
     folder_state folder.parts.names.entries.items folder.parts.files.items folder.past.items
-    folder.faults
 
 -- what the folder was has come into its past
 pub record IsNoted (parts : Parts) (old new : List (Snapshot Parts)) : Type 0 where

@@ -48,8 +48,8 @@ lent_anything (Some Lent) image lent = tt
 lent_anything (Some Lost) image lent = absurd lent
 
 pub folder_sound : (entries : List Entry) (files : List Slot) (past : List (Snapshot Parts))
-    (faults : ℕ) → IsSound (folder_state entries files past faults)
-folder_sound entries files past faults = record {
+    → IsSound (folder_state entries files past)
+folder_sound entries files past = record {
   names_stay = λ name. entry_stays (entry_of entries name);
   files_stay = λ file not. slot_stays (slice_get files file) not;
   lent_may_hold = λ file image lent. lent_anything (slice_get files file) image lent;
@@ -61,4 +61,3 @@ folder_sound entries files past faults = record {
 pub memory_folder_sound : (folder : MemoryFolder) → IsSound (memory_folder_state folder)
 memory_folder_sound folder =
     folder_sound folder.parts.names.entries.items folder.parts.files.items folder.past.items
-    folder.faults

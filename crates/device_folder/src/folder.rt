@@ -1,13 +1,15 @@
-ghost use Rattle.std.specs.Prelude.{◌≡◌, ◌≢◌, length, IfOk, OnOk, OnErr, None};
+ghost use Rattle.std.specs.Prelude.{◌≡◌, ◌≢◌, ◌↔◌, length, IfOk, OnOk, OnErr, None, IsTrue};
+ghost use Rattle.std.specs.Prelude.{IsSome};
 ghost use Rattle.device_folder.specs.Folder.{FolderState, IsSound, AreFolderCalls, Touches};
 ghost use Rattle.device_folder.specs.Folder.{IsUnchanged, Keeps, Makes, Renames, Removes, NoFile};
 ghost use Rattle.device_folder.specs.Folder.{IsFresh, IsMade, IsLent, IsKept, IsNamed};
 ghost use Rattle.device_folder.specs.Folder.{NamesAreDurable};
 ghost use Rattle.device_folder.specs.Answers.{IsFailed, IsRefused, MakeAnswers, OpenAnswers};
 ghost use Rattle.device_folder.specs.Answers.{KeepAnswers, RenameAnswers, RemoveAnswers};
-ghost use Rattle.device_folder.specs.Answers.{SyncAnswers};
+ghost use Rattle.device_folder.specs.Answers.{NeverRefuses};
 
 use sector_device::Device;
+use std::alloc::AllocError;
 use thiserror::Error;
 
 /// Why a call on a folder was refused, or failed. A refusal, which is each of these but `Failed`,
@@ -26,9 +28,22 @@ pub enum FolderFault {
     /// The file that is given back isn't one that this folder has lent.
     #[error("the file is not from this folder: give it back to the folder that lent it")]
     Foreign,
+    /// There is no memory for the call.
+    #[error("out of memory")]
+    Memory,
     /// The system failed.
     #[error("the folder failed: check its disk, its free space and its permissions")]
     Failed,
+}
+
+impl From<AllocError> for FolderFault {
+    ghost use Rattle.device_folder.specs.declared.folder.FolderFault.TheVariants.{Memory};
+
+    ghost from_gives = { λ _ fault. fault ≡ Memory };
+
+    fn from(_: AllocError) -> FolderFault {
+        FolderFault::Memory
+    }
 }
 
 /// A folder: names that stand for files, which are devices while they are lent.
@@ -117,10 +132,16 @@ pub trait Folder {
         ensures free { (state self.old).honest
             → OnOk result ((state self.new).names name.now ≡ None) };
 
+    /// Whether the name stands for a file. A failure of this call isn't counted.
+    fn exists(&self, name: &str) -> Result<bool, FolderFault>
+        ensures answers { (state self.now).honest → NeverRefuses result }
+        ensures exists { (state self.now).honest → IfOk result (λ exists.
+            IsTrue exists ↔ IsSome ((state self.now).names name.now)) };
+
     /// Makes the names durable. After a fault what was pending still is.
     fn sync(&mut self) -> Result<(), FolderFault>
         ensures call { AreFolderCalls (state self.old) (state self.new) (IsFailed result) }
-        ensures answers { (state self.old).honest → SyncAnswers result }
+        ensures answers { (state self.old).honest → NeverRefuses result }
         ensures same { (state self.old).honest → IsUnchanged (state self.old) (state self.new) }
         ensures durable { (state self.old).honest
             → OnOk result (NamesAreDurable (state self.new)) };

@@ -3,7 +3,7 @@
 //! The trait `Folder` says what is promised: which file each name stands for, what each file reads
 //! as, what a crash now may leave of either, and what a crash at some earlier moment might have
 //! left, before, within or after each call. `MemoryFolder` keeps all of it and loses power on
-//! demand. `put_two_sectors` is the pattern that every caller that replaces a file follows.
+//! demand. `put_file` makes a file in any folder, whole or not at all.
 #![tactic(auto)]
 
 mod folder;
@@ -16,4 +16,4 @@ pub use folder::{Folder, FolderFault};
 pub use loss::{FileLeft, Loss};
 pub use memory::{MemoryFile, MemoryFolder};
 pub use names::NameLeft;
-pub use put::{PutFault, make_two_sectors, put_in_place, put_two_sectors};
+pub use put::{Content, PutFault, put_file};

@@ -20,7 +20,7 @@ pub struct Loss {
 }
 
 // The picks of the first choice for a file.
-pub fn picks_for(choices: &[FileLeft], file: u64) -> Option<&Picks>
+pub(crate) fn picks_for(choices: &[FileLeft], file: u64) -> Option<&Picks>
     ensures { option_map (λ picks. picks.now.list.items) result
         ≡ option_map (λ choice. choice.picks.list.items)
         (find (λ choice. choice.file == file) choices.now) }

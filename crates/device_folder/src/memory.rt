@@ -11,7 +11,7 @@ use crate::loss::{FileLeft, Loss, picks_for};
 use crate::names::Names;
 use crate::{Folder, FolderFault};
 use sector_device::{Device, DeviceFault, MemoryDevice, Picks, Sector};
-use std::alloc::Global;
+use std::alloc::{AllocError, Global};
 use std::mem;
 use std::snapshot::Snapshot as Ghost;
 
@@ -114,14 +114,13 @@ struct Parts {
 
 /// A folder in memory, which is honest: it keeps every fact of `Folder`.
 ///
-/// A call fails only if memory is short, and then changes nothing but the count of failures. What
-/// the folder was before each call is remembered for contracts alone, at the cost of a count.
+/// No call fails: where memory is short it is refused, and changes nothing. What the folder was
+/// before each call is remembered for contracts alone, at the cost of a count.
 #[derive(Drop)]
 pub struct MemoryFolder {
     alloc: Global,
     parts: Parts,
     past: Vec<Ghost<Parts>>,
-    faults: u64,
     ghost known: { AreKnown parts.names.entries.items (vec_len parts.files) },
 }
 
@@ -136,7 +135,6 @@ impl MemoryFolder {
         ensures empty { (name : Name) → (memory_folder_state result).names name ≡ None }
         ensures durable { NamesAreDurable (memory_folder_state result) }
         ensures nothing_lent { (file : ℕ) → (memory_folder_state result).lent file → ⊥ }
-        ensures no_failure { (memory_folder_state result).faults ≡ 0 }
     {
         MemoryFolder {
             alloc,
@@ -145,7 +143,6 @@ impl MemoryFolder {
                 files: Vec::new(alloc),
             },
             past: Vec::new(alloc),
-            faults: 0,
         }
     }
 
@@ -173,7 +170,6 @@ impl MemoryFolder {
             → (memory_folder_state result).may_hold file image
             → image ≡ (memory_folder_state result).reads file }
         ensures nothing_lent { (file : ℕ) → (memory_folder_state result).lent file → ⊥ }
-        ensures faults { (memory_folder_state result).faults ≡ (memory_folder_state self).faults }
     {
         self.parts.names.settle(&loss.names);
         self.lose_files(&loss.files);
@@ -186,7 +182,6 @@ impl MemoryFolder {
         ensures lost { AreLostBy choices.now self.old.parts.files.items
             self.new.parts.files.items }
         ensures names { self.new.parts.names ≡ self.old.parts.names }
-        ensures faults { self.new.faults ≡ self.old.faults }
     {
         let none = Picks {
             list: Vec::new(self.alloc),
@@ -196,37 +191,20 @@ impl MemoryFolder {
         }
     }
 
-    // Counts a failure.
-    fn fail(&mut self) -> FolderFault
-        ensures fault { result ≡ FolderFault.Failed }
-        ensures parts { self.new.parts ≡ self.old.parts }
-        ensures past { self.new.past.items ≡ self.old.past.items }
-        ensures call { AreFolderCalls (memory_folder_state self.old)
-            (memory_folder_state self.new) (Unit {0}) }
-    {
-        self.faults = self.faults.saturating_add(1);
-        FolderFault::Failed
-    }
-
     // Notes what the folder is before a call.
-    fn note(&mut self) -> Result<(), FolderFault>
+    fn note(&mut self) -> Result<(), AllocError>
         ensures parts { self.new.parts ≡ self.old.parts }
         ensures noted { OnOk result
             (IsNoted self.old.parts self.old.past.items self.new.past.items) }
         ensures past { OnErr result (self.new.past.items ≡ self.old.past.items) }
-        ensures no_refusal { IsRefused result → ⊥ }
-        ensures call { AreFolderCalls (memory_folder_state self.old)
-            (memory_folder_state self.new) (IsFailed result) }
     {
         let now = Ghost::of(&self.parts);
-        if self.past.push(now).is_err() {
-            return Err(self.fail());
-        }
+        self.past.push(now)?;
         Ok(())
     }
 
     // Makes room for a change of a name.
-    fn make_room(&mut self, name: &str) -> Result<(), FolderFault>
+    fn make_room(&mut self, name: &str) -> Result<(), AllocError>
         ensures names { Changes Keeps self.old.parts.names.entries.items
             self.new.parts.names.entries.items }
         ensures ready { OnOk result (IsReady self.new.parts.names.entries.items name.now) }
@@ -234,32 +212,21 @@ impl MemoryFolder {
             → IsReady self.new.parts.names.entries.items other }
         ensures files { self.new.parts.files ≡ self.old.parts.files }
         ensures past { self.new.past.items ≡ self.old.past.items }
-        ensures no_refusal { IsRefused result → ⊥ }
-        ensures call { AreFolderCalls (memory_folder_state self.old)
-            (memory_folder_state self.new) (IsFailed result) }
     {
-        if self.parts.names.ready(self.alloc, name).is_err() {
-            return Err(self.fail());
-        }
-        Ok(())
+        self.parts.names.ready(self.alloc, name)
     }
 
     // Adds a file that is lent.
-    fn add_file(&mut self) -> Result<u64, FolderFault>
+    fn add_file(&mut self) -> Result<u64, AllocError>
         ensures number { IfOk result (λ number. number ≡ vec_len self.old.parts.files) }
         ensures added { OnOk result (self.new.parts.files.items
             ≡ self.old.parts.files.items ++ Slot.Lent ∷ []) }
         ensures same { OnErr result (self.new.parts.files.items ≡ self.old.parts.files.items) }
         ensures names { self.new.parts.names ≡ self.old.parts.names }
         ensures past { self.new.past.items ≡ self.old.past.items }
-        ensures no_refusal { IsRefused result → ⊥ }
-        ensures call { AreFolderCalls (memory_folder_state self.old)
-            (memory_folder_state self.new) (IsFailed result) }
     {
         let number = self.parts.files.len() as u64;
-        if self.parts.files.push(Slot::Lent).is_err() {
-            return Err(self.fail());
-        }
+        self.parts.files.push(Slot::Lent)?;
         Ok(number)
     }
 
@@ -306,9 +273,7 @@ impl Folder for MemoryFolder {
         if self.file_of(name).is_some() {
             return Err(FolderFault::Exists);
         }
-        let Ok(device) = MemoryDevice::new(self.alloc, sectors) else {
-            return Err(self.fail());
-        };
+        let device = MemoryDevice::new(self.alloc, sectors)?;
         self.note()?;
         self.make_room(name)?;
         let file = self.add_file()?;
@@ -318,9 +283,7 @@ impl Folder for MemoryFolder {
 
     fn open(&mut self, name: &str) -> Result<MemoryFile, FolderFault> {
         let file = self.find(name)?;
-        let Ok(empty) = MemoryDevice::new(self.alloc, 0) else {
-            return Err(self.fail());
-        };
+        let empty = MemoryDevice::new(self.alloc, 0)?;
         self.note()?;
         let device = self.parts.files[file as usize].lend(empty);
         Ok(MemoryFile::new(device, file))
@@ -355,6 +318,10 @@ impl Folder for MemoryFolder {
         self.make_room(name)?;
         self.parts.names.set(name, None);
         Ok(())
+    }
+
+    fn exists(&self, name: &str) -> Result<bool, FolderFault> {
+        Ok(self.file_of(name).is_some())
     }
 
     fn sync(&mut self) -> Result<(), FolderFault> {

@@ -24,7 +24,7 @@ struct Entry {
 
 /// The names of a folder in memory. A name that isn't among them stands for nothing.
 #[derive(Debug, Drop)]
-pub struct Names {
+pub(crate) struct Names {
     entries: Vec<Entry>,
 }
 
@@ -81,7 +81,7 @@ impl Names {
     ghost use Rattle.device_folder.specs.Names.{has_name, named, MayName, IsReady, Changes};
     ghost use Rattle.device_folder.specs.Names.{AreSettledBy};
 
-    pub fn new(alloc: Global) -> Names
+    pub(crate) fn new(alloc: Global) -> Names
         ensures { result.entries.items ≡ [] }
     {
         Names {
@@ -90,7 +90,7 @@ impl Names {
     }
 
     /// The file that a name stands for.
-    pub fn file_of(&self, name: &str) -> Option<u64>
+    pub(crate) fn file_of(&self, name: &str) -> Option<u64>
         ensures { result ≡ named self.now.entries.items name.now }
     {
         match self.place(name) {
@@ -109,7 +109,7 @@ impl Names {
     }
 
     /// Makes room for a change of the name. It changes nothing by itself.
-    pub fn ready(&mut self, alloc: Global, name: &str) -> Result<(), AllocError>
+    pub(crate) fn ready(&mut self, alloc: Global, name: &str) -> Result<(), AllocError>
         ensures same { Changes Keeps self.old.entries.items self.new.entries.items }
         ensures ready { OnOk result (IsReady self.new.entries.items name.now) }
         ensures others { (other : Name) → IsReady self.old.entries.items other
@@ -133,7 +133,7 @@ impl Names {
     }
 
     /// Makes a name stand for that, where there is room for it.
-    pub fn set(&mut self, name: &str, file: Option<u64>)
+    pub(crate) fn set(&mut self, name: &str, file: Option<u64>)
         requires { IsReady self.old.entries.items name.now }
         ensures is { named self.new.entries.items name.now ≡ file }
         ensures changes { Changes (λ n to. (n ≡ name.now) × (to ≡ file))
@@ -148,7 +148,7 @@ impl Names {
 
     /// Makes each name stand for the first choice for it, if a crash may leave that, and else for
     /// what it stands for. Afterwards no name is pending.
-    pub fn settle(&mut self, choices: &[NameLeft])
+    pub(crate) fn settle(&mut self, choices: &[NameLeft])
         ensures { AreSettledBy choices.now self.old.entries.items self.new.entries.items }
     {
         for entry in self.entries.iter_mut() {

@@ -1,143 +1,156 @@
-ghost use Rattle.std.specs.Prelude.{◌≡◌, ◌≢◌, [], ◌∷◌, length, IsErr, OnOk};
-ghost use Rattle.sector_device.specs.Device.{AreCalls};
-ghost use Rattle.sector_device.specs.Crash.{IsDurable};
-ghost use Rattle.device_folder.specs.Folder.{AreFolderCalls, Makes, Renames, NoFile, IsFresh};
-ghost use Rattle.device_folder.specs.Folder.{IsUnchanged};
-ghost use Rattle.device_folder.specs.Answers.{IsFailed, IsRefused, RenameAnswers};
+ghost use Rattle.std.specs.Prelude.{◌≡◌, ◌≢◌, ℕ, None, length, OnOk, IsOk};
+ghost use Rattle.sector_device.specs.Image.{Image};
+ghost use Rattle.device_folder.specs.Folder.{AreFolderCalls, Makes, Renames, Removes, NoFile};
+ghost use Rattle.device_folder.specs.Folder.{IsFresh, Touches};
+ghost use Rattle.device_folder.specs.Answers.{IsFailed, RenameAnswers};
 ghost use Rattle.device_folder.specs.Crash.{LeavesOnly, OnlyTouches};
-ghost use Rattle.device_folder.specs.Put.{IsFolderFailed, PutAnswers, ReplaceAnswers, IsSettled};
+ghost use Rattle.device_folder.specs.Put.{IsFolderFailed, ClearAnswers, MakeFileAnswers};
+ghost use Rattle.device_folder.specs.Put.{PutAnswers, IsWritten, IsSettledBut, IsSettled};
 ghost use Rattle.device_folder.specs.Put.{IsWhole, IsInPlace, IsBeforeOrAfter, StandsFor};
+ghost use Rattle.device_folder.specs.Put.{IsRun};
 
 use crate::{Folder, FolderFault};
-use sector_device::{Device, DeviceFault, Sector};
-use thiserror::Error;
+use sector_device::Device;
 
 /// Why a file isn't put into a folder.
-#[derive(Clone, Copy, Debug, PartialEq, Eq, Error)]
-pub enum PutFault {
+#[derive(Clone, Copy, Debug, PartialEq, Eq)]
+pub enum PutFault<E> {
     /// A call on the folder.
-    #[error("{0}")]
     Folder(FolderFault),
-    /// A call on the file.
-    #[error("{0}")]
-    Device(DeviceFault),
+    /// What the file was to hold wasn't written.
+    Content(E),
 }
 
-impl From<FolderFault> for PutFault {
+impl<E> From<FolderFault> for PutFault<E> {
     ghost use Rattle.device_folder.specs.declared.put.PutFault.TheVariants.{Folder};
 
     ghost from_gives = { λ fault put. put ≡ Folder fault };
 
-    fn from(fault: FolderFault) -> PutFault {
+    fn from(fault: FolderFault) -> PutFault<E> {
         PutFault::Folder(fault)
     }
 }
 
-impl From<DeviceFault> for PutFault {
-    ghost use Rattle.device_folder.specs.declared.put.PutFault.TheVariants.{Device};
+/// What a new file is to hold.
+pub trait Content {
+    /// Why it wasn't written.
+    type Fault: Drop;
 
-    ghost from_gives = { λ fault put. put ≡ Device fault };
+    /// What is to hold of the sectors that are written.
+    ghost holds: { Self → Image → Type 0 };
 
-    fn from(fault: DeviceFault) -> PutFault {
-        PutFault::Device(fault)
-    }
+    /// Their number.
+    ghost size: { Self → ℕ };
+
+    /// How many sectors it takes.
+    fn sectors(&self) -> u64
+        ensures { result ≡ size self.now };
+
+    /// Writes it to a device of that many sectors, durably.
+    fn write<D: Device>(&mut self, device: &mut D) -> Result<(), Self::Fault>
+        requires { length (D.state device.old).reads ≡ size self.old }
+        ensures number { (D.state device.new).number ≡ (D.state device.old).number }
+        ensures stays_honest { (D.state device.old).honest → (D.state device.new).honest }
+        ensures written { (D.state device.old).honest
+            → OnOk result (IsWritten (holds self.old) (D.state device.new)) };
 }
 
-/// Puts a file of two sectors into a folder under a name, in place of the file that had the name.
-/// It is the pattern that every caller that replaces a file follows: write under an unfinished
-/// name, sync, give back, rename, sync the folder.
+/// Puts a new file into a folder under a name that stands for none, whole or not at all: it is
+/// made under an unfinished name, written, synced and given back; then it is renamed, and the
+/// folder is synced. What the unfinished name stood for is removed first.
 ///
-/// A crash at any moment leaves under each name but the unfinished one what stood there before, or
-/// leaves the two sectors under the name and what stood there before under each other name. From
-/// `Ok` on, every crash leaves the two sectors. After an error the unfinished name may stand for a
-/// file, which `Folder::remove` takes away.
+/// A crash at any moment leaves under each name but the unfinished one what a crash before might
+/// have left there; or it leaves the whole file under the name, and the rest so. From `Ok` on,
+/// every crash leaves the file. After an error both names are removed again, if the folder lets
+/// them be.
 ///
 /// # Errors
-/// `Exists` if the unfinished name stands for a file, `InUse` if the file that is to be replaced is
-/// lent, and otherwise a call that failed.
-pub fn put_two_sectors<F: Folder>(
+/// `InUse` if the file of the unfinished name is lent. Else the content isn't written, or for a
+/// call on the folder there is no memory, or it failed.
+pub fn put_file<F: Folder, C: Content>(
     folder: &mut F,
     unfinished: &str,
     name: &str,
-    first: &Sector,
-    second: &Sector,
-) -> Result<(), PutFault>
-    requires { unfinished.now ≢ name.now }
-    ensures call { AreFolderCalls (F.state folder.old) (F.state folder.new)
-        (IsFolderFailed result) }
+    content: &mut C,
+) -> Result<(), PutFault<C::Fault>>
+    requires differ { unfinished.now ≢ name.now }
+    requires free { (F.state folder.old).honest → (F.state folder.old).names name.now ≡ None }
+    ensures call { IsRun (F.state folder.old) (F.state folder.new) (IsFolderFailed result)
+        (IsOk result) }
     ensures answers { (F.state folder.old).honest
-        → ReplaceAnswers unfinished.now name.now (F.state folder.old) result }
-    ensures any_moment { (F.state folder.old).honest → IsSettled (F.state folder.old)
+        → PutAnswers unfinished.now (F.state folder.old) result }
+    ensures any_moment { (F.state folder.old).honest
         → LeavesOnly (F.state folder.old) (F.state folder.new)
-        (IsBeforeOrAfter unfinished.now name.now (first.now ∷ second.now ∷ [])
-        (F.state folder.old)) }
-    ensures after { (F.state folder.old).honest → IsSettled (F.state folder.old) → OnOk result
-        (StandsFor unfinished.now name.now (first.now ∷ second.now ∷ [])
+        (IsBeforeOrAfter unfinished.now name.now (C.holds content.old) (F.state folder.old)) }
+    ensures after { (F.state folder.old).honest → OnOk result
+        (StandsFor unfinished.now name.now (C.holds content.old)
         (F.state folder.old) (F.state folder.new)) }
-    ensures settled { (F.state folder.old).honest → IsSettled (F.state folder.old)
+    ensures settled { (F.state folder.old).honest
+        → IsSettledBut unfinished.now (F.state folder.old)
         → OnOk result (IsSettled (F.state folder.new)) }
 {
-    make_two_sectors(folder, unfinished, first, second)?;
-    put_in_place(folder, unfinished, name)?;
-    Ok(())
+    clear(folder, unfinished)?;
+    if let Err(fault) = make_file(folder, unfinished, content) {
+        let _ = clear(folder, unfinished);
+        return Err(fault);
+    }
+    let Err(fault) = put_in_place(folder, unfinished, name) else {
+        return Ok(());
+    };
+    // The name may be its own already, and not durable.
+    if matches!(folder.remove(unfinished), Err(FolderFault::Missing)) {
+        let _ = folder.remove(name);
+    }
+    let _ = folder.sync();
+    Err(PutFault::Folder(fault))
 }
 
-/// Makes a file of two sectors under a name that stands for none. From `Ok` on, every crash leaves
-/// these two sectors of the file. The name itself is pending.
-///
-/// # Errors
-/// `Exists` if the name stands for a file, and otherwise a call that failed. After a failure the
-/// name may stand for a file of any bytes.
-pub fn make_two_sectors<F: Folder>(
+// Takes a name off its file, if it stands for one.
+fn clear<F: Folder>(folder: &mut F, name: &str) -> Result<(), FolderFault>
+    ensures call { AreFolderCalls (F.state folder.old) (F.state folder.new) (IsFailed result) }
+    ensures answers { (F.state folder.old).honest
+        → ClearAnswers (F.state folder.old) name.now result }
+    ensures touches { (F.state folder.old).honest
+        → Touches (Removes name.now) NoFile (F.state folder.old) (F.state folder.new) }
+    ensures free { (F.state folder.old).honest
+        → OnOk result ((F.state folder.new).names name.now ≡ None) }
+{
+    match folder.remove(name) {
+        Err(FolderFault::Missing) => Ok(()),
+        answer => answer,
+    }
+}
+
+// Makes a file under a name that stands for none. From `Ok` on, every crash leaves the file whole.
+// The name itself is pending. After an error it may stand for a file of any bytes.
+fn make_file<F: Folder, C: Content>(
     folder: &mut F,
     name: &str,
-    first: &Sector,
-    second: &Sector,
-) -> Result<(), PutFault>
+    content: &mut C,
+) -> Result<(), PutFault<C::Fault>>
     ensures call { AreFolderCalls (F.state folder.old) (F.state folder.new)
         (IsFolderFailed result) }
     ensures touches { (F.state folder.old).honest
         → OnlyTouches (Makes name.now (F.state folder.old)) (IsFresh (F.state folder.old))
         (F.state folder.old) (F.state folder.new) }
     ensures answers { (F.state folder.old).honest
-        → PutAnswers name.now (F.state folder.old) result }
+        → MakeFileAnswers name.now (F.state folder.old) result }
     ensures whole { (F.state folder.old).honest → OnOk result
-        (IsWhole name.now (first.now ∷ second.now ∷ [])
-        (F.state folder.old) (F.state folder.new)) }
+        (IsWhole name.now (C.holds content.old) (F.state folder.old) (F.state folder.new)) }
 {
-    let mut file = folder.make(name, 2)?;
-    let filled = fill(&mut file, first, second);
+    let mut file = folder.make(name, content.sectors())?;
+    let written = content.write(&mut file);
     folder.keep(file)?;
-    filled?;
-    Ok(())
+    written.map_err(PutFault::Content)
 }
 
-// Writes the two sectors, durably.
-fn fill<D: Device>(device: &mut D, first: &Sector, second: &Sector) -> Result<(), DeviceFault>
-    requires { length (D.state device.old).reads ≡ 2 }
-    ensures call { AreCalls (D.state device.old) (D.state device.new) (IsErr result) }
-    ensures reads { (D.state device.old).honest → OnOk result
-        ((D.state device.new).reads ≡ first.now ∷ second.now ∷ []) }
-    ensures durable { (D.state device.old).honest → OnOk result (IsDurable (D.state device.new)) }
-{
-    device.write(0, first)?;
-    device.write(1, second)?;
-    device.sync()
-}
-
-/// Gives the file of one name another name, durably, in place of the file that had that one.
-///
-/// # Errors
-/// `Missing` if the first name stands for no file, `InUse` if a file of either name is lent, and
-/// otherwise a call that failed. After a failure each of the two names may stand for what it stood
-/// for, or is to stand for.
-pub fn put_in_place<F: Folder>(folder: &mut F, from: &str, to: &str) -> Result<(), FolderFault>
+// Gives the file of one name another name, durably, in place of the file that had that one. After a
+// failure each of the two names may stand for what it stood for, or is to stand for.
+fn put_in_place<F: Folder>(folder: &mut F, from: &str, to: &str) -> Result<(), FolderFault>
     requires { from.now ≢ to.now }
     ensures call { AreFolderCalls (F.state folder.old) (F.state folder.new) (IsFailed result) }
     ensures answers { (F.state folder.old).honest
         → RenameAnswers (F.state folder.old) from.now to.now result }
-    ensures refused { (F.state folder.old).honest → IsRefused result
-        → IsUnchanged (F.state folder.old) (F.state folder.new) }
     ensures touches { (F.state folder.old).honest
         → OnlyTouches (Renames from.now to.now (F.state folder.old)) NoFile
         (F.state folder.old) (F.state folder.new) }

@@ -2,7 +2,7 @@
 ghost use Rattle.std.specs.Prelude.{◌≡◌, ◌↔◌};
 ghost use Rattle.ledger_folder.specs.Faults.{TellsNumbers, IsReadFault, IsElsewhere, of_file};
 ghost use Rattle.ledger_folder.specs.Faults.{of_device};
-ghost use Rattle.ledger_folder.specs.Copies.{IsOfCopy};
+ghost use Rattle.ledger_folder.specs.Copies.{IsOfCopy, IsOccupied};
 
 use device_files::FileFault;
 use gate_journal::ReadRefusal;
@@ -151,6 +151,7 @@ impl<'a> ArchiveFault<'a> {
     pub(crate) fn of_opening(path: &'a str, refusal: OpenRefusal) -> ArchiveFault<'a>
         ensures read { IsReadFault result ↔ (refusal ≡ OpenRefusal.Device) }
         ensures told { IsOfCopy result }
+        ensures no_name { IsOccupied result → ⊥ }
         ensures numbers { TellsNumbers result }
     {
         match refusal {

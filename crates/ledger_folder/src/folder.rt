@@ -14,12 +14,12 @@ const DIGITS: usize = 20;
 
 /// The folder of an archive, or of copies, open and locked: nobody else adds anything meanwhile.
 #[derive(Drop)]
-pub struct Folder<'a> {
+pub struct LockedFolder<'a> {
     pub(crate) path: &'a str,
     file: File,
 }
 
-impl<'a> Folder<'a> {
+impl<'a> LockedFolder<'a> {
     /// Opens and locks it.
     ///
     /// # Errors
@@ -27,11 +27,11 @@ impl<'a> Folder<'a> {
     pub fn open<R: Files<File = File>>(
         rt: &R,
         path: &'a str,
-    ) -> Result<Folder<'a>, ArchiveFault<'a>>
+    ) -> Result<LockedFolder<'a>, ArchiveFault<'a>>
         ensures { IfErr result IsElsewhere }
     {
         let file = open_locked(rt, path)?;
-        Ok(Folder { path, file })
+        Ok(LockedFolder { path, file })
     }
 
     /// The same for whoever adds to it. The folder is synced: an earlier run may have been ended
@@ -39,18 +39,28 @@ impl<'a> Folder<'a> {
     /// built on.
     ///
     /// # Errors
-    /// As of [`Folder::open`], or the folder can't be synced.
+    /// As of [`LockedFolder::open`], or the folder can't be synced.
     pub fn open_to_add<R: Files<File = File>>(
         rt: &R,
         path: &'a str,
-    ) -> Result<Folder<'a>, ArchiveFault<'a>>
+    ) -> Result<LockedFolder<'a>, ArchiveFault<'a>>
         ensures { IfErr result IsElsewhere }
     {
-        let folder = Folder::open(rt, path)?;
-        match folder.file.sync_all() {
+        let folder = LockedFolder::open(rt, path)?;
+        match folder.sync() {
             Ok(()) => Ok(folder),
             Err(error) => Err(folder.fault(&error)),
         }
+    }
+
+    /// Its path.
+    pub fn path(&self) -> &'a str {
+        self.path
+    }
+
+    /// Makes the names in it durable.
+    pub(crate) fn sync(&self) -> io::Result<()> {
+        self.file.sync_all()
     }
 
     /// The newest ledger in it: the one with the greatest number.
@@ -90,7 +100,7 @@ impl<'a> Folder<'a> {
 
     fn rename<R: Files<File = File>>(&self, rt: &R, from: &str, to: &str) -> io::Result<()> {
         fs::rename(rt, from, to)?;
-        self.file.sync_all()
+        self.sync()
     }
 
     /// Removes what an earlier run left under the other name, if there is anything.

@@ -12,9 +12,11 @@ mod copying;
 mod faults;
 mod folder;
 mod gaps;
+mod system_folder;
 
 pub use archiving::{AddedBatches, ArchiveOptions, archive, archive_journal, newest_of};
-pub use copying::{copy_to_folder, open_copies};
+pub use copying::{CopyPaths, copy_to_folder, open_copies};
 pub use faults::{ArchiveFault, Part, Volume};
-pub use folder::{Folder, is_folder, numbers_in};
+pub use folder::{LockedFolder, is_folder, numbers_in};
 pub use gaps::{check_no_gap, end_of};
+pub use system_folder::SystemFolder;

@@ -1,6 +1,8 @@
 //! Who keeps the archive of an office, and makes copies of its ledger.
-ghost use Rattle.std.specs.Prelude.{◌≡◌, ◌≢◌, IfOk};
-ghost use Rattle.sector_device.specs.Crash.{WasLookedAt};
+ghost use Rattle.std.specs.Prelude.{◌≡◌, ◌≢◌, IfOk, IfErr, IsErrAnd};
+ghost use Rattle.sector_device.specs.Crash.{AreLooks, WasLookedAt};
+ghost use Rattle.ledger_folder.specs.Copies.{IsNumberOf, IsOfCopy};
+ghost use Rattle.ledger_folder.specs.Faults.{IsReadFault};
 ghost use Rattle.office_service.specs.Copies.{told_as};
 ghost use Rattle.office_service.specs.FolderArchive.{folder_archive};
 
@@ -12,7 +14,8 @@ use device_files::FileNumber;
 use gate_journal::{Borrower, Journal};
 use ledger_counters::RosterPath;
 use ledger_folder::{
-    ArchiveFault, Folder, archive_journal, check_no_gap, copy_to_folder, open_copies,
+    ArchiveFault, CopyPaths, LockedFolder, SystemFolder, archive_journal, check_no_gap,
+    copy_to_folder, open_copies,
 };
 use office_sessions::{ArchiveState, CounterCopyRefusal, Keeper, LookAnswer};
 use sector_device::Device;
@@ -26,11 +29,11 @@ pub(crate) struct Archivist<'a, 'r, R> {
     rt: &'r R,
     // The path of the ledger.
     path: &'a str,
-    folder: Option<Folder<'a>>,
+    folder: Option<LockedFolder<'a>>,
     // The path of the archive.
     books: Option<&'a str>,
     // The folder of the copies.
-    copies: Option<Folder<'a>>,
+    copies: Option<LockedFolder<'a>>,
     // From the batch of this number on only offices posted.
     since: u64,
     // Where it is kept which station each counter has.
@@ -159,7 +162,7 @@ impl<R: Files<File = File> + AllocGlobal + Clone + Drop> Keeper for Archivist<'_
         let Some(folder) = &self.copies else {
             return (device, Err(CounterCopyRefusal::NoFolder));
         };
-        let (device, copied) = copy_to_folder(self.rt, self.path, device, folder, self.place);
+        let (device, copied) = copy_into(self.rt, self.path, device, folder, self.place);
         (device, copied.map_err(told_as))
     }
 
@@ -179,10 +182,32 @@ impl<R: Files<File = File> + AllocGlobal + Clone + Drop> Borrower for Archivist<
 fn open_archive<'a, R: Files<File = File> + AllocGlobal + Clone + Drop>(
     rt: &R,
     path: &'a str,
-) -> Result<Folder<'a>, ArchiveFault<'a>> {
-    let folder = Folder::open_to_add(rt, path)?;
+) -> Result<LockedFolder<'a>, ArchiveFault<'a>> {
+    let folder = LockedFolder::open_to_add(rt, path)?;
     check_no_gap(rt, path)?;
     Ok(folder)
+}
+
+// Copies the ledger on a device into a folder of the system's.
+fn copy_into<'a, D: Device, R: Files<File = File> + AllocGlobal>(
+    rt: &R,
+    ledger: &'a str,
+    device: D,
+    folder: &LockedFolder<'a>,
+    counters: RosterPath<'a>,
+) -> (D, Result<u64, ArchiveFault<'a>>)
+    ensures looks { AreLooks (D.state device) (D.state result.0) (IsErrAnd result.1 IsReadFault) }
+    ensures told { IfErr result.1 IsOfCopy }
+    ensures number { (D.state device).honest
+        → IfOk result.1 (λ number. IsNumberOf number (D.state device).reads) }
+{
+    let copying = CopyPaths {
+        ledger,
+        folder: folder.path(),
+        counters,
+    };
+    let mut files = SystemFolder::new(rt, folder);
+    copy_to_folder(rt, copying, device, &mut files)
 }
 
 // Why there is no copy.

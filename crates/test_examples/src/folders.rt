@@ -1,43 +1,65 @@
-//! Files of a folder.
+//! Files of a folder, and the copy of a ledger in one.
+use crate::journals::with_one_record;
+use crate::recovery::recovered;
 use crate::scenes::needed;
-use device_folder::{Folder, FolderFault, Loss, MemoryFolder, put_two_sectors};
-use sector_device::{Device, SECTOR};
+use device_folder::{Folder, FolderFault, Loss, MemoryFolder, NameLeft};
+use ledger_counters::RosterPath;
+use ledger_folder::{ArchiveFault, CopyPaths, copy_to_folder};
+use sector_device::MemoryDevice;
+use std::alloc::Global;
+use std::fs::{File, Files};
 use std::process::Abort;
 
-// The first byte of each of two sectors, of the file that has the name.
-fn read(rt: &impl Abort, folder: &mut MemoryFolder, name: &str) -> (u8, u8) {
-    let mut file = needed(rt, folder.open(name));
-    assert!(rt; file.sectors() == 2);
-    let mut sector = [0; SECTOR];
-    needed(rt, file.read(0, &mut sector));
-    let first = sector[0];
-    needed(rt, file.read(1, &mut sector));
-    needed(rt, folder.keep(file));
-    (first, sector[0])
+// The name of a copy whose next batch is 1.
+const COPY: &str = "00000000000000000001";
+
+// Nothing is at these paths: the ledger and the copy are in memory, and there are no counters.
+const COPYING: CopyPaths<'static> = CopyPaths {
+    ledger: "no/ledger",
+    folder: "no/folder",
+    counters: RosterPath::Beside("no/ledger"),
+};
+
+// Copies a ledger of one batch.
+fn copied<R: Files<File = File> + AllocGlobal + Abort>(
+    rt: &R,
+    folder: &mut MemoryFolder,
+) -> Result<u64, ArchiveFault<'static>> {
+    let device: MemoryDevice = with_one_record(rt, rt.alloc()).into_device();
+    let (_, copied) = copy_to_folder(rt, COPYING, device, folder);
+    copied
+}
+
+// A power loss that is to leave that name standing for no file.
+fn loss_of(rt: &impl Abort, alloc: Global, name: &str) -> Loss {
+    let name = NameLeft {
+        name: needed(rt, name.to_owned(alloc)),
+        file: None,
+    };
+    let names = needed(rt, vec![in alloc; name]);
+    let files = Vec::new(alloc);
+    Loss { names, files }
 }
 
 #[test]
-fn a_file_is_replaced_whole_and_outlives_a_power_loss(rt: HostRuntime) {
+fn a_copy_outlives_a_power_loss_with_all_its_ledger_has(rt: HostRuntime) {
     let alloc = rt.alloc();
     let mut folder = MemoryFolder::new(alloc);
-    for (first, second) in [(1, 2), (3, 4)] {
-        needed(
-            &rt,
-            put_two_sectors(
-                &mut folder,
-                "ledger.new",
-                "ledger",
-                &[first; SECTOR],
-                &[second; SECTOR],
-            ),
-        );
-    }
-    let nothing = Loss {
-        names: Vec::new(alloc),
-        files: Vec::new(alloc),
-    };
-    let mut left = folder.crash(&nothing);
-    assert!(rt; read(&rt, &mut left, "ledger") == (3, 4));
-    assert!(rt; left.file_of("ledger.new").is_none());
-    assert!(rt; left.make("ledger", 2).err() == Some(FolderFault::Exists));
+    assert!(rt; needed(&rt, copied(&rt, &mut folder)) == 1);
+    assert!(rt; matches!(copied(&rt, &mut folder), Err(ArchiveFault::Occupied(_))));
+    let mut left = folder.crash(&loss_of(&rt, alloc, COPY));
+    assert!(rt; left.file_of("unfinished").is_none());
+    let found = recovered(&rt, alloc, needed(&rt, left.open(COPY)));
+    assert!(rt; (found.journal.next(), found.ledger.balance(1)) == (1, Some(500)));
+}
+
+#[test]
+fn a_name_that_is_not_synced_may_be_lost(rt: HostRuntime) {
+    let alloc = rt.alloc();
+    let mut folder = MemoryFolder::new(alloc);
+    let file = needed(&rt, folder.make("ledger", 1));
+    needed(&rt, folder.keep(file));
+    assert!(rt; folder.make("ledger", 1).err() == Some(FolderFault::Exists));
+    let left = folder.crash(&loss_of(&rt, alloc, "ledger"));
+    assert!(rt; left.file_of("ledger").is_none());
 }

@@ -1,4 +1,3 @@
-use Rattle.std.specs.Prelude.{is_ok}
 use Rattle.device_folder.proofs.Steps.{one_past}
 use Rattle.device_folder.proofs.memory.MemoryFolder.note.Goals as goal
 
@@ -6,5 +5,5 @@ pub returns-clause-noted : goal.returns-clause-noted
 returns-clause-noted c = record {
   was = c.of-now.result;
   is = c.of-now.ensures;
-  past = one_past (is_ok c.push.result) _ _ _ c.push.ensures.items c.if-is_err.ensures.negation;
+  past = one_past _ _ _ c.in_ok-push.ensures.items;
 }

@@ -15,8 +15,8 @@ returns-clause-touches c honest =
     let device = c.args.file.device in
     let number = c.args.file.number in
     touched Keeps (λ file. file ≡ device.number) old.parts mid.parts.names.entries.items
-    (set mid.parts.files.items number (Kept device)) old.past.items mid.past.items old.faults
-    mid.faults c.in_ok-note.ensures.noted
+    (set mid.parts.files.items number (Kept device)) old.past.items mid.past.items
+    c.in_ok-note.ensures.noted
     (same_names Keeps old.parts.names.entries.items mid.parts.names.entries.items
     (ap (λ (parts : Parts). parts.names.entries.items) c.note.ensures.parts))
     (λ file not.
@@ -30,7 +30,7 @@ returns-clause-kept c honest file_honest =
     let device = c.args.file.device in
     let number = c.args.file.number in
     is_kept device mid.parts.names.entries.items
-    (set mid.parts.files.items number (Kept device)) mid.past.items mid.faults
+    (set mid.parts.files.items number (Kept device)) mid.past.items
     (kept_at mid.parts.files.items number device c.args.file.own
     (lent_within mid.parts.files.items number
     (subst (λ (parts : Parts). IsLentOut (slice_get parts.files.items number))

@@ -27,14 +27,14 @@ returns-clause-touches c honest =
     c.in_ok-file.ensures.number ∙ ap (λ (files : _). files.len) same_files in
     let fresh : IsFresh (memory_folder_state old) file =
     subst (IsFresh (memory_folder_state old)) (sym number)
-    (next_fresh old.parts.names.entries.items old.parts.files.items old.past.items old.faults
+    (next_fresh old.parts.names.entries.items old.parts.files.items old.past.items
     old.parts.files.len old.known old.parts.files.ok.0) in
     let all : added.parts.files.items ≡ old.parts.files.items ++ Lent ∷ [] =
     c.in_ok-file.ensures.added ∙ ap (λ (files : _). files.items ++ Lent ∷ []) same_files in
     let M : Name → Option ℕ → Type 0 = Makes name (memory_folder_state old) in
     let P : Name → Option ℕ → Type 0 = λ n to. (n ≡ name) × (to ≡ Some file) in
     touched M (IsFresh (memory_folder_state old)) old.parts c.set.new.self.entries.items
-    added.parts.files.items old.past.items added.past.items old.faults added.faults
+    added.parts.files.items old.past.items added.past.items
     (subst (λ (past : List (Snapshot Parts)). IsNoted old.parts old.past.items past)
     (sym (c.add_file.ensures.past ∙ c.make_room.ensures.past)) c.in_ok-note.ensures.noted)
     (changes_joined M old.parts.names.entries.items roomed.parts.names.entries.items
@@ -67,21 +67,21 @@ returns-clause-made c honest =
     c.in_ok-file.ensures.number ∙ ap (λ (files : _). files.len) same_files in
     let fresh : IsFresh (memory_folder_state old) file =
     subst (IsFresh (memory_folder_state old)) (sym number)
-    (next_fresh old.parts.names.entries.items old.parts.files.items old.past.items old.faults
+    (next_fresh old.parts.names.entries.items old.parts.files.items old.past.items
     old.parts.files.len old.known old.parts.files.ok.0) in
     let all : added.parts.files.items ≡ old.parts.files.items ++ Lent ∷ [] =
     c.in_ok-file.ensures.added ∙ ap (λ (files : _). files.items ++ Lent ∷ []) same_files in
     subst
     (λ (device : MemoryDevice).
     IsMade name c.args.sectors (memory_folder_state old)
-    (folder_state c.set.new.self.entries.items added.parts.files.items added.past.items
-    added.faults) (memory_device_state device))
+    (folder_state c.set.new.self.entries.items added.parts.files.items added.past.items)
+    (memory_device_state device))
     (sym c.new-2.ensures)
-    (is_made name c.args.sectors (memory_folder_state old) c.in-Ok.device file
-    c.set.new.self.entries.items added.parts.files.items added.past.items added.faults fresh
+    (is_made name c.args.sectors (memory_folder_state old) c.in_ok-device.device file
+    c.set.new.self.entries.items added.parts.files.items added.past.items fresh
     c.set.ensures.is
     (ap (λ (files : List Slot). slice_get files file) all
     ∙ ap (λ (n : ℕ). slice_get (old.parts.files.items ++ Lent ∷ []) n)
     (number ∙ old.parts.files.ok.0)
     ∙ added_same old.parts.files.items Lent)
-    c.in-Ok.ensures.zero)
+    c.in_ok-device.ensures.zero)

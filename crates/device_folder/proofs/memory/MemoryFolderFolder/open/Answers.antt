@@ -25,7 +25,7 @@ returns-clause-touches c honest =
     let slot = c.lend-device.new.self in
     touched Keeps (IsNamed (memory_folder_state old) c.args.name.now) old.parts
     mid.parts.names.entries.items (set mid.parts.files.items file slot) old.past.items
-    mid.past.items old.faults mid.faults c.in_ok-note.ensures.noted
+    mid.past.items c.in_ok-note.ensures.noted
     (same_names Keeps old.parts.names.entries.items mid.parts.names.entries.items
     (ap (λ (parts : Parts). parts.names.entries.items) c.note.ensures.parts))
     (λ other not.
@@ -39,7 +39,7 @@ returns-clause-opened c honest =
     let mid = c.note.new.self in
     let file = c.in_ok-file.file in
     let slot = c.index_mut.result.now in
-    let empty = c.in-Ok.empty in
+    let empty = c.in_ok-empty.empty in
     let entries = mid.parts.names.entries.items in
     let files = set mid.parts.files.items file c.lend-device.new.self in
     let within : file < length mid.parts.files.items =
@@ -53,11 +53,11 @@ returns-clause-opened c honest =
     subst
     (λ (device : MemoryDevice).
     IsLent c.args.name.now (memory_folder_state old)
-    (folder_state entries files mid.past.items mid.faults) (memory_device_state device))
+    (folder_state entries files mid.past.items) (memory_device_state device))
     (sym (c.new-2.ensures
     ∙ ap (λ (device : MemoryDevice). with_number device file) c.lend-device.ensures.device))
     (is_lent c.args.name.now slot empty file old.parts.names.entries.items
-    old.parts.files.items old.past.items mid.past.items old.faults mid.faults entries files
+    old.parts.files.items old.past.items mid.past.items entries files
     c.in_ok-file.ensures.0
     (ap (λ (parts : Parts). slice_get parts.files.items file) (sym c.note.ensures.parts)
     ∙ slice_get-get_or mid.parts.files.items file slot within
@@ -65,4 +65,4 @@ returns-clause-opened c honest =
     c.in_ok-file.ensures.1
     (set_same mid.parts.files.items file c.lend-device.new.self within
     ∙ ap Some c.lend-device.ensures.lent)
-    c.in-Ok.ensures.zero c.in-Ok.ensures.durable)
+    c.in_ok-empty.ensures.zero c.in_ok-empty.ensures.durable)

@@ -1,5 +1,5 @@
 use Rattle.device_folder.proofs.Putting.{only_made, made_then_kept}
-use Rattle.device_folder.proofs.put.make_two_sectors.Goals as goal
+use Rattle.device_folder.proofs.put.make_file.Goals as goal
 
 pub returns-in_err-file-clause-touches : goal.returns-in_err-file-clause-touches
 returns-in_err-file-clause-touches g c honest =
@@ -14,18 +14,8 @@ returns-in_err-keep-clause-touches g c honest =
     made_then_kept c.args.name.now (state c.args.folder.now) (state c.make.new.self)
     (state c.keep.new.self) _ _ (g.met.F.Folder.sound c.args.folder.now honest)
     (g.met.F.Folder.sound c.make.new.self honest_made) (c.in_ok-file.ensures.touches honest)
-    (c.in_ok-file.ensures.made honest).fresh c.fill-filled.ensures.call.number
+    (c.in_ok-file.ensures.made honest).fresh c.write-written.ensures.number
     (c.in_err-keep.ensures.touches honest_made)
-
-pub returns-in_err-filled-clause-touches : goal.returns-in_err-filled-clause-touches
-returns-in_err-filled-clause-touches g c honest =
-    let state = g.F.Folder.state in
-    let honest_made = c.in_ok-file.ensures.call.stays_honest honest in
-    made_then_kept c.args.name.now (state c.args.folder.now) (state c.make.new.self)
-    (state c.keep.new.self) _ _ (g.met.F.Folder.sound c.args.folder.now honest)
-    (g.met.F.Folder.sound c.make.new.self honest_made) (c.in_ok-file.ensures.touches honest)
-    (c.in_ok-file.ensures.made honest).fresh c.fill-filled.ensures.call.number
-    (c.in_ok-keep.ensures.touches honest_made)
 
 pub returns-clause-touches : goal.returns-clause-touches
 returns-clause-touches g c honest =
@@ -34,5 +24,5 @@ returns-clause-touches g c honest =
     made_then_kept c.args.name.now (state c.args.folder.now) (state c.make.new.self)
     (state c.keep.new.self) _ _ (g.met.F.Folder.sound c.args.folder.now honest)
     (g.met.F.Folder.sound c.make.new.self honest_made) (c.in_ok-file.ensures.touches honest)
-    (c.in_ok-file.ensures.made honest).fresh c.fill-filled.ensures.call.number
+    (c.in_ok-file.ensures.made honest).fresh c.write-written.ensures.number
     (c.in_ok-keep.ensures.touches honest_made)
