@@ -54,8 +54,7 @@ def require_begun(run, of, done=FORMATTED.done):
 
 
 def of_copies(failing):
-    """A counter's copy that fails is told so and nothing is left of it, the office goes on, and the next one is made. If only
-    the counters can't be written, the copy stays."""
+    """A counter's copy that fails is told so and nothing is left of it, the office goes on, and the next one is made."""
     prepare(failing)
     words = words_of(failing, COPIES)
     run = failing.run(words, said=COPIED)
@@ -72,21 +71,13 @@ def require_copied(failing, run, wanted, of):
     """That the office isn't opened, and says why, or the first copy is refused and the second one made."""
     made = split(failing, COPIES)[0]
     if run.status == 3:
-        told = f"{target_of(failing, COPIES)}: no file can be made in it"
-        require_same((run.told, run.printed), (told, ""), of)
+        words = ("no file can be made in it", "the system fails to open, lock, list, change or sync it")
+        require(run.told in {f"{target_of(failing, COPIES)}: {why}" for why in words} and run.printed == "", f"{of}: {run.told}")
         return
     first, second, *rest = answers(run)
     require_same((run.status, run.told, first, rest), (0, "", "refused Unwritten", ["balance 5 6", "closing"]), of)
-    if second == f"copied {NEXT}":
-        require_same(made == wanted, True, f"what is made behind {of}: {sorted(made)}")
-    else:
-        require(second == "refused Occupied" and is_of_counters(run, made), f"{of}: {first}, {second}")
-        require_same(made[NAME] == wanted[NAME], True, f"the copy behind {of}")
-
-
-def is_of_counters(run, made):
-    """Whether what failed is the writing of a copy's counters, or the sync that makes their name durable."""
-    return ".counters" in run.failed or f"{NAME}.counters" in made
+    require_same(second, f"copied {NEXT}", f"the next copy behind {of}")
+    require_same(made == wanted, True, f"what is made behind {of}: {sorted(made)}")
 
 
 def of_copies_without_memory(failing):
